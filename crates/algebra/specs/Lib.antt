@@ -1,0 +1,3 @@
+pub mod Polynomial
+pub mod Ring
+pub mod Sum
