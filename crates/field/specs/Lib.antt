@@ -1,0 +1,3 @@
+pub mod Prime
+pub mod Residue
+pub mod Total

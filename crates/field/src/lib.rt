@@ -1,0 +1,1 @@
+// Residues modulo a prime p up to 65521: which p are taken, and the field's operations.
