@@ -1,0 +1,41 @@
+-- Laws of powers: clauses as equations, sums of exponents, powers of products and of one.
+-- Assumes nothing.
+use mathlib.Core.Path.{_≡_, refl, sym, ap, ap₂, _∙_}
+use Prim.Native.Nat.{ℕ, zero, suc, _+_}
+use native.Mathlib.Nat.{add-zero as n-add-zero, add-suc}
+use Rattle.algebra.specs.Ring.{CRing}
+use Rattle.algebra.specs.Sum.{pow}
+
+module _ (R : CRing) where
+  open CRing R using (car, one as 𝟙, mul as _⊗_, mul-assoc, mul-comm, mul-one)
+
+  infixl 70 _⊗_
+  pub pow-zero : (a : car) → pow R a 0 ≡ 𝟙
+  unfolding pow
+  pow-zero a = refl
+
+  pub pow-suc : (a : car) (n : ℕ) → pow R a (suc n) ≡ pow R a n ⊗ a
+  unfolding pow
+  pow-suc a n = refl
+
+  pub pow-add : (a : car) (m n : ℕ) → pow R a (m + n) ≡ pow R a m ⊗ pow R a n
+  pow-add a m zero = ap (pow R a) (n-add-zero m) ∙ sym (ap (λ x. pow R a m ⊗ x) (pow-zero a) ∙ mul-one (pow R a m))
+  pow-add a m (suc n) =
+      ap (pow R a) (add-suc m n) ∙ pow-suc a (m + n) ∙ ap (λ x. x ⊗ a) (pow-add a m n)
+      ∙ mul-assoc (pow R a m) (pow R a n) a ∙ ap (λ x. pow R a m ⊗ x) (sym (pow-suc a n))
+
+  pub pow-one : (n : ℕ) → pow R 𝟙 n ≡ 𝟙
+  pow-one zero = pow-zero 𝟙
+  pow-one (suc n) = pow-suc 𝟙 n ∙ mul-one (pow R 𝟙 n) ∙ pow-one n
+
+  swap-inner : (a b c d : car) → (a ⊗ b) ⊗ (c ⊗ d) ≡ (a ⊗ c) ⊗ (b ⊗ d)
+  swap-inner a b c d =
+      mul-assoc a b (c ⊗ d)
+      ∙ ap (λ x. a ⊗ x) (sym (mul-assoc b c d) ∙ ap (λ x. x ⊗ d) (mul-comm b c) ∙ mul-assoc c b d)
+      ∙ sym (mul-assoc a c (b ⊗ d))
+
+  pub pow-mul : (a b : car) (n : ℕ) → pow R (a ⊗ b) n ≡ pow R a n ⊗ pow R b n
+  pow-mul a b zero = pow-zero (a ⊗ b) ∙ sym (ap₂ _⊗_ (pow-zero a) (pow-zero b) ∙ mul-one 𝟙)
+  pow-mul a b (suc n) =
+      pow-suc (a ⊗ b) n ∙ ap (λ x. x ⊗ (a ⊗ b)) (pow-mul a b n)
+      ∙ swap-inner (pow R a n) (pow R b n) a b ∙ sym (ap₂ _⊗_ (pow-suc a n) (pow-suc b n))
