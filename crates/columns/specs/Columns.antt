@@ -1,0 +1,33 @@
+-- A set of 256 marks in four 64-bit words, column 0 lowest (document 01, 'A job'; its form under 'Forms and where they belong'):
+-- which columns a value marks, the value that marks given columns, and its columns as a list.
+use mathlib.Core.Bool.{Bool, cond}
+use mathlib.Core.List.{List, [], _∷_}
+use Prim.Native.Nat.{ℕ, zero, suc, _+_, _*_, _/_, _%_, _^_}
+use lib.Dec.{eqb}
+use lib.ListN.{getD}
+use Rattle.columns.specs.Listed.{listed}
+use Rattle.columns.specs.declared.Columns.{Columns}
+
+-- bit k of x is set
+abbrev pub bit : ℕ → ℕ → Bool
+bit x k = eqb (x / 2 ^ k % 2) 1
+
+-- the number of n bits whose bit k is set where P k: the lowest bit, and twice the number that the bits above it make
+unfoldable pub number : ℕ → (ℕ → Bool) → ℕ
+number zero P = 0
+number (suc n) P = cond (P 0) 1 0 + 2 * number n (λ k. P (suc k))
+
+-- column i is marked: it is bit i mod 64 of word i / 64. No column from 256 on is marked, since there is no word for it
+unfoldable pub has : Columns → ℕ → Bool
+has c i = bit (getD (c .words) (i / 64) 0) (i % 64)
+
+-- the value that marks exactly the columns i below 256 with P i
+unfoldable pub columnsOf : (ℕ → Bool) → Columns
+columnsOf P = record {
+  words =
+      number 64 P ∷ number 64 (λ k. P (64 + k)) ∷ number 64 (λ k. P (128 + k)) ∷ number 64 (λ k. P (192 + k)) ∷ [];
+}
+
+-- the marked columns, rising
+unfoldable pub members : Columns → List ℕ
+members c = listed 256 (has c)
