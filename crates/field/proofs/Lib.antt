@@ -1,0 +1,2 @@
+pub mod Remainders
+pub mod Totals

@@ -1,0 +1,42 @@
+-- Laws of finite sums of numbers: their clauses as equations, equal terms, a bound, the first term, two parts, remainders.
+-- Assumes nothing.
+use mathlib.Core.Path.{_≡_, refl, sym, ap, ap₂, _∙_}
+use Prim.Native.Nat.{ℕ, zero, suc, _+_, _*_, _%_, _≤_, _<_, zero-le}
+use native.Mathlib.Nat.{add-zero, add-suc, add-assoc, add-mod, suc-mul, le-trans, le-of-eq, le-refl, le-step, lt-suc-self, add-le-add, mod-mod, zero-add}
+use Rattle.field.specs.Total.{total}
+
+pub total-zero : (f : ℕ → ℕ) → total 0 f ≡ 0
+unfolding total
+total-zero f = refl
+
+pub total-suc : (n : ℕ) (f : ℕ → ℕ) → total (suc n) f ≡ total n f + f n
+unfolding total
+total-suc n f = refl
+
+pub total-ext : (n : ℕ) (f g : ℕ → ℕ) → ((k : ℕ) → k < n → f k ≡ g k) → total n f ≡ total n g
+total-ext zero f g e = total-zero f ∙ sym (total-zero g)
+total-ext (suc n) f g e =
+    rw (total-suc n f, total-suc n g) (ap₂ _+_ (total-ext n f g (λ k h. e k (le-step h))) (e n (lt-suc-self n)))
+
+pub total-bound : (n B : ℕ) (f : ℕ → ℕ) → ((k : ℕ) → k < n → f k ≤ B) → total n f ≤ n * B
+total-bound zero B f b = rw (total-zero f) zero-le
+total-bound (suc n) B f b =
+    rw (total-suc n f, suc-mul n B) (add-le-add (total-bound n B f (λ k h. b k (le-step h))) (b n (lt-suc-self n)))
+
+pub total-head : (n : ℕ) (f : ℕ → ℕ) → total (suc n) f ≡ f 0 + total n (λ k. f (suc k))
+total-head zero f = rw (total-suc 0 f, total-zero f, total-zero (λ k. f (suc k)), zero-add, add-zero)
+total-head (suc n) f =
+    rw (total-suc (suc n) f, total-head n f, total-suc n (λ k. f (suc k))) (add-assoc (f 0) (total n (λ k. f (suc k))) (f (suc n)))
+
+pub total-split : (m n : ℕ) (f : ℕ → ℕ) → total (m + n) f ≡ total m f + total n (λ k. f (m + k))
+total-split m zero f = rw (add-zero, total-zero (λ k. f (m + k)), add-zero)
+total-split m (suc n) f =
+    rw (add-suc, total-suc (m + n) f, total-split m n f, total-suc n (λ k. f (m + k)))
+    (add-assoc (total m f) (total n (λ k. f (m + k))) (f (m + n)))
+
+-- terms may be reduced first
+pub total-mod : (n p : ℕ) (f : ℕ → ℕ) → total n (λ k. f k % p) % p ≡ total n f % p
+total-mod zero p f = rw (total-zero f, total-zero (λ k. f k % p))
+total-mod (suc n) p f =
+    rw (total-suc n f, total-suc n (λ k. f k % p), add-mod (total n f) (f n) p, add-mod (total n (λ k. f k % p)) (f n % p) p)
+    (ap₂ (λ (x y : ℕ). (x + y) % p) (total-mod n p f) (mod-mod (f n) p))
