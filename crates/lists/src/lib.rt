@@ -1,0 +1,1 @@
+// Mathematics of lists alone: there is no code here.
