@@ -1,0 +1,3 @@
+pub mod Algorithm4
+pub mod Register
+pub mod Sequences

@@ -1,0 +1,1 @@
+// The shortest register of up to eight sequences.
