@@ -1,3 +1,5 @@
+pub mod Convolution
+pub mod Evaluation
 pub mod Powers
 pub mod RingLaws
 pub mod Sums

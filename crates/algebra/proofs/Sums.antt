@@ -27,8 +27,11 @@ module _ (R : CRing) where
       sym (zero-add b) ∙ ap (λ x. x ⊕ b) (sym (add-neg a) ∙ add-comm a (neg a)) ∙ add-assoc (neg a) a b
       ∙ ap (λ x. neg a ⊕ x) e ∙ add-comm (neg a) a ∙ add-neg a
 
-  mul-zero : (a : car) → a ⊗ 𝟘 ≡ 𝟘
+  pub mul-zero : (a : car) → a ⊗ 𝟘 ≡ 𝟘
   mul-zero a = cancel (a ⊗ 𝟘) (a ⊗ 𝟘) (sym (mul-add a 𝟘 𝟘) ∙ ap (λ x. a ⊗ x) (add-zero 𝟘))
+
+  pub zero-mul : (a : car) → 𝟘 ⊗ a ≡ 𝟘
+  zero-mul a = mul-comm 𝟘 a ∙ mul-zero a
 
   pub sum-zero : (f : ℕ → car) → sum R 0 f ≡ 𝟘
   unfolding sum

@@ -1,6 +1,8 @@
 -- A polynomial is the function of its coefficients; it has degree at most l where all coefficients above l are 0.
 use mathlib.Core.Path.{_≡_}
+use mathlib.Core.Logic.{ite}
 use Prim.Native.Nat.{ℕ, suc, _-_, _<_}
+use native.Mathlib.Decide.{decLt}
 use Rattle.algebra.specs.Ring.{CRing}
 use Rattle.algebra.specs.Sum.{sum, pow}
 
@@ -18,3 +20,7 @@ module _ (R : CRing) where
   -- the value at x of a polynomial f of degree at most l
   unfoldable pub eval : ℕ → (ℕ → car) → car → car
   eval l f x = sum R (suc l) (λ i. f i ⊗ pow R x i)
+
+  -- f times the power e of the variable: coefficient i is f (i − e), and 0 below e
+  unfoldable pub shift : ℕ → (ℕ → car) → ℕ → car
+  shift e f i = ite (decLt i e) 𝟘 (f (i - e))
