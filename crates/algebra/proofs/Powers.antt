@@ -5,9 +5,10 @@ use Prim.Native.Nat.{ℕ, zero, suc, _+_}
 use native.Mathlib.Nat.{add-zero as n-add-zero, add-suc}
 use Rattle.algebra.specs.Ring.{CRing}
 use Rattle.algebra.specs.Sum.{pow}
+use Rattle.algebra.proofs.RingLaws.{mul-swap-inner}
 
 module _ (R : CRing) where
-  open CRing R using (car, one as 𝟙, mul as _⊗_, mul-assoc, mul-comm, mul-one)
+  open CRing R using (car, one as 𝟙, mul as _⊗_, mul-assoc, mul-one)
 
   infixl 70 _⊗_
   pub pow-zero : (a : car) → pow R a 0 ≡ 𝟙
@@ -28,14 +29,8 @@ module _ (R : CRing) where
   pow-one zero = pow-zero 𝟙
   pow-one (suc n) = pow-suc 𝟙 n ∙ mul-one (pow R 𝟙 n) ∙ pow-one n
 
-  swap-inner : (a b c d : car) → (a ⊗ b) ⊗ (c ⊗ d) ≡ (a ⊗ c) ⊗ (b ⊗ d)
-  swap-inner a b c d =
-      mul-assoc a b (c ⊗ d)
-      ∙ ap (λ x. a ⊗ x) (sym (mul-assoc b c d) ∙ ap (λ x. x ⊗ d) (mul-comm b c) ∙ mul-assoc c b d)
-      ∙ sym (mul-assoc a c (b ⊗ d))
-
   pub pow-mul : (a b : car) (n : ℕ) → pow R (a ⊗ b) n ≡ pow R a n ⊗ pow R b n
   pow-mul a b zero = pow-zero (a ⊗ b) ∙ sym (ap₂ _⊗_ (pow-zero a) (pow-zero b) ∙ mul-one 𝟙)
   pow-mul a b (suc n) =
       pow-suc (a ⊗ b) n ∙ ap (λ x. x ⊗ (a ⊗ b)) (pow-mul a b n)
-      ∙ swap-inner (pow R a n) (pow R b n) a b ∙ sym (ap₂ _⊗_ (pow-suc a n) (pow-suc b n))
+      ∙ mul-swap-inner R (pow R a n) (pow R b n) a b ∙ sym (ap₂ _⊗_ (pow-suc a n) (pow-suc b n))

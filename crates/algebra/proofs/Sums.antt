@@ -7,32 +7,13 @@ use native.Mathlib.Nat.{add-zero as n-add-zero, add-suc, lt-suc-self, le-step}
 use native.Mathlib.Omega.{arith}
 use Rattle.algebra.specs.Ring.{CRing}
 use Rattle.algebra.specs.Sum.{sum}
+use Rattle.algebra.proofs.RingLaws.{zero-add, mul-zero, add-swap-inner, neg-zero, neg-of-add}
 
 module _ (R : CRing) where
-  open CRing R using (car, zero as 𝟘, add as _⊕_, mul as _⊗_, neg, add-assoc, add-comm, add-zero, add-neg, mul-comm, mul-add)
+  open CRing R using (car, zero as 𝟘, add as _⊕_, mul as _⊗_, neg, add-assoc, add-comm, add-zero, mul-comm, mul-add)
 
   infixl 60 _⊕_
   infixl 70 _⊗_
-  zero-add : (a : car) → 𝟘 ⊕ a ≡ a
-  zero-add a = add-comm 𝟘 a ∙ add-zero a
-
-  swap-inner : (a b c d : car) → (a ⊕ b) ⊕ (c ⊕ d) ≡ (a ⊕ c) ⊕ (b ⊕ d)
-  swap-inner a b c d =
-      add-assoc a b (c ⊕ d)
-      ∙ ap (λ x. a ⊕ x) (sym (add-assoc b c d) ∙ ap (λ x. x ⊕ d) (add-comm b c) ∙ add-assoc c b d)
-      ∙ sym (add-assoc a c (b ⊕ d))
-
-  cancel : (a b : car) → a ⊕ b ≡ a → b ≡ 𝟘
-  cancel a b e =
-      sym (zero-add b) ∙ ap (λ x. x ⊕ b) (sym (add-neg a) ∙ add-comm a (neg a)) ∙ add-assoc (neg a) a b
-      ∙ ap (λ x. neg a ⊕ x) e ∙ add-comm (neg a) a ∙ add-neg a
-
-  pub mul-zero : (a : car) → a ⊗ 𝟘 ≡ 𝟘
-  mul-zero a = cancel (a ⊗ 𝟘) (a ⊗ 𝟘) (sym (mul-add a 𝟘 𝟘) ∙ ap (λ x. a ⊗ x) (add-zero 𝟘))
-
-  pub zero-mul : (a : car) → 𝟘 ⊗ a ≡ 𝟘
-  zero-mul a = mul-comm 𝟘 a ∙ mul-zero a
-
   pub sum-zero : (f : ℕ → car) → sum R 0 f ≡ 𝟘
   unfolding sum
   sum-zero f = refl
@@ -56,10 +37,10 @@ module _ (R : CRing) where
   sum-add zero f g = sum-zero (λ i. f i ⊕ g i) ∙ sym (ap₂ _⊕_ (sum-zero f) (sum-zero g) ∙ add-zero 𝟘)
   sum-add (suc n) f g =
       sum-suc n (λ i. f i ⊕ g i) ∙ ap (λ x. x ⊕ (f n ⊕ g n)) (sum-add n f g)
-      ∙ swap-inner (sum R n f) (sum R n g) (f n) (g n) ∙ sym (ap₂ _⊕_ (sum-suc n f) (sum-suc n g))
+      ∙ add-swap-inner R (sum R n f) (sum R n g) (f n) (g n) ∙ sym (ap₂ _⊕_ (sum-suc n f) (sum-suc n g))
 
   pub sum-mul : (n : ℕ) (c : car) (f : ℕ → car) → sum R n (λ i. c ⊗ f i) ≡ c ⊗ sum R n f
-  sum-mul zero c f = sum-zero (λ i. c ⊗ f i) ∙ sym (ap (λ x. c ⊗ x) (sum-zero f) ∙ mul-zero c)
+  sum-mul zero c f = sum-zero (λ i. c ⊗ f i) ∙ sym (ap (λ x. c ⊗ x) (sum-zero f) ∙ mul-zero R c)
   sum-mul (suc n) c f =
       sum-suc n (λ i. c ⊗ f i) ∙ ap (λ x. x ⊕ c ⊗ f n) (sum-mul n c f)
       ∙ sym (ap (λ x. c ⊗ x) (sum-suc n f) ∙ mul-add c (sum R n f) (f n))
@@ -67,6 +48,12 @@ module _ (R : CRing) where
   pub sum-mul-right : (n : ℕ) (c : car) (f : ℕ → car) → sum R n (λ i. f i ⊗ c) ≡ sum R n f ⊗ c
   sum-mul-right n c f =
       sum-ext n (λ i. f i ⊗ c) (λ i. c ⊗ f i) (λ i _. mul-comm (f i) c) ∙ sum-mul n c f ∙ mul-comm c (sum R n f)
+
+  pub sum-neg : (n : ℕ) (f : ℕ → car) → sum R n (λ i. neg (f i)) ≡ neg (sum R n f)
+  sum-neg zero f = sum-zero (λ i. neg (f i)) ∙ sym (ap neg (sum-zero f) ∙ neg-zero R)
+  sum-neg (suc n) f =
+      sum-suc n (λ i. neg (f i)) ∙ ap (λ x. x ⊕ neg (f n)) (sum-neg n f)
+      ∙ sym (ap neg (sum-suc n f) ∙ neg-of-add R (sum R n f) (f n))
 
   -- the order of two sums does not matter
   pub sum-swap : (m n : ℕ) (f : ℕ → ℕ → car)
@@ -105,11 +92,11 @@ module _ (R : CRing) where
   -- only the terms from m on count
   pub sum-back : (m k : ℕ) (f : ℕ → car) → ((i : ℕ) → i < m → f i ≡ 𝟘) → sum R (m + k) f ≡ sum R k (λ i. f (m + i))
   sum-back m k f e =
-      sum-split m k f ∙ ap (λ x. x ⊕ sum R k (λ i. f (m + i))) (sum-zeros m f e) ∙ zero-add (sum R k (λ i. f (m + i)))
+      sum-split m k f ∙ ap (λ x. x ⊕ sum R k (λ i. f (m + i))) (sum-zeros m f e) ∙ zero-add R (sum R k (λ i. f (m + i)))
 
   -- only term k counts
   pub sum-single : (n k : ℕ) (f : ℕ → car) → k < n → ((i : ℕ) → i < n → i ≢ k → f i ≡ 𝟘) → sum R n f ≡ f k
   sum-single n k f l e =
       ap (λ j. sum R j f) (let q : n ≡ suc k + (n - suc k) = omega arith in q)
       ∙ sum-front (suc k) (n - suc k) f (λ i h. e (suc k + i) (omega arith) (omega arith))
-      ∙ sum-suc k f ∙ ap (λ x. x ⊕ f k) (sum-zeros k f (λ i h. e i (omega arith) (omega arith))) ∙ zero-add (f k)
+      ∙ sum-suc k f ∙ ap (λ x. x ⊕ f k) (sum-zeros k f (λ i h. e i (omega arith) (omega arith))) ∙ zero-add R (f k)
