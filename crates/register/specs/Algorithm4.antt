@@ -25,10 +25,11 @@ pub record State : Type 0 where
 
 unfoldable pub start : (N : ℕ) (ss : List (List ℕ)) → State
 start N ss =
-    record
-    { size = 0;
+    record {
+      size = 0;
       taps = 1 ∷ [];
-      saved = λ h. record { place = N - length (getD ss h []); size = 0; disc = 1; taps = 0 ∷ [] } }
+      saved = λ h. record { place = N - length (getD ss h []); size = 0; disc = 1; taps = 0 ∷ [] };
+    }
 
 -- coefficient i of x^e·τ
 unfoldable pub shifted : (e : ℕ) (τ : List ℕ) (i : ℕ) → ℕ
@@ -49,10 +50,11 @@ changed p n h d st =
     let taps : ℕ → List ℕ = λ l. reduced p l (st .taps) (quotient p d (v .disc)) (n - v .place) (v .taps) in
     let grown : ℕ = n + v .size - v .place in
     cond (ltb (v .place + st .size) (n + v .size))
-    (record
-    { size = grown;
+    (record {
+      size = grown;
       taps = taps grown;
-      saved = replaced (st .saved) h (record { place = n; size = st .size; disc = d; taps = st .taps }) })
+      saved = replaced (st .saved) h (record { place = n; size = st .size; disc = d; taps = st .taps });
+    })
     (record { size = st .size; taps = taps (st .size); saved = st .saved })
 
 -- one step (n, h), s being sequence h. The test is n − l > N − N_h, and the discrepancy is that at j = n − N + N_h.
