@@ -1,8 +1,10 @@
 -- Remainders of products and powers: a factor or a base may be reduced first. The same for sums is in `native.Mathlib.Nat`.
 -- Assumes nothing.
 use mathlib.Core.Path.{_≡_, refl, sym, ap, _∙_}
-use Prim.Native.Nat.{ℕ, zero, suc, _+_, _*_, _/_, _%_, _^_, _<_}
-use native.Mathlib.Nat.{mod-add-div', add-mul, mul-right-comm, add-mul-mod-self-right, mul-comm, pow-zero, pow-suc}
+use Prim.Native.Nat.{ℕ, zero, suc, _+_, _-_, _*_, _/_, _%_, _^_, _<_, _≤_}
+use native.Mathlib.Nat.{mod-add-div', add-mul, mul-right-comm, add-mul-mod-self-right, mul-comm, pow-zero, pow-suc, add-mod, add-mod-mod, mod-eq-of-lt, mod-lt, mod-eq-sub-mod, add-zero, mul-zero, zero-mod}
+use native.Mathlib.Decide.{decLt}
+use native.Mathlib.Omega.{arith}
 
 pub mod-mul-mod : (n m k : ℕ) → (n % m * k) % m ≡ (n * k) % m
 mod-mul-mod n m k =
@@ -21,3 +23,24 @@ pow-mod n (suc e) m =
     ∙ ap (λ (x : ℕ). (x * (n % m)) % m) (pow-mod n e m)
     ∙ mod-mul-mod (n ^ e) m (n % m)
     ∙ mul-mod-mod (n ^ e) n m)
+
+-- what adds nothing to a remainder has remainder 0
+pub mod-add-cancel : (x y m : ℕ) → 0 < m → (x + y) % m ≡ x % m → y % m ≡ 0
+mod-add-cancel x y m pos e = pick (decLt (x % m + y % m) m)
+  where
+    same : (x % m + y % m) % m ≡ x % m
+    same = sym (add-mod x y m) ∙ e
+
+    pick : Dec (x % m + y % m < m) → y % m ≡ 0
+    pick (yes small) = let s = sym (mod-eq-of-lt small) ∙ same in omega arith
+    pick (no large) =
+        let big : m ≤ x % m + y % m = omega arith in
+        let below : x % m + y % m - m < m = omega (arith, mod-lt x pos, mod-lt y pos) in
+        let s = sym (mod-eq-of-lt below) ∙ sym (mod-eq-sub-mod big) ∙ same in
+        omega (arith, mod-lt y pos)
+
+pub mod-add-zero : (x y m : ℕ) → y % m ≡ 0 → (x + y) % m ≡ x % m
+mod-add-zero x y m e = sym (add-mod-mod x y m) ∙ rw (e, add-zero)
+
+pub mod-mul-zero : (x y m : ℕ) → y % m ≡ 0 → (x * y) % m ≡ 0
+mod-mul-zero x y m e = sym (mul-mod-mod x y m) ∙ rw (e, mul-zero, zero-mod)

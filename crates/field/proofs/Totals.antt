@@ -1,9 +1,11 @@
--- Laws of finite sums of numbers: their clauses as equations, equal terms, a bound, the first term, two parts, remainders.
+-- Laws of finite sums of numbers: their clauses as equations, equal terms, a bound, sums and multiples, the first term, two parts, remainders.
 -- Assumes nothing.
 use mathlib.Core.Path.{_≡_, refl, sym, ap, ap₂, _∙_}
 use Prim.Native.Nat.{ℕ, zero, suc, _+_, _*_, _%_, _≤_, _<_, zero-le}
-use native.Mathlib.Nat.{add-zero, add-suc, add-assoc, add-mod, suc-mul, le-trans, le-of-eq, le-refl, le-step, lt-suc-self, add-le-add, mod-mod, zero-add}
+use native.Mathlib.Nat.{add-zero, add-suc, add-assoc, add-mod, suc-mul, le-trans, le-of-eq, le-refl, le-step, lt-suc-self, add-le-add, mod-mod, zero-add, zero-mul, add-mul, zero-mod}
+use native.Mathlib.Omega.{arith}
 use Rattle.field.specs.Total.{total}
+use Rattle.field.proofs.Remainders.{mod-add-zero}
 
 pub total-zero : (f : ℕ → ℕ) → total 0 f ≡ 0
 unfolding total
@@ -23,6 +25,16 @@ total-bound zero B f b = rw (total-zero f) zero-le
 total-bound (suc n) B f b =
     rw (total-suc n f, suc-mul n B) (add-le-add (total-bound n B f (λ k h. b k (le-step h))) (b n (lt-suc-self n)))
 
+pub total-add : (n : ℕ) (f g : ℕ → ℕ) → total n (λ k. f k + g k) ≡ total n f + total n g
+total-add zero f g = rw (total-zero f, total-zero g, total-zero (λ k. f k + g k))
+total-add (suc n) f g =
+    rw (total-suc n f, total-suc n g, total-suc n (λ k. f k + g k), total-add n f g)
+    (let e : total n f + total n g + (f n + g n) ≡ total n f + f n + (total n g + g n) = omega arith in e)
+
+pub total-mul : (n c : ℕ) (f : ℕ → ℕ) → total n (λ k. f k * c) ≡ total n f * c
+total-mul zero c f = rw (total-zero f, total-zero (λ k. f k * c), zero-mul)
+total-mul (suc n) c f = rw (total-suc n f, total-suc n (λ k. f k * c), total-mul n c f) (sym (add-mul (total n f) (f n) c))
+
 pub total-head : (n : ℕ) (f : ℕ → ℕ) → total (suc n) f ≡ f 0 + total n (λ k. f (suc k))
 total-head zero f = rw (total-suc 0 f, total-zero f, total-zero (λ k. f (suc k)), zero-add, add-zero)
 total-head (suc n) f =
@@ -40,3 +52,8 @@ total-mod zero p f = rw (total-zero f, total-zero (λ k. f k % p))
 total-mod (suc n) p f =
     rw (total-suc n f, total-suc n (λ k. f k % p), add-mod (total n f) (f n) p, add-mod (total n (λ k. f k % p)) (f n % p) p)
     (ap₂ (λ (x y : ℕ). (x + y) % p) (total-mod n p f) (mod-mod (f n) p))
+
+pub total-divided : (n p : ℕ) (f : ℕ → ℕ) → ((k : ℕ) → k < n → f k % p ≡ 0) → total n f % p ≡ 0
+total-divided zero p f d = rw (total-zero f, zero-mod)
+total-divided (suc n) p f d =
+    rw (total-suc n f) (mod-add-zero (total n f) (f n) p (d n (lt-suc-self n)) ∙ total-divided n p f (λ k h. d k (le-step h)))
