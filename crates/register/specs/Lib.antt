@@ -1,5 +1,4 @@
 pub mod Algorithm4
-pub mod Demands
-pub mod Finder
+pub mod EachRound
 pub mod Register
 pub mod Sequences

@@ -1,5 +1,4 @@
--- What is owed of registers: demand 2, and demand 1 for the finder. The statements cite the definitions of `Register` and of the finder alone;
--- they are proved in proofs/Demands.antt.
+-- What is owed of the finder: demands 1 and 2. Proved in proofs/Demands.antt.
 use mathlib.Core.Path.{_≡_}
 use mathlib.Core.Logic.{_⊎_}
 use mathlib.Core.Bool.{Bool, true}
@@ -9,22 +8,9 @@ use lib.ListN.{length, getD, take, drop}
 use Rattle.field.specs.Prime.{Prime}
 use Rattle.field.specs.Total.{total}
 use Rattle.refusal.specs.Order.{Reason, First}
-use Rattle.register.specs.Algorithm4.{found, foundAlone}
-use Rattle.register.specs.Finder.{answer, tapsLeft, register, refused}
-use Rattle.register.specs.Register.{Shortest, Alone}
-use Rattle.register.specs.Sequences.{Below, largest, longest, shortened, split}
-
--- l and σ are a shortest register of the sequences, and the mark says whether it is alone
-pub record IsShortest (p l : ℕ) (ss : List (List ℕ)) (σ : List ℕ) (mark : Bool) : Type 0 where
-  pub shortest : Shortest p l ss σ
-  pub alone : mark ≡ true → Alone p l ss σ
-  pub marked : Alone p l ss σ → mark ≡ true
-
--- After every finished round n of N, Algorithm 4 has found this for the sequences without their last N − n symbols.
-abbrev pub EachRound : Type 0
-EachRound =
-    (p : ℕ) (ss : List (List ℕ)) (n : ℕ) → Prime p → 0 < length ss → Below p ss → n ≤ longest ss →
-    IsShortest p (found p ss n .size) (shortened (longest ss - n) ss) (found p ss n .taps) (foundAlone p ss n)
+use Rattle.register.specs.EachRound.{IsShortest}
+use Rattle.finder.specs.Finder.{answer, tapsLeft, register, refused}
+use Rattle.register.specs.Sequences.{largest, split}
 
 -- Demand 2 of the finder: what it answers and writes, where it does not refuse, is a shortest register of the sequences lent. Later entries of the
 -- tap buffer keep their contents.

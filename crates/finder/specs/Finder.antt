@@ -9,10 +9,10 @@ use Rattle.field.specs.Total.{total}
 use Rattle.lists.specs.Tabulate.{every}
 use Rattle.refusal.specs.Number.{number}
 use Rattle.refusal.specs.Order.{Test, firstOf}
-use Rattle.register.specs.declared.Found.{Found}
-use Rattle.register.specs.declared.Found.the-variants.{Register, Refused}
+use Rattle.finder.specs.declared.Found.{Found}
+use Rattle.finder.specs.declared.Found.the-variants.{Register, Refused}
 use Rattle.register.specs.Algorithm4.{found, foundAlone}
 use Rattle.register.specs.Sequences.{largest, longest, split}
 
 -- the answer in the terms of document 01: a length and the alone mark, or the number of a refusal
 pub data Answer : Type 0 where

@@ -1,0 +1,50 @@
+-- How the code keeps the state of Algorithm 4 between steps: the lengths and places in a struct by value, the taps in an array of 129 entries,
+-- and the saved registers of the eight sequences one after the other in one flat array of 8 × 129.
+use mathlib.Core.Path.{_≡_}
+use mathlib.Core.List.{List}
+use Prim.Native.Nat.{ℕ, suc, _+_, _-_, _*_, _≤_, _<_, max}
+use lib.ListN.{length, getD, take, drop}
+use Rattle.finder.specs.declared.Progress.{Progress}
+use Rattle.register.specs.Algorithm4.{State}
+
+-- the part of the flat array that belongs to sequence h
+abbrev pub block : ℕ → List ℕ → List ℕ
+block h saved = take 129 (drop (h * 129) saved)
+
+unfoldable pub stateOf : Progress → (taps saved : List ℕ) → State
+stateOf g taps saved =
+    record {
+      size = g .length;
+      taps = take (suc (g .length)) taps;
+      saved = λ h.
+          record {
+            place = getD (g .places) h 0;
+            size = getD (g .sizes) h 0;
+            disc = getD (g .discs) h 0;
+            taps = take (suc (getD (g .sizes) h 0)) (block h saved);
+          };
+    }
+
+-- the entries of the array past the register are 0, so that a longer one grows into zeros
+abbrev pub Ended : Progress → (taps : List ℕ) → Type 0
+Ended g taps = (i : ℕ) → g .length < i → getD taps i 0 ≡ 0
+
+-- what holds of the state whenever a step (n, h) is made: nothing overflows and no index is out of range
+pub record Ready (p N : ℕ) (s : List ℕ) (n h : ℕ) (st : State) : Type 0 where
+  pub two-or-more : 2 ≤ p
+  pub modulus : p ≤ 65521
+  pub longest : N ≤ 128
+  pub shorter : length s ≤ N
+  pub round : n ≤ N
+  pub sequence : h < 8
+  pub size : st .size ≤ n
+  pub place : st .saved h .place ≤ max n (N - length s)
+  pub saved-size : st .saved h .size ≤ st .saved h .place
+  pub residues : (i : ℕ) → getD (st .taps) i 0 < p
+  pub disc : st .saved h .disc < p
+  pub saved-residues : (i : ℕ) → getD (st .saved h .taps) i 0 < p
+
+-- what one step leaves: the state of the definition, and zeros past the register
+pub record Stepped (st : State) (g : Progress) (taps saved : List ℕ) : Type 0 where
+  pub state : stateOf g taps saved ≡ st
+  pub ended : Ended g taps

@@ -1,0 +1,48 @@
+// The taps of a register less a multiple of a shifted one, and the copy of a register that is saved.
+ghost use mathlib.Core.Path.{_≡_};
+ghost use mathlib.Core.List.{_++_};
+ghost use Prim.Native.Nat.{ℕ, suc, _+_, _*_, _≤_, _<_};
+ghost use lib.ListN.{length, getD, take, drop};
+ghost use Rattle.register.specs.Algorithm4.{reduced};
+ghost use Rattle.finder.specs.Progress.{block};
+
+// All 129 taps less q·x^e·τ, τ being the m + 1 taps saved for sequence h. Adding (p − q)·τ needs one remainder a tap, and 32 bits hold it.
+pub fn reduce(p: u32, taps: &mut [u16], q: u32, e: usize, m: usize, saved: &[u16], h: usize)
+    requires { ⌜ (2 ≤ p) × (p ≤ 65521) × (q < p) × (e + m ≤ 128) × (h < 8) ⌝ }
+    requires { ⌜ (length (now taps) ≡ 129) × (length (now saved) ≡ 1032) ⌝ }
+    requires { ⌜ ((i : ℕ) → getD (now taps) i 0 < p) ⌝ }
+    requires { ⌜ ((i : ℕ) → getD (take (suc m) (block h (now saved))) i 0 < p) ⌝ }
+    ensures { λ _. ⌜ now (taps .exit) ≡ reduced p 128 (now (taps .entry)) q e (take (suc m) (block h (now (saved .entry)))) ⌝ }
+{
+    let c = p - q;
+    let at = h * 129;
+    let mut i = 0;
+    while i <= m {
+        let k = e + i;
+        let x = taps[k] as u32;
+        let y = saved[at + i] as u32;
+        taps[k] = ((x + c * y) % p) as u16;
+        i += 1;
+    }
+}
+
+fn copy(to: &mut [u16], from: &[u16])
+    requires { ⌜ length (now to) ≡ length (now from) ⌝ }
+    ensures { λ _. ⌜ now (to .exit) ≡ now (from .entry) ⌝ }
+{
+    let mut i = 0;
+    while i < from.len() {
+        to[i] = from[i];
+        i += 1;
+    }
+}
+
+// The taps become what is saved for sequence h.
+pub fn keep(saved: &mut [u16], h: usize, taps: &[u16])
+    requires { ⌜ (length (now saved) ≡ 1032) × (length (now taps) ≡ 129) × (h < 8) ⌝ }
+    ensures { λ _. ⌜ now (saved .exit) ≡ take (h * 129) (now (saved .entry)) ++ (now (taps .entry) ++ drop 129 (drop (h * 129) (now (saved .entry)))) ⌝ }
+{
+    let a = h * 129;
+    let e = a + 129;
+    copy(&mut saved[a..e], taps)
+}
