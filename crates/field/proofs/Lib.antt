@@ -1,6 +1,9 @@
 pub mod Binomial
+pub mod Bridge
 pub mod Euclid
 pub mod Fermat
+pub mod Instance
+pub mod Prime257
 pub mod PrimeTest
 pub mod Remainders
 pub mod Totals
