@@ -1,7 +1,9 @@
 pub mod Convolution
 pub mod Evaluation
+pub mod FieldLaws
 pub mod Horner
 pub mod Powers
+pub mod Register
 pub mod RingLaws
 pub mod Solver
 pub mod Sums

@@ -1,0 +1,3 @@
+-- The theory of the shortest register that generates several sequences, over an abstract field.
+pub mod Places
+pub mod Generates
