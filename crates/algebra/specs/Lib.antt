@@ -1,3 +1,4 @@
+pub mod Locator
 pub mod Polynomial
 pub mod Ring
 pub mod Sum
