@@ -4,6 +4,7 @@ mod find;
 mod order;
 mod reduce;
 mod step;
+
 use refusal::Refusal;
 
 // What the finder answers: the length of the shortest register and whether it is alone, or why it refuses.

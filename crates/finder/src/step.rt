@@ -1,7 +1,8 @@
 // One step (n, h) of Algorithm 4. Its state can be kept between calls: `Progress` by value, the taps and the saved registers in two arrays.
 use crate::Progress;
 use crate::discrepancy::discrepancy_at;
-use crate::reduce::{keep, reduce};
+use crate::reduce::keep;
+use crate::reduce::reduce;
 ghost use mathlib.Core.Path.{_≡_};
 ghost use Prim.Native.Nat.{_≤_, _<_};
 ghost use lib.ListN.{length};
