@@ -1,3 +1,4 @@
 -- The theory of the shortest register that generates several sequences, over an abstract field.
 pub mod Places
 pub mod Generates
+pub mod LeadingRow

@@ -60,47 +60,51 @@ module _ (F : Field) (Q : Sequences (F .ring .car)) where
   gen-shift e f l s gen g m hg hm h =
       conv-shift ring e f (symbol g) m (omega arith)
       ∙ gen g (m - e) hg (omega arith)
-        (omega (arith, ap (λ x. x * t) (let q : m ≡ m - e + e = omega arith in q), add-mul (m - e) e t))
+      (omega (arith, ap (λ x. x * t) (let q : m ≡ m - e + e = omega arith in q), add-mul (m - e) e t))
 
   pub fails-gen : (f : ℕ → car) (l n h s : ℕ) → Fails f l n h → Gen f l s → n * t + h < s → ⊥
   fails-gen f l n h s fails gen q = fails .nonzero (gen h n (fails .sequence) (fails .asked) q)
 
   pub fails-longer : (f : ℕ → car) (l l' n h : ℕ) → Fails f l n h → l ≤ l' → l' + lag h < n → Fails f l' n h
   fails-longer f l l' n h fails hl q =
-      record
-      { sequence = fails .sequence;
+      record {
+        sequence = fails .sequence;
         asked = q;
         before = gen-longer f l l' (n * t + h) (n * t + h) (fails .before) hl (omega arith);
-        nonzero = fails .nonzero }
+        nonzero = fails .nonzero;
+      }
 
   pub fails-mul : (c : car) (f : ℕ → car) (l n h : ℕ) → c ≢ 𝟘 → Fails f l n h → Fails (λ i. c ⊗ f i) l n h
   fails-mul c f l n h hc fails =
-      record
-      { sequence = fails .sequence;
+      record {
+        sequence = fails .sequence;
         asked = fails .asked;
         before = gen-mul c f l (n * t + h) (fails .before);
-        nonzero = λ e. mul-nonzero F c (disc f h n) hc (fails .nonzero) (sym (conv-mul ring c f (symbol h) n) ∙ e) }
+        nonzero = λ e. mul-nonzero F c (disc f h n) hc (fails .nonzero) (sym (conv-mul ring c f (symbol h) n) ∙ e);
+      }
 
   pub fails-add : (f f' : ℕ → car) (l n h : ℕ) → Fails f l n h → Gen f' l (suc (n * t + h)) → Fails (λ i. f i ⊕ f' i) l n h
   fails-add f f' l n h fails gen =
-      record
-      { sequence = fails .sequence;
+      record {
+        sequence = fails .sequence;
         asked = fails .asked;
         before = gen-add f f' l (n * t + h) (fails .before) (gen-longer f' l l (suc (n * t + h)) (n * t + h) gen (omega arith) (omega arith));
         nonzero = λ e. fails .nonzero
-          (sym (add-zero (disc f h n))
-          ∙ ap (λ x. disc f h n ⊕ x) (sym (gen h n (fails .sequence) (fails .asked) (omega arith)))
-          ∙ sym (conv-add ring f f' (symbol h) n) ∙ e) }
+            (sym (add-zero (disc f h n))
+            ∙ ap (λ x. disc f h n ⊕ x) (sym (gen h n (fails .sequence) (fails .asked) (omega arith)))
+            ∙ sym (conv-add ring f f' (symbol h) n) ∙ e);
+      }
 
   pub fails-shift : (e : ℕ) (f : ℕ → car) (l n h : ℕ) → Fails f l n h → Fails (shift ring e f) (l + e) (n + e) h
   fails-shift e f l n h fails =
       let q : l + lag h < n = fails .asked in
-      record
-      { sequence = fails .sequence;
+      record {
+        sequence = fails .sequence;
         asked = omega arith;
         before =
-          gen-longer (shift ring e f) (l + e) (l + e) (n * t + h + e * t) ((n + e) * t + h)
-          (gen-shift e f l (n * t + h) (fails .before)) (omega arith) (omega (arith, add-mul n e t));
+            gen-longer (shift ring e f) (l + e) (l + e) (n * t + h + e * t) ((n + e) * t + h)
+            (gen-shift e f l (n * t + h) (fails .before)) (omega arith) (omega (arith, add-mul n e t));
         nonzero = λ z. fails .nonzero
-          (ap (disc f h) (let r : n ≡ n + e - e = omega arith in r)
-          ∙ sym (conv-shift ring e f (symbol h) (n + e) (omega arith)) ∙ z) }
+            (ap (disc f h) (let r : n ≡ n + e - e = omega arith in r)
+            ∙ sym (conv-shift ring e f (symbol h) (n + e) (omega arith)) ∙ z);
+      }
