@@ -2,7 +2,9 @@ pub mod Binomial
 pub mod Bridge
 pub mod Euclid
 pub mod Fermat
+pub mod Halving
 pub mod Instance
+pub mod Modulus
 pub mod Prime257
 pub mod PrimeTest
 pub mod Remainders

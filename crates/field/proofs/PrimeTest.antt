@@ -3,7 +3,7 @@ use mathlib.Core.Path.{_≡_, refl, sym, ap, _∙_}
 use mathlib.Core.Logic.{_↔_, _⊎_, inl, inr, ⊎-elim}
 use mathlib.Core.Bool.{Bool, true, false, not, _&&_, and-eq-true-iff}
 use Prim.Native.Nat.{ℕ, zero, suc, _+_, _-_, _*_, _/_, _%_, _≤_, _<_}
-use native.Mathlib.Nat.{eq-or-lt-of-le, le-of-suc-le-suc, mul-mod-right, div-add-mod', mul-le-mul, mul-suc, mul-zero, mul-comm, zero-mul, suc-add, sub-add-cancel, one-mul}
+use native.Mathlib.Nat.{eq-or-lt-of-le, le-of-suc-le-suc, mul-mod-right, div-add-mod', mul-le-mul, mul-le-mul-right, mul-suc, mul-zero, mul-comm, zero-mul, suc-add, sub-add-cancel, one-mul}
 use native.Mathlib.Decide.{decLt}
 use native.Mathlib.Omega.{arith}
 use lib.Dec.{leb, eqb}
@@ -58,6 +58,11 @@ exact p e z = let whole = div-add-mod' p e in omega arith
 pub prime-undivided : (p : ℕ) → Prime p → Undivided p p
 prime-undivided p prime e low high z =
     ⊎-elim (λ is-one. omega arith) (λ is-p. omega arith) (prime .divisor e (p / e) (mul-comm e (p / e) ∙ exact p e z))
+
+-- a divisor up to the square root is neither 1 nor p
+pub divided-below-root : (p d : ℕ) → 2 ≤ d → d * d ≤ p → p % d ≡ 0 → Prime p → ⊥
+divided-below-root p d low root z prime =
+    prime-undivided p prime d low (let less : d < p = omega (arith, mul-le-mul-right d low) in less) z
 
 -- of two factors of p the smaller is below any d with p < d · d
 pub undivided-to-root : (p d : ℕ) → 2 ≤ p → p < d * d → Undivided p d → Prime p

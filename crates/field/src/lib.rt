@@ -1,1 +1,3 @@
 // Residues modulo a prime p up to 65521: which p are taken, and the field's operations.
+pub mod prime;
+pub mod residue;

@@ -1,0 +1,54 @@
+// Arithmetic on residues modulo p. The square of 65520 fits a u32, so a product is reduced once.
+ghost use mathlib.Core.Path.{_≡_};
+ghost use Prim.Native.Nat.{_<_, _≤_};
+ghost use Rattle.field.specs.Residue.{plus, minus, times, power as powerOf, inverse as inverseOf};
+
+pub fn sum(a: u32, b: u32, p: u32) -> u32
+    requires { ⌜ (p ≤ 65521) × (a < p) × (b < p) ⌝ }
+    ensures equals { λ r. ⌜ r ≡ plus p a b ⌝ }
+    ensures below { λ r. ⌜ r < p ⌝ }
+{
+    (a + b) % p
+}
+
+pub fn difference(a: u32, b: u32, p: u32) -> u32
+    requires { ⌜ (p ≤ 65521) × (a < p) × (b < p) ⌝ }
+    ensures equals { λ r. ⌜ r ≡ minus p a b ⌝ }
+    ensures below { λ r. ⌜ r < p ⌝ }
+{
+    (a + (p - b)) % p
+}
+
+pub fn product(a: u32, b: u32, p: u32) -> u32
+    requires { ⌜ (p ≤ 65521) × (a < p) × (b < p) ⌝ }
+    ensures equals { λ r. ⌜ r ≡ times p a b ⌝ }
+    ensures below { λ r. ⌜ r < p ⌝ }
+{
+    (a * b) % p
+}
+
+// a to the power e: the square of the power at half of e, times a where e is odd.
+pub fn power(a: u32, e: u32, p: u32) -> u32
+    requires { ⌜ (p ≤ 65521) × (a < p) ⌝ }
+    ensures equals { λ r. ⌜ r ≡ powerOf p a e ⌝ }
+    ensures below { λ r. ⌜ r < p ⌝ }
+{
+    if e == 0 {
+        return 1 % p;
+    }
+    let root = power(a, e / 2, p);
+    let square = product(root, root, p);
+    if e % 2 == 0 {
+        return square;
+    }
+    product(square, a, p)
+}
+
+// The inverse of a modulo a prime p, where a is not 0.
+pub fn inverse(a: u32, p: u32) -> u32
+    requires { ⌜ (2 ≤ p) × (p ≤ 65521) × (a < p) ⌝ }
+    ensures equals { λ r. ⌜ r ≡ inverseOf p a ⌝ }
+    ensures below { λ r. ⌜ r < p ⌝ }
+{
+    power(a, p - 2, p)
+}
