@@ -1,3 +1,4 @@
+pub mod Coefficients
 pub mod Prime
 pub mod Residue
 pub mod Total

@@ -3,7 +3,7 @@ ghost use mathlib.Core.Path.{_≡_};
 ghost use mathlib.Core.List.{_++_};
 ghost use Prim.Native.Nat.{ℕ, suc, _+_, _*_, _≤_, _<_};
 ghost use lib.ListN.{length, getD, take, drop};
-ghost use Rattle.register.specs.Algorithm4.{reduced};
+ghost use Rattle.field.specs.Coefficients.{reduced};
 ghost use Rattle.finder.specs.Progress.{block};
 
 // All 129 taps less q·x^e·τ, τ being the m + 1 taps saved for sequence h. Adding (p − q)·τ needs one remainder a tap, and 32 bits hold it.

@@ -5,8 +5,9 @@ use mathlib.Core.List.{List, [], _∷_}
 use Prim.Native.Nat.{ℕ, zero, suc, _+_, _-_, max}
 use lib.Dec.{leb, ltb, eqb}
 use lib.ListN.{length, getD}
-use Rattle.field.specs.Residue.{minus, times, quotient}
-use Rattle.lists.specs.Tabulate.{tabulate, every}
+use Rattle.field.specs.Coefficients.{reduced}
+use Rattle.field.specs.Residue.{quotient}
+use Rattle.lists.specs.Tabulate.{every}
 use Rattle.register.specs.Register.{discrepancy}
 use Rattle.register.specs.Sequences.{longest, ordered}
 
@@ -30,14 +31,6 @@ start N ss =
       taps = 1 ∷ [];
       saved = λ h. record { place = N - length (getD ss h []); size = 0; disc = 1; taps = 0 ∷ [] };
     }
-
--- coefficient i of x^e·τ
-unfoldable pub shifted : (e : ℕ) (τ : List ℕ) (i : ℕ) → ℕ
-shifted e τ i = cond (ltb i e) 0 (getD τ (i - e) 0)
-
--- taps 0 .. l of σ − q·x^e·τ
-unfoldable pub reduced : (p l : ℕ) (σ : List ℕ) (q e : ℕ) (τ : List ℕ) → List ℕ
-reduced p l σ q e τ = tabulate (suc l) (λ i. minus p (getD σ i 0) (times p q (shifted e τ i)))
 
 -- what is kept, with v in the place of what was kept for h
 unfoldable pub replaced : (ℕ → Saved) → ℕ → Saved → ℕ → Saved
