@@ -7,3 +7,4 @@ pub mod Register
 pub mod RingLaws
 pub mod Solver
 pub mod Sums
+pub mod Vandermonde
