@@ -1,0 +1,62 @@
+-- Frames, their check sums, which of them are legal, and how far apart two are (document 01, "Frames").
+-- A frame is the list of its symbols, row after row.
+use mathlib.Core.Path.{_≡_}
+use mathlib.Core.Bool.{Bool, not, _&&_}
+use mathlib.Core.List.{List}
+use Prim.Native.Nat.{ℕ, suc, _+_, _*_, _%_, _≤_, _<_}
+use lib.Dec.{ltb, eqb}
+use lib.ListN.{length, getD, take, drop}
+use Rattle.columns.specs.Columns.{columnsOf}
+use Rattle.columns.specs.Listed.{count}
+use Rattle.columns.specs.declared.Columns.{Columns}
+use Rattle.field.specs.Total.{total}
+use Rattle.lists.specs.Tabulate.{tabulate, every}
+use Rattle.frame.specs.Powers.{weight}
+use Rattle.frame.specs.Shape.{checksOf}
+use Rattle.frame.specs.declared.Shape.{Shape}
+
+-- row h of a frame of n columns
+abbrev pub row : (n : ℕ) (f : List ℕ) (h : ℕ) → List ℕ
+row n f h = take n (drop (h * n) f)
+
+-- the symbol of row h at column i
+abbrev pub cell : (n : ℕ) (f : List ℕ) (h i : ℕ) → ℕ
+cell n f h i = getD f (h * n + i) 0
+
+-- the check sum S_j of a row x of n columns
+unfoldable pub checkSum : (n : ℕ) (x : List ℕ) (j : ℕ) → ℕ
+checkSum n x j = total n (λ i. getD x i 0 * weight i j) % 257
+
+-- the check sums S_1 .. S_m of a row
+unfoldable pub checkSums : (n m : ℕ) (x : List ℕ) → List ℕ
+checkSums n m x = tabulate m (λ j. checkSum n x (suc j))
+
+-- the sequences of check sums of a frame, one for each row, as long as the row has checks
+unfoldable pub sequences : Shape → (f : List ℕ) → List (List ℕ)
+sequences s f = tabulate (s .rows) (λ h. checkSums (s .columns) (checksOf s h) (row (s .columns) f h))
+
+-- document 01's term: rows × columns symbols, all below 257
+pub record WellFormed (s : Shape) (f : List ℕ) : Type 0 where
+  pub size : length f ≡ s .rows * s .columns
+  pub symbols : (k : ℕ) → k < length f → getD f k 0 < 257
+
+-- every check sum of every row is 0
+abbrev pub Codeword : Shape → (f : List ℕ) → Type 0
+Codeword s f = (h j : ℕ) → h < s .rows → 1 ≤ j → j ≤ checksOf s h → checkSum (s .columns) (row (s .columns) f h) j ≡ 0
+
+-- document 01's term: a frame that the encoder may send
+pub record Legal (s : Shape) (f : List ℕ) : Type 0 where
+  pub well-formed : WellFormed s f
+  pub codeword : Codeword s f
+
+-- whether any row of two frames differs in column i
+unfoldable pub differs : Shape → (f g : List ℕ) (i : ℕ) → Bool
+differs s f g i = not (every (s .rows) (λ h. eqb (cell (s .columns) f h i) (cell (s .columns) g h i)))
+
+-- the distance: the number of columns in which the frames differ
+unfoldable pub distance : Shape → (f g : List ℕ) → ℕ
+distance s f g = count (s .columns) (differs s f g)
+
+-- the set of those columns
+unfoldable pub differing : Shape → (f g : List ℕ) → Columns
+differing s f g = columnsOf (λ i. ltb i (s .columns) && differs s f g i)

@@ -1,0 +1,5 @@
+pub mod Completion
+pub mod Encode
+pub mod Frame
+pub mod Powers
+pub mod Shape

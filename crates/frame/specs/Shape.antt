@@ -1,0 +1,40 @@
+-- Shapes of frames, and the refusals 2, 5, 6 of a shape (document 01, "Frames"). Rows are numbered from 0 here, and from 1 in document 01.
+use mathlib.Core.Bool.{Bool, not, _&&_}
+use mathlib.Core.List.{List, [], _∷_, _++_}
+use Prim.Native.Nat.{ℕ, _-_}
+use lib.Dec.{leb, ltb}
+use lib.ListN.{length, getD, replicate}
+use Rattle.lists.specs.Tabulate.{every}
+use Rattle.refusal.specs.Order.{Test}
+use Rattle.frame.specs.declared.Shape.{Shape}
+
+-- the number N_h of checks of row h
+abbrev pub checksOf : Shape → ℕ → ℕ
+checksOf s h = getD (s .checks) h 0
+
+-- the shape of n columns that has a row for each of the check counts; the places of the rows that it does not have hold 0
+unfoldable pub shapeOf : (n : ℕ) (checks : List ℕ) → Shape
+shapeOf n checks = record { rows = length checks; columns = n; checks = checks ++ replicate (8 - length checks) 0 }
+
+-- the rows, columns and check counts of a shape are in range
+unfoldable pub rowsInRange : ℕ → Bool
+rowsInRange rows = leb 1 rows && leb rows 8
+
+unfoldable pub columnsInRange : ℕ → Bool
+columnsInRange n = leb 2 n && leb n 256
+
+unfoldable pub checksInRange : (n rows : ℕ) (checks : List ℕ) → Bool
+checksInRange n rows checks =
+    every rows (λ h. leb 1 (getD checks h 0) && (leb (getD checks h 0) 64 && ltb (getD checks h 0) n))
+
+-- a value of the struct that is a shape
+unfoldable pub isShape : Shape → Bool
+isShape s = rowsInRange (s .rows) && (columnsInRange (s .columns) && checksInRange (s .columns) (s .rows) (s .checks))
+
+-- the refusals of a shape in their order
+unfoldable pub shapeTests : (n : ℕ) (checks : List ℕ) → List Test
+shapeTests n checks =
+    record { number = 2; fails = not (rowsInRange (length checks)) } ∷
+    record { number = 5; fails = not (columnsInRange n) } ∷
+    record { number = 6; fails = not (checksInRange n (length checks) checks) } ∷
+    []
