@@ -1,10 +1,12 @@
 pub mod Convolution
+pub mod EvalLaws
 pub mod Evaluation
 pub mod FieldLaws
 pub mod Horner
 pub mod Powers
 pub mod Register
 pub mod RingLaws
+pub mod Roots
 pub mod Solver
 pub mod Sums
 pub mod Vandermonde
