@@ -1,3 +1,4 @@
 pub mod Bounds
 pub mod Cases
+pub mod Ordering
 pub mod Reduced
