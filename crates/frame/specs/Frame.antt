@@ -2,15 +2,15 @@
 -- A frame is the list of its symbols, row after row.
 use mathlib.Core.Path.{_≡_}
 use mathlib.Core.Bool.{Bool, not, _&&_}
-use mathlib.Core.List.{List}
-use Prim.Native.Nat.{ℕ, suc, _+_, _*_, _%_, _≤_, _<_}
+use mathlib.Core.List.{List, _++_}
+use Prim.Native.Nat.{ℕ, suc, _+_, _-_, _*_, _%_, _≤_, _<_}
 use lib.Dec.{ltb, eqb}
-use lib.ListN.{length, getD, take, drop}
+use lib.ListN.{length, getD, take, drop, replicate}
 use Rattle.columns.specs.Columns.{columnsOf}
 use Rattle.columns.specs.Listed.{count}
 use Rattle.columns.specs.declared.Columns.{Columns}
 use Rattle.field.specs.Total.{total}
-use Rattle.lists.specs.Tabulate.{tabulate, every}
+use Rattle.lists.specs.Tabulate.{tabulate, every, joined}
 use Rattle.frame.specs.Powers.{weight}
 use Rattle.frame.specs.Shape.{checksOf}
 use Rattle.frame.specs.declared.Shape.{Shape}
@@ -34,6 +34,10 @@ checkSums n m x = tabulate m (λ j. checkSum n x (suc j))
 -- the sequences of check sums of a frame, one for each row, as long as the row has checks
 unfoldable pub sequences : Shape → (f : List ℕ) → List (List ℕ)
 sequences s f = tabulate (s .rows) (λ h. checkSums (s .columns) (checksOf s h) (row (s .columns) f h))
+
+-- the check sums of a frame as they are held: sequence after sequence, then zeros up to 512 entries, which eight rows of 64 checks fill
+unfoldable pub heldSums : Shape → (f : List ℕ) → List ℕ
+heldSums s f = let sums : List ℕ = joined (sequences s f) in sums ++ replicate (512 - length sums) 0
 
 -- document 01's term: rows × columns symbols, all below 257
 pub record WellFormed (s : Shape) (f : List ℕ) : Type 0 where

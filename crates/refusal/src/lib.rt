@@ -17,3 +17,9 @@ pub enum Refusal {
     ShortRow,
     NoFrame,
 }
+
+// What a test of the input finds: nothing to refuse, or the refusal.
+pub enum Verdict {
+    Pass,
+    Refuse(Refusal),
+}

@@ -46,12 +46,12 @@ module _ (p N : ℕ) (s : List ℕ) (n h : ℕ) (st : State) where
   pub step-cases {ℓ} : (P : State → Type ℓ) → (n ≤ st .size + (N - length s) → P st)
       → (st .size + (N - length s) < n → discrepancy p (st .size) (st .taps) s (n + length s - N) ≡ 0 → P st)
       → (st .size + (N - length s) < n → discrepancy p (st .size) (st .taps) s (n + length s - N) ≢ 0
-        → P (changed p n h (discrepancy p (st .size) (st .taps) s (n + length s - N)) st))
+      → P (changed p n h (discrepancy p (st .size) (st .taps) s (n + length s - N)) st))
       → P (step p N s n h st)
   unfolding step
   step-cases P f g k =
       let d : ℕ = discrepancy p (st .size) (st .taps) s (n + length s - N) in
       cond-cases P (ltb (st .size + (N - length s)) n) (cond (eqb d 0) st (changed p n h d st)) st
       (λ e. let asked = ltb-true _ _ e in
-        cond-cases P (eqb d 0) st (changed p n h d st) (λ z. g asked (eqb-true _ _ z)) (λ z. k asked (eqb-false _ _ z)))
+      cond-cases P (eqb d 0) st (changed p n h d st) (λ z. g asked (eqb-true _ _ z)) (λ z. k asked (eqb-false _ _ z)))
       (λ e. f (ltb-false _ _ e))

@@ -1,0 +1,19 @@
+-- What a test of the input finds, in the numbers of document 01.
+use mathlib.Core.List.{List}
+use Prim.Native.Nat.{ℕ}
+use Rattle.refusal.specs.Number.{number}
+use Rattle.refusal.specs.Order.{Test, firstOf}
+use Rattle.refusal.specs.declared.Verdict.{Verdict}
+use Rattle.refusal.specs.declared.Verdict.the-variants.{Pass, Refuse}
+
+pub data Outcome : Type 0 where
+  passed : Outcome
+  refused : ℕ → Outcome
+
+abbrev pub outcomeOf : Verdict → Outcome
+outcomeOf Pass = passed
+outcomeOf (Refuse r) = refused (number r)
+
+-- the refusal of the first test that fails
+abbrev pub outcome : List Test → Outcome
+outcome tests = firstOf refused tests passed
