@@ -1,4 +1,4 @@
--- Laws of the value of a polynomial: a greater bound of its degree, differences, the value at 0, and the product with a
+-- Laws of the value of a polynomial: a greater bound of its degree, differences, a constant, the value at 0, and the product with a
 -- factor 1 − x·z.
 -- Assumes nothing.
 use mathlib.Core.Path.{_≡_, refl, sym, ap, ap₂, _∙_}
@@ -9,7 +9,7 @@ use Rattle.algebra.specs.Ring.{CRing}
 use Rattle.algebra.specs.Sum.{sum, pow}
 use Rattle.algebra.specs.Polynomial.{Degree, eval}
 use Rattle.algebra.specs.Locator.{factor}
-use Rattle.algebra.proofs.Sums.{sum-suc, sum-head, sum-ext, sum-zeros, sum-add, sum-mul, sum-neg}
+use Rattle.algebra.proofs.Sums.{sum-zero, sum-suc, sum-head, sum-ext, sum-zeros, sum-add, sum-mul, sum-neg}
 use Rattle.algebra.proofs.Powers.{pow-zero, pow-suc}
 use Rattle.algebra.proofs.RingLaws.{mul-zero, zero-mul}
 use Rattle.algebra.proofs.Evaluation.{eval-sum}
@@ -43,6 +43,10 @@ module _ (R : CRing) where
       eval-sum R l f x ∙ sum-head R l (λ i. f i ⊗ pow R x i)
       ∙ ap (λ y. y ⊕ sum R l (λ i. f (suc i) ⊗ pow R x (suc i))) (ap (λ y. f 0 ⊗ y) (pow-zero R x) ∙ mul-one (f 0))
 
+  pub eval-constant : (f : ℕ → car) (x : car) → eval R 0 f x ≡ f 0
+  eval-constant f x =
+      eval-head 0 f x ∙ ap (λ y. f 0 ⊕ y) (sum-zero R (λ i. f (suc i) ⊗ pow R x (suc i))) ∙ add-zero (f 0)
+
   pub eval-at-zero : (l : ℕ) (f : ℕ → car) → eval R l f 𝟘 ≡ f 0
   eval-at-zero l f =
       eval-head l f 𝟘
@@ -54,7 +58,7 @@ module _ (R : CRing) where
   unfolding factor
   factor-zero x f = refl
 
-  factor-suc : (x : car) (f : ℕ → car) (i : ℕ) → factor R x f (suc i) ≡ f (suc i) ⊕ neg (x ⊗ f i)
+  pub factor-suc : (x : car) (f : ℕ → car) (i : ℕ) → factor R x f (suc i) ≡ f (suc i) ⊕ neg (x ⊗ f i)
   unfolding factor
   factor-suc x f i = refl
 

@@ -3,6 +3,7 @@ pub mod EvalLaws
 pub mod Evaluation
 pub mod FieldLaws
 pub mod Horner
+pub mod LocatorLaws
 pub mod Powers
 pub mod Register
 pub mod RingLaws
