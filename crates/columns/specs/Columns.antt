@@ -1,10 +1,11 @@
 -- A set of 256 marks in four 64-bit words, column 0 lowest (document 01, 'A job'; its form under 'Forms and where they belong'):
 -- which columns a value marks, the value that marks given columns, and its columns as a list.
+use mathlib.Core.Path.{_≡_}
 use mathlib.Core.Bool.{Bool, cond}
-use mathlib.Core.List.{List, [], _∷_}
-use Prim.Native.Nat.{ℕ, zero, suc, _+_, _*_, _/_, _%_, _^_}
+use mathlib.Core.List.{List, [], _∷_, map}
+use Prim.Native.Nat.{ℕ, zero, suc, _+_, _*_, _/_, _%_, _^_, _<_}
 use lib.Dec.{eqb}
-use lib.ListN.{getD}
+use lib.ListN.{length, getD}
 use Rattle.columns.specs.Listed.{listed}
 use Rattle.columns.specs.declared.Columns.{Columns}
 
@@ -21,13 +22,15 @@ number (suc n) P = cond (P 0) 1 0 + 2 * number n (λ k. P (suc k))
 unfoldable pub has : Columns → ℕ → Bool
 has c i = bit (getD (c .words) (i / 64) 0) (i % 64)
 
--- the value that marks exactly the columns i below 256 with P i
+-- the value that marks exactly the columns i below 256 with P i: word w holds columns 64·w to 64·w + 63
 unfoldable pub columnsOf : (ℕ → Bool) → Columns
-columnsOf P = record {
-  words =
-      number 64 P ∷ number 64 (λ k. P (64 + k)) ∷ number 64 (λ k. P (128 + k)) ∷ number 64 (λ k. P (192 + k)) ∷ [];
-}
+columnsOf P = record { words = map (λ w. number 64 (λ k. P (64 * w + k))) (0 ∷ 1 ∷ 2 ∷ 3 ∷ []) }
 
 -- the marked columns, rising
-unfoldable pub members : Columns → List ℕ
+abbrev pub members : Columns → List ℕ
 members c = listed 256 (has c)
+
+-- what every value of the type is: four words of 64 bits
+pub record Sound (c : Columns) : Type 0 where
+  pub four : length (c .words) ≡ 4
+  pub small : (w : ℕ) → getD (c .words) w 0 < 2 ^ 64

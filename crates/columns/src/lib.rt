@@ -1,18 +1,86 @@
 // A set of columns: 256 marks in four 64-bit words, column 0 lowest. Column i is bit i mod 64 of word i / 64.
 ghost use mathlib.Core.Path.{_≡_};
+ghost use mathlib.Core.Bool.{false, _&&_, _||_};
+ghost use Prim.Native.Nat.{_<_, _≤_};
+ghost use lib.Dec.{eqb, leb, ltb};
+ghost use lib.ListN.{length};
+ghost use Rattle.columns.specs.Columns.{bit, has, columnsOf, members};
+ghost use Rattle.columns.specs.Listed.{count, least};
 
 pub struct Columns {
     pub words: [u64; 4],
 }
 
-pub fn empty() -> Columns {
+// No column.
+pub fn empty() -> Columns
+    ensures { λ r. ⌜ r ≡ columnsOf (λ k. false) ⌝ }
+{
     let words = [0u64; 4];
     Columns { words }
 }
 
-pub fn contains(c: Columns, i: usize) -> bool {
+// Column i is marked. No column from 256 on is.
+pub fn contains(c: Columns, i: usize) -> bool
+    ensures { λ r. ⌜ r ≡ has c i ⌝ }
+{
     if i >= 256 {
         return false;
     }
     (c.words[i / 64] >> (i % 64)) & 1 == 1
+}
+
+// The set with column i besides.
+pub fn with(c: Columns, i: usize) -> Columns
+    requires { ⌜ i < 256 ⌝ }
+    ensures { λ r. ⌜ r ≡ columnsOf (λ k. has c k || eqb k i) ⌝ }
+{
+    let mut r = c;
+    let w = i / 64;
+    r.words[w] = r.words[w] | (1u64 << (i % 64));
+    r
+}
+
+// The set bits of one word.
+fn ones(x: u64) -> usize
+    ensures { λ r. ⌜ (r ≡ count 64 (bit x)) × (r ≤ 64) ⌝ }
+{
+    u64::count_ones(x) as usize
+}
+
+// How many columns are marked.
+pub fn size(c: Columns) -> usize
+    ensures { λ r. ⌜ r ≡ length (members c) ⌝ }
+{
+    ones(c.words[0]) + ones(c.words[1]) + ones(c.words[2]) + ones(c.words[3])
+}
+
+// The least marked column at or after `from`, or 256 where there is none: what is left of a word is shifted down,
+// and its trailing zeros are the columns to pass; a word with nothing left is passed whole.
+pub fn next(c: Columns, from: usize) -> usize
+    ensures { λ r. ⌜ r ≡ least 256 (λ k. leb from k && has c k) ⌝ }
+{
+    let mut at = from;
+    while at < 256 {
+        let k = at % 64;
+        let left = c.words[at / 64] >> k;
+        if left != 0 {
+            return at + u64::trailing_zeros(left) as usize;
+        }
+        at += 64 - k;
+    }
+    256
+}
+
+// The columns 0 to n − 1.
+pub fn below(n: usize) -> Columns
+    requires { ⌜ n ≤ 256 ⌝ }
+    ensures { λ r. ⌜ r ≡ columnsOf (λ k. ltb k n) ⌝ }
+{
+    let mut r = empty();
+    let mut i = 0;
+    while i < n {
+        r = with(r, i);
+        i += 1;
+    }
+    r
 }
