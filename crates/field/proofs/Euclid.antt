@@ -1,10 +1,9 @@
 -- Euclid's lemma: a prime divides a product only if it divides a factor. By the remainder r of p modulo a, which is smaller than a
 -- and not 0: if p divides a · b, it divides r · b too. Assumes nothing.
 use mathlib.Core.Path.{_≡_, refl, sym, ap, _∙_}
-use mathlib.Core.Logic.{_⊎_, inl, inr}
 use Prim.Native.Nat.{ℕ, zero, suc, _+_, _-_, _*_, _/_, _%_, _≤_, _<_}
-use native.Mathlib.Nat.{add-mul, mul-assoc, add-comm, mul-mod-right, div-add-mod', mod-lt, one-mul, add-sub-of-le, mul-add, mul-one}
-use native.Mathlib.Decide.{ℕ-discrete, decLe}
+use native.Mathlib.Nat.{add-mul, mul-assoc, add-comm, mul-mod-right, div-add-mod', mod-lt, one-mul, add-sub-of-le, mul-add}
+use native.Mathlib.Decide.{decLe}
 use native.Mathlib.Omega.{arith}
 use Rattle.field.specs.Prime.{Prime}
 use Rattle.field.proofs.PrimeTest.{prime-undivided}

@@ -1,8 +1,8 @@
 -- Fermat's little theorem for every prime p: a^p and a have the same remainder. So a^(p − 2) is the inverse of a number a that p does
 -- not divide. By induction on a: of the terms of (a + 1)^p only the first and the last are not divided by p. Assumes nothing.
-use mathlib.Core.Path.{_≡_, refl, sym, ap, _∙_}
+use mathlib.Core.Path.{_≡_, sym, ap, _∙_}
 use Prim.Native.Nat.{ℕ, zero, suc, pred, _+_, _-_, _*_, _%_, _^_, _<_}
-use native.Mathlib.Nat.{pow-zero, pow-suc, pow-succ', mod-eq-of-lt, mod-add-mod, mul-zero, mul-one, one-mul, mul-comm, add-comm, suc-pred-eq-of-pos}
+use native.Mathlib.Nat.{pow-zero, pow-suc, pow-succ', mod-eq-of-lt, mod-add-mod, mul-zero, mul-one, one-mul, mul-comm, suc-pred-eq-of-pos}
 use native.Mathlib.Numerals.{add-one}
 use native.Mathlib.Omega.{arith}
 use Rattle.field.specs.Prime.{Prime}
@@ -12,6 +12,10 @@ use Rattle.field.proofs.Binomial.{choose, choose-none, choose-all, bino
 use Rattle.field.proofs.Euclid.{cancel}
 use Rattle.field.proofs.Remainders.{mod-mul-zero, mod-add-zero, mul-mod-mod}
 use Rattle.field.proofs.Totals.{total-suc, total-head, total-divided}
+
+zero-power : (n : ℕ) → 0 < n → 0 ^ n ≡ 0
+zero-power zero h = absurd (let z : ⊥ = omega arith in z)
+zero-power (suc n) h = rw (pow-suc, mul-zero)
 
 module _ (p : ℕ) (prime : Prime p) where
   -- of the terms of (a + 1)^p, those between the first and the last add up to a multiple of p
@@ -31,21 +35,17 @@ module _ (p : ℕ) (prime : Prime p) where
       let parts : suc a ^ p ≡ a ^ p + 1 + between = rw (binomial a p, total-suc p (λ k. choose p k * a ^ k)) (omega arith) in
       ap (λ (x : ℕ). x % p) parts ∙ mod-add-zero (a ^ p + 1) between p (middle a (pred p) e)
 
-  zero-power : (n : ℕ) → 0 < n → 0 ^ n ≡ 0
-  zero-power zero h = absurd (let z : ⊥ = omega arith in z)
-  zero-power (suc n) h = rw (pow-suc, mul-zero)
-
   pub fermat : (a : ℕ) → (a ^ p) % p ≡ a % p
   fermat zero = rw (zero-power p (omega (arith, prime .two-or-more)))
   fermat (suc a) =
       power-of-next a ∙ sym (mod-add-mod (a ^ p) p 1) ∙ ap (λ (x : ℕ). (x + 1) % p) (fermat a) ∙ mod-add-mod a p 1 ∙ rw (add-one a)
 
+  factor-out-two : (a : ℕ) → a * (a * a ^ (p - 2)) ≡ a ^ p
+  factor-out-two a =
+      let e : suc (suc (p - 2)) ≡ p = omega (arith, prime .two-or-more) in
+      rw (← pow-succ' a (p - 2), ← pow-succ' a (suc (p - 2)), e)
+
   pub times-inverse : (a : ℕ) → (a % p ≡ 0 → ⊥) → times p a (inverse p a) ≡ 1
   times-inverse a some =
-      let two = prime .two-or-more in
-      let whole : a * (a * a ^ (p - 2)) ≡ a ^ p =
-      rw (← pow-succ' a (p - 2), ← pow-succ' a (suc (p - 2))) (ap (λ (x : ℕ). a ^ x) (let e : suc (suc (p - 2)) ≡ p = omega arith in e))
-      in
-      mul-mod-mod a (a ^ (p - 2)) p
-      ∙ cancel p prime a (a * a ^ (p - 2)) 1 some (ap (λ (x : ℕ). x % p) whole ∙ fermat a ∙ ap (λ (x : ℕ). x % p) (sym (mul-one a)))
-      ∙ mod-eq-of-lt two
+      let same = ap (λ (x : ℕ). x % p) (factor-out-two a) ∙ fermat a ∙ ap (λ (x : ℕ). x % p) (sym (mul-one a)) in
+      mul-mod-mod a (a ^ (p - 2)) p ∙ cancel p prime a (a * a ^ (p - 2)) 1 some same ∙ mod-eq-of-lt (prime .two-or-more)

@@ -1,8 +1,8 @@
 -- The residues modulo a prime p are a field, an instance of the abstract one. Its elements are the numbers below p; the inverse is the
 -- power p − 2 for every element, 0 too. Assumes nothing.
-use mathlib.Core.Path.{_≡_, refl, sym, ap, _∙_}
+use mathlib.Core.Path.{_≡_, sym, ap, _∙_}
 use mathlib.Core.HLevel.{hedberg}
-use Prim.Native.Nat.{ℕ, zero, suc, _+_, _-_, _*_, _%_, _^_, _<_, Fin}
+use Prim.Native.Nat.{ℕ, zero, _+_, _-_, _*_, _%_, _^_, _<_, Fin}
 use native.Mathlib.Nat.{add-assoc, add-comm, add-zero, add-sub-of-le, mul-assoc, mul-comm, mul-one, mul-add, mod-lt, mod-eq-of-lt, mod-self, zero-mod, mod-add-mod, add-mod-mod, le-of-lt}
 use native.Mathlib.Decide.{Fin·val-path, Fin-discrete}
 use native.Mathlib.Omega.{arith}

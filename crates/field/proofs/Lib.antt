@@ -2,6 +2,7 @@ pub mod Binomial
 pub mod Bridge
 pub mod Euclid
 pub mod Fermat
+pub mod Fits
 pub mod Halving
 pub mod Instance
 pub mod Modulus

@@ -1,6 +1,6 @@
--- Remainders of products and powers: a factor or a base may be reduced first. The same for sums is in `native.Mathlib.Nat`.
--- Assumes nothing.
-use mathlib.Core.Path.{_≡_, refl, sym, ap, _∙_}
+-- Remainders of products and powers: a factor or a base may be reduced first (the same for sums is in `native.Mathlib.Nat`). What has
+-- remainder 0 adds nothing to a remainder, and the other way round. Assumes nothing.
+use mathlib.Core.Path.{_≡_, sym, ap, _∙_}
 use Prim.Native.Nat.{ℕ, zero, suc, _+_, _-_, _*_, _/_, _%_, _^_, _<_, _≤_}
 use native.Mathlib.Nat.{mod-add-div', add-mul, mul-right-comm, add-mul-mod-self-right, mul-comm, pow-zero, pow-suc, add-mod, add-mod-mod, mod-eq-of-lt, mod-lt, mod-eq-sub-mod, add-zero, mul-zero, zero-mod}
 use native.Mathlib.Decide.{decLt}
@@ -24,7 +24,6 @@ pow-mod n (suc e) m =
     ∙ mod-mul-mod (n ^ e) m (n % m)
     ∙ mul-mod-mod (n ^ e) n m)
 
--- what adds nothing to a remainder has remainder 0
 pub mod-add-cancel : (x y m : ℕ) → 0 < m → (x + y) % m ≡ x % m → y % m ≡ 0
 mod-add-cancel x y m pos e = pick (decLt (x % m + y % m) m)
   where

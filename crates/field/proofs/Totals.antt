@@ -1,8 +1,8 @@
 -- Laws of finite sums of numbers: their clauses as equations, equal terms, a bound, sums and multiples, the first term, two parts, remainders.
 -- Assumes nothing.
-use mathlib.Core.Path.{_≡_, refl, sym, ap, ap₂, _∙_}
+use mathlib.Core.Path.{_≡_, refl, sym, ap₂, _∙_}
 use Prim.Native.Nat.{ℕ, zero, suc, _+_, _*_, _%_, _≤_, _<_, zero-le}
-use native.Mathlib.Nat.{add-zero, add-suc, add-assoc, add-mod, suc-mul, le-trans, le-of-eq, le-refl, le-step, lt-suc-self, add-le-add, mod-mod, zero-add, zero-mul, add-mul, zero-mod}
+use native.Mathlib.Nat.{add-zero, add-suc, add-assoc, add-mod, suc-mul, le-step, lt-suc-self, add-le-add, mod-mod, zero-add, zero-mul, add-mul, zero-mod}
 use native.Mathlib.Omega.{arith}
 use Rattle.field.specs.Total.{total}
 use Rattle.field.proofs.Remainders.{mod-add-zero}

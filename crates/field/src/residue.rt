@@ -1,4 +1,5 @@
-// Arithmetic on residues modulo p. The square of 65520 fits a u32, so a product is reduced once.
+// Arithmetic on residues modulo p. The square of 65520 fits a u32, so a product is reduced once. That a
+// result is below p follows from what it equals; it is said besides, for the callers.
 ghost use mathlib.Core.Path.{_≡_};
 ghost use Prim.Native.Nat.{_<_, _≤_};
 ghost use Rattle.field.specs.Residue.{plus, minus, times, power as powerOf, inverse as inverseOf};

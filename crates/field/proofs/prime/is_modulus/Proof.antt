@@ -1,13 +1,13 @@
 -- `field::prime::is_modulus` meets its contract. The invariant: no number from 2 to d − 1 divides p, and d is at most 256.
 -- Assumes nothing.
-use mathlib.Core.Path.{_≡_, sym}
-use Prim.Native.Nat.{_≤_, _-_, _*_}
+use mathlib.Core.Path.{sym}
+use Prim.Native.Nat.{_≤_, _-_}
 use native.Mathlib.Nat.{mul-le-mul}
 use native.Mathlib.Numerals.{add-one}
 use native.Mathlib.Omega.{arith}
 use borrow.Author.Needs.{needs}
-use Rattle.field.specs.Prime.{Prime}
-use Rattle.field.proofs.Modulus.{modulus-taken, modulus-refused, root-small}
+use Rattle.field.proofs.Fits.{root-small}
+use Rattle.field.proofs.Modulus.{modulus-taken, modulus-refused}
 use Rattle.field.proofs.PrimeTest.{Undivided, undivided-more, undivided-to-root, divided-below-root}
 use Rattle.field.proofs.prime.is_modulus.Statement.{statement}
 use Rattle.field.proofs.prime.is_modulus.Tie as tie
@@ -28,23 +28,23 @@ loop-holds : tie.Need-loop-holds Inv-loop μ-loop
 loop-holds c = (omega arith, omega arith, λ e low high z. omega arith)
 
 mul-loop : tie.Need-mul-loop Inv-loop μ-loop
-mul-loop c = let d = c .loop .d in omega (arith, mul-le-mul (c .loop .inv .1) (c .loop .inv .1))
+mul-loop c = omega (arith, mul-le-mul (c .loop .inv .1) (c .loop .inv .1))
 
 rem-if3 : tie.Need-rem-if3 Inv-loop μ-loop
 rem-if3 c = search needs
 
 returns-3 : tie.Need-returns-3 Inv-loop μ-loop
-returns-3 c = sym (modulus-refused _ (λ prime le. divided-below-root _ _ (c .before .before .loop .inv .0) (c .before .loop-test .taken) (c .if3 .taken) prime))
+returns-3 c = sym (modulus-refused _ (λ prime le. divided-below-root _ _ (c .before .before .loop .inv .0) (omega arith) (c .if3 .taken) prime))
 
 add-d : tie.Need-add-d Inv-loop μ-loop
 add-d c = omega arith
 
 loop-less : tie.Need-loop-less Inv-loop μ-loop
-loop-less c = let small = root-small _ _ (c .before .before .before .if2 .left) (c .before .loop-test .taken) in omega arith
+loop-less c = let small = root-small (c .before .before .loop .d) (omega arith) in omega arith
 
 loop-again : tie.Need-loop-again Inv-loop μ-loop
 loop-again c =
-    let small = root-small _ _ (c .before .before .before .if2 .left) (c .before .loop-test .taken) in
+    let small = root-small (c .before .before .loop .d) (omega arith) in
     (omega arith, omega arith, rw add-one (undivided-more _ _ (c .before .before .loop .inv .2) (c .if3 .left)))
 
 returns-4 : tie.Need-returns-4 Inv-loop μ-loop

@@ -1,5 +1,4 @@
 -- The proof of the cycle of calls {power}. The measure is the exponent, which is halved at each call. Assumes nothing.
-use mathlib.Core.Path.{refl}
 use Prim.Native.Nat.{ℕ, _<_}
 use native.Mathlib.Nat.{mod-lt}
 use native.Mathlib.Omega.{arith}

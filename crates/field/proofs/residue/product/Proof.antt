@@ -3,12 +3,12 @@ use mathlib.Core.Path.{refl}
 use native.Mathlib.Nat.{mod-lt}
 use native.Mathlib.Omega.{arith}
 use borrow.Author.Needs.{needs}
-use Rattle.field.proofs.Modulus.{product-small}
+use Rattle.field.proofs.Fits.{product-fits}
 use Rattle.field.proofs.residue.product.Statement.{statement}
 use Rattle.field.proofs.residue.product.Tie as tie
 
 mul-result : tie.Need-mul-result
-mul-result c = omega (arith, product-small _ _ _ (c .pre .0) (c .pre .1) (c .pre .2))
+mul-result c = record { fits = product-fits _ _ _ (c .pre .0) (omega arith) (omega arith) }
 
 rem-result : tie.Need-rem-result
 rem-result c = search needs
