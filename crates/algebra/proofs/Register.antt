@@ -2,3 +2,6 @@
 pub mod Places
 pub mod Generates
 pub mod LeadingRow
+pub mod Step
+pub mod Invariant
+pub mod Update

@@ -2,10 +2,11 @@
 -- that place which length l asks for. It fails at a symbol where it generates up to that symbol and its product there is not 0.
 -- Both are kept by multiples, by a shift (length and place grow with it), and failing by adding what generates further.
 -- Assumes nothing.
-use mathlib.Core.Path.{_≡_, refl, sym, ap, ap₂, subst, _∙_}
-use mathlib.Core.Logic.{_≢_, _⊎_, inl, inr}
+use mathlib.Core.Path.{_≡_, refl, sym, ap, ap₂, subst₂, _∙_}
+use mathlib.Core.Logic.{_≢_}
 use Prim.Native.Nat.{ℕ, suc, _+_, _-_, _*_, _≤_, _<_}
 use native.Mathlib.Nat.{add-mul}
+use native.Mathlib.Decide.{decLt}
 use native.Mathlib.Omega.{arith}
 use Rattle.algebra.specs.Ring.{CRing, Field}
 use Rattle.algebra.specs.Polynomial.{Degree, conv, shift}
@@ -42,6 +43,19 @@ module _ (F : Field) (Q : Sequences (F .ring .car)) where
 
   pub gen-longer : (f : ℕ → car) (l l' s s' : ℕ) → Gen f l s → l ≤ l' → s' ≤ s → Gen f l' s'
   gen-longer f l l' s s' gen hl hs g m hg hm h = gen g m hg (omega arith) (omega arith)
+
+  -- one symbol further
+  pub gen-next : (f : ℕ → car) (l n h : ℕ) → h < t → Gen f l (n * t + h) → (l + lag h < n → disc f h n ≡ 𝟘)
+    → Gen f l (suc (n * t + h))
+  gen-next f l n h sequence gen here g m hg hm q = go (decLt (m * t + g) (n * t + h))
+    where
+      go : Dec (m * t + g < n * t + h) → disc f g m ≡ 𝟘
+      go (yes b) = gen g m hg hm b
+      go (no b) =
+          let same : m * t + g ≡ n * t + h = omega arith in
+          let p : m ≡ n = same-position t m n g h hg sequence same in
+          let r : g ≡ h = same-sequence t m n g h hg sequence same in
+          ap₂ (λ x y. disc f x y) r p ∙ here (subst₂ (λ x y. l + lag x < y) r p hm)
 
   pub gen-add : (f f' : ℕ → car) (l s : ℕ) → Gen f l s → Gen f' l s → Gen (λ i. f i ⊕ f' i) l s
   gen-add f f' l s gen gen' g m hg hm h =
