@@ -2,7 +2,7 @@
 -- Assumes nothing.
 use mathlib.Core.Path.{_≡_, refl, sym, ap, ap₂, _∙_}
 use mathlib.Core.Logic.{if-pos, if-neg}
-use Prim.Native.Nat.{ℕ, suc, _+_, _-_, _≤_, _<_}
+use Prim.Native.Nat.{ℕ, zero, suc, _+_, _-_, _≤_, _<_}
 use native.Mathlib.Decide.{decLt}
 use native.Mathlib.Omega.{arith}
 use Rattle.algebra.specs.Ring.{CRing}
@@ -88,6 +88,19 @@ module _ (R : CRing) where
   pub shift-above : (e : ℕ) (f : ℕ → car) (i : ℕ) → e ≤ i → shift R e f i ≡ f (i - e)
   unfolding shift
   shift-above e f i h = if-neg (decLt i e) (omega arith) 𝟘 (f (i - e))
+
+  -- a polynomial without constant term is the variable times another
+  pub shift-tail : (f : ℕ → car) → f 0 ≡ 𝟘 → (i : ℕ) → shift R 1 (λ j. f (suc j)) i ≡ f i
+  shift-tail f z zero = shift-below 1 (λ j. f (suc j)) 0 (omega arith) ∙ sym z
+  shift-tail f z (suc i) =
+      shift-above 1 (λ j. f (suc j)) (suc i) (omega arith) ∙ ap f (let q : suc (suc i - 1) ≡ suc i = omega arith in q)
+
+  pub shift-zeros : (e : ℕ) (f : ℕ → car) → ((i : ℕ) → f i ≡ 𝟘) → (i : ℕ) → shift R e f i ≡ 𝟘
+  shift-zeros e f z i = go (decLt i e)
+    where
+      go : Dec (i < e) → shift R e f i ≡ 𝟘
+      go (yes h) = shift-below e f i h
+      go (no h) = shift-above e f i (omega arith) ∙ z (i - e)
 
   pub shift-degree : (e l : ℕ) (f : ℕ → car) → Degree R l f → Degree R (l + e) (shift R e f)
   shift-degree e l f d i h = shift-above e f i (omega arith) ∙ d (i - e) (omega arith)

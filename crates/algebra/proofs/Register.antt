@@ -5,3 +5,5 @@ pub mod LeadingRow
 pub mod Step
 pub mod Invariant
 pub mod Update
+pub mod Preserved
+pub mod Shortest

@@ -35,6 +35,12 @@ module _ (F : Field) (Q : Sequences (F .ring .car)) where
   abbrev pub Gen : (ℕ → car) → ℕ → ℕ → Type 0
   Gen f l s = (g m : ℕ) → g < t → l + lag g < m → m * t + g < s → disc f g m ≡ 𝟘
 
+  -- f is a register of length l that generates up to the place s
+  pub record Register (f : ℕ → car) (l s : ℕ) : Type 0 where
+    pub one : f 0 ≡ 𝟙
+    pub degree : Degree ring l f
+    pub gen : Gen f l s
+
   pub record Fails (f : ℕ → car) (l n h : ℕ) : Type 0 where
     pub sequence : h < t
     pub asked : l + lag h < n

@@ -9,7 +9,7 @@ use Rattle.algebra.specs.Ring.{CRing, Field}
 use Rattle.algebra.specs.Polynomial.{Degree}
 use Rattle.algebra.proofs.Convolution.{conv-zero}
 use Rattle.algebra.proofs.Register.Places.{position-lt}
-use Rattle.algebra.proofs.Register.Generates.{Sequences, disc, Gen, Fails}
+use Rattle.algebra.proofs.Register.Generates.{Sequences, disc, Gen, Register, Fails}
 use Rattle.algebra.proofs.Register.LeadingRow.{Pivots}
 use Rattle.algebra.proofs.Register.Step.{Saved, State}
 
@@ -37,9 +37,7 @@ module _ (F : Field) (Q : Sequences (F .ring .car)) where
   FreshOrKept l s h v = Fresh h v ⊎ Kept l s h v
 
   pub record Invariant (st : State car) (s : ℕ) : Type 0 where
-    pub one : st .taps 0 ≡ 𝟙
-    pub degree : Degree ring (st .size) (st .taps)
-    pub gen : Gen F Q (st .taps) (st .size) s
+    pub register : Register F Q (st .taps) (st .size) s
     pub saved : (h : ℕ) → h < t → FreshOrKept (st .size) s h (st .saved h)
     pub pivots : Pivots F Q (st .size) s
     -- no pivot's row is after that of the register kept for its sequence

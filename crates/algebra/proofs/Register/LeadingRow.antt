@@ -12,7 +12,7 @@ use native.Mathlib.Omega.{arith}
 use Rattle.algebra.specs.Ring.{CRing, Field}
 use Rattle.algebra.specs.Polynomial.{Degree, shift}
 use Rattle.algebra.proofs.RingLaws.{neg-zero, mul-zero, zero-mul, zero-add}
-use Rattle.algebra.proofs.Convolution.{shift-below, shift-above}
+use Rattle.algebra.proofs.Convolution.{shift-below, shift-tail, shift-zeros}
 use Rattle.algebra.proofs.Register.Places.{same-position, same-sequence}
 use Rattle.algebra.proofs.Register.Generates.{Sequences, Gen, Fails, gen-longer, fails-mul, fails-add, fails-shift}
 
@@ -38,32 +38,23 @@ module _ (F : Field) (Q : Sequences (F .ring .car)) where
   rest : (ℕ → car) → (ℕ → car) → ℕ → car
   rest f τ i = f (suc i) ⊕ neg (f 0 ⊗ τ (suc i))
 
-  module _ (f τ : ℕ → car) (one : τ 0 ≡ 𝟙) where
-    split-at : (i : ℕ) → f i ≡ f 0 ⊗ τ i ⊕ shift ring 1 (rest f τ) i
-    unfolding rest
-    split-at zero =
-        sym (ap₂ _⊕_ (ap (λ x. f 0 ⊗ x) one ∙ mul-one (f 0)) (shift-below ring 1 (rest f τ) 0 (omega arith)) ∙ add-zero (f 0))
-    split-at (suc i) =
-        sym (add-neg-cancel (f 0 ⊗ τ (suc i)) (f (suc i)))
-        ∙ ap (λ x. f 0 ⊗ τ (suc i) ⊕ x)
-        (ap (rest f τ) (let q : i ≡ suc i - 1 = omega arith in q) ∙ sym (shift-above ring 1 (rest f τ) (suc i) (omega arith)))
-      where
-        add-neg-cancel : (a b : car) → a ⊕ (b ⊕ neg a) ≡ b
-        add-neg-cancel a b =
-            ap (λ x. a ⊕ x) (add-comm b (neg a)) ∙ sym (add-assoc a (neg a) b) ∙ ap (λ x. x ⊕ b) (add-neg a) ∙ zero-add ring b
+  rest-split : (f τ : ℕ → car) → τ 0 ≡ 𝟙 → (i : ℕ) → f i ≡ f 0 ⊗ τ i ⊕ shift ring 1 (rest f τ) i
+  unfolding rest
+  rest-split f τ one i =
+      sym (ap (λ x. f 0 ⊗ τ i ⊕ x)
+      (shift-tail ring (λ j. f j ⊕ neg (f 0 ⊗ τ j))
+      (ap (λ x. f 0 ⊕ neg x) (ap (λ x. f 0 ⊗ x) one ∙ mul-one (f 0)) ∙ add-neg (f 0)) i)
+      ∙ add-sub-cancel (f 0 ⊗ τ i) (f i))
+    where
+      add-sub-cancel : (a b : car) → a ⊕ (b ⊕ neg a) ≡ b
+      add-sub-cancel a b =
+          ap (λ x. a ⊕ x) (add-comm b (neg a)) ∙ sym (add-assoc a (neg a) b) ∙ ap (λ x. x ⊕ b) (add-neg a) ∙ zero-add ring b
 
   rest-zero : (f τ : ℕ → car) (i : ℕ) → f (suc i) ≡ 𝟘 → τ (suc i) ≡ 𝟘 → rest f τ i ≡ 𝟘
   unfolding rest
   rest-zero f τ i zf zτ =
       ap₂ (λ x y. x ⊕ neg (f 0 ⊗ y)) zf zτ ∙ ap (λ x. 𝟘 ⊕ neg x) (mul-zero ring (f 0)) ∙ ap (λ x. 𝟘 ⊕ x) (neg-zero ring)
       ∙ add-zero 𝟘
-
-  shift-zeros : (e : ℕ) (f : ℕ → car) → ((i : ℕ) → f i ≡ 𝟘) → (i : ℕ) → shift ring e f i ≡ 𝟘
-  shift-zeros e f z i = go (decLt i e)
-    where
-      go : Dec (i < e) → shift ring e f i ≡ 𝟘
-      go (yes h) = shift-below ring e f i h
-      go (no h) = shift-above ring e f i (omega arith) ∙ z (i - e)
 
   module _ (l s : ℕ) (P : Pivots l s) where
     open Pivots P using (poly, position, sequence)
@@ -146,8 +137,8 @@ module _ (F : Field) (Q : Sequences (F .ring .car)) where
         → ((i : ℕ) → rest f (poly L) i ≡ 𝟘) ⊎ ((r : Leading (shift ring 1 (rest f (poly L))) L) × (r .pivot < L))
         → ((i : ℕ) → f i ≡ 𝟘) ⊎ Leading f L
     leading-step L below f r =
-        leading-of-parts L below f (shift ring 1 (rest f (poly L))) (split-at f (poly L) (P .one L below))
-        (⊎-map (shift-zeros 1 (rest f (poly L))) (λ x. x) r) (decide (f 0) 𝟘)
+        leading-of-parts L below f (shift ring 1 (rest f (poly L))) (rest-split f (poly L) (P .one L below))
+        (⊎-map (shift-zeros ring 1 (rest f (poly L))) (λ x. x) r) (decide (f 0) 𝟘)
 
     leading-shift : (L : ℕ) (f : ℕ → car) → Leading f L → (r : Leading (shift ring 1 f) (suc L)) × (r .pivot < suc L)
     leading-shift L f r =

@@ -11,13 +11,13 @@ use Rattle.algebra.specs.Polynomial.{Degree, shift}
 use Rattle.algebra.proofs.RingLaws.{neg-zero, mul-zero}
 use Rattle.algebra.proofs.FieldLaws.{divide-mul}
 use Rattle.algebra.proofs.Convolution.{conv-mul, conv-sub, conv-shift, shift-below, shift-degree}
-use Rattle.algebra.proofs.Register.Generates.{Sequences, disc, Gen, gen-longer, gen-next, gen-mul, gen-sub, gen-shift}
+use Rattle.algebra.proofs.Register.Generates.{Sequences, disc, Gen, Register, gen-longer, gen-next, gen-mul, gen-sub, gen-shift}
 use Rattle.algebra.proofs.Register.Step.{Saved, reduced}
 use Rattle.algebra.proofs.Register.Invariant.{FreshOrKept, saved-degree, saved-gen, saved-before}
 
 module _ (F : Field) (Q : Sequences (F .ring .car)) (n h l l' : ℕ) (σ : ℕ → F .ring .car) (v : Saved (F .ring .car))
-  (sequence : h < Q .count) (asked : l + Q .lag h < n) (one : σ 0 ≡ F .ring .one) (degree : Degree (F .ring) l σ)
-  (gen : Gen F Q σ l (n * Q .count + h)) (saved : FreshOrKept F Q l (n * Q .count + h) h v)
+  (sequence : h < Q .count) (asked : l + Q .lag h < n)
+  (register : Register F Q σ l (n * Q .count + h)) (saved : FreshOrKept F Q l (n * Q .count + h) h v)
   (longer : l ≤ l') (enough : n + v .size ≤ l' + v .place) where
   open Field F using (ring, inv)
   open CRing (F .ring) using (car, zero as 𝟘, one as 𝟙, add as _⊕_, mul as _⊗_, neg, add-zero, add-neg)
@@ -46,14 +46,14 @@ module _ (F : Field) (Q : Sequences (F .ring .car)) (n h l l' : ℕ) (σ : ℕ �
       ap (λ x. σ i ⊕ neg (c ⊗ x)) z ∙ ap (λ x. σ i ⊕ neg x) (mul-zero ring c) ∙ ap (λ x. σ i ⊕ x) (neg-zero ring)
       ∙ add-zero (σ i)
 
-  pub updated-one : σ' 0 ≡ 𝟙
-  updated-one = kept-at 0 (shift-below ring e (v .taps) 0 (omega (arith, before))) ∙ one
+  updated-one : σ' 0 ≡ 𝟙
+  updated-one = kept-at 0 (shift-below ring e (v .taps) 0 (omega (arith, before))) ∙ register .one
 
-  pub updated-degree : Degree ring l' σ'
+  updated-degree : Degree ring l' σ'
   updated-degree i q =
       kept-at i (shift-degree ring e (v .size) (v .taps) (saved-degree F Q l (n * t + h) h v saved) i
       (omega (arith, before)))
-      ∙ degree i (omega arith)
+      ∙ register .degree i (omega arith)
 
   added-gen : Gen F Q added l' (n * t + h)
   added-gen =
@@ -65,7 +65,7 @@ module _ (F : Field) (Q : Sequences (F .ring .car)) (n h l l' : ℕ) (σ : ℕ �
 
   updated-before : Gen F Q σ' l' (n * t + h)
   updated-before =
-      gen-sub F Q σ added l' (n * t + h) (gen-longer F Q σ l l' (n * t + h) (n * t + h) gen longer (omega arith)) added-gen
+      gen-sub F Q σ added l' (n * t + h) (gen-longer F Q σ l l' (n * t + h) (n * t + h) (register .gen) longer (omega arith)) added-gen
 
   updated-here : FreshOrKept F Q l (n * t + h) h v → l' + lag h < n → disc F Q σ' h n ≡ 𝟘
   updated-here (inl r) q =
@@ -80,5 +80,8 @@ module _ (F : Field) (Q : Sequences (F .ring .car)) (n h l l' : ℕ) (σ : ℕ �
         ∙ divide-mul F (disc F Q σ h n) (v .disc) (λ z. k .fails .nonzero (sym (k .value) ∙ z)))
       ∙ add-neg (disc F Q σ h n)
 
-  pub updated-gen : Gen F Q σ' l' (suc (n * t + h))
+  updated-gen : Gen F Q σ' l' (suc (n * t + h))
   updated-gen = gen-next F Q σ' l' n h sequence updated-before (updated-here saved)
+
+  pub updated : Register F Q (reduced F σ (disc F Q σ h n ⊗ inv (v .disc)) (n - v .place) (v .taps)) l' (suc (n * t + h))
+  updated = record { one = updated-one; degree = updated-degree; gen = updated-gen }
