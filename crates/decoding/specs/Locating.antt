@@ -1,0 +1,48 @@
+-- The register of a frame, the columns that it names, and the repair of a frame at a set of columns (document 01, "A job").
+use mathlib.Core.Bool.{Bool, not, _&&_}
+use mathlib.Core.List.{List}
+use Prim.Native.Nat.{ℕ}
+use lib.Dec.{leb, ltb, eqb}
+use Rattle.columns.specs.Columns.{columnsOf}
+use Rattle.columns.specs.Listed.{count}
+use Rattle.columns.specs.declared.Columns.{Columns}
+use Rattle.field.specs.Coefficients.{value}
+use Rattle.field.specs.Residue.{inverse}
+use Rattle.frame.specs.Completion.{completed}
+use Rattle.frame.specs.Encode.{eachRow}
+use Rattle.frame.specs.Frame.{sequences}
+use Rattle.frame.specs.Powers.{locatorOf}
+use Rattle.frame.specs.Shape.{checksOf}
+use Rattle.frame.specs.declared.Shape.{Shape}
+use Rattle.lists.specs.Tabulate.{every}
+use Rattle.register.specs.Algorithm4.{found, foundAlone}
+use Rattle.register.specs.Sequences.{longest}
+
+-- the shortest register of a frame's check sums: its length c, its taps, and whether it is alone
+unfoldable pub sizeOf : Shape → (f : List ℕ) → ℕ
+sizeOf s f = found 257 (sequences s f) (longest (sequences s f)) .size
+
+unfoldable pub tapsOf : Shape → (f : List ℕ) → List ℕ
+tapsOf s f = found 257 (sequences s f) (longest (sequences s f)) .taps
+
+unfoldable pub aloneOf : Shape → (f : List ℕ) → Bool
+aloneOf s f = foundAlone 257 (sequences s f) (longest (sequences s f))
+
+-- whether every row has at least c checks
+unfoldable pub rowsReach : Shape → (c : ℕ) → Bool
+rowsReach s c = every (s .rows) (λ h. leb c (checksOf s h))
+
+-- document 01's term: column i is named by the taps σ, the inverse of its locator being a root
+unfoldable pub named : Shape → (σ : List ℕ) (i : ℕ) → Bool
+named s σ i = ltb i (s .columns) && eqb (value 257 σ (inverse 257 (locatorOf i))) 0
+
+unfoldable pub namedColumns : Shape → (σ : List ℕ) → Columns
+namedColumns s σ = columnsOf (named s σ)
+
+-- whether the taps name as many columns as the register is long
+unfoldable pub namesAll : Shape → (σ : List ℕ) (c : ℕ) → Bool
+namesAll s σ c = not (ltb (count (s .columns) (named s σ)) c)
+
+-- each row completed at the columns of the set
+unfoldable pub repaired : Shape → (J : Columns) (f : List ℕ) → List ℕ
+repaired s J f = eachRow (s .columns) (λ h. completed (s .columns) J) (s .rows) f
