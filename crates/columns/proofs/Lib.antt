@@ -1,5 +1,8 @@
 pub mod Bits
+pub mod Examples
 pub mod Least
 pub mod Listing
 pub mod Marks
+pub mod Subset
+pub mod Walk
 pub mod Words

@@ -4,13 +4,13 @@
 use mathlib.Core.Path.{_≡_, refl, sym, ap, ap₂, _∙_, subst}
 use mathlib.Core.Bool.{Bool, true, false, cond}
 use mathlib.Core.List.{List, [], _∷_, _++_, append-assoc, append-nil}
-use mathlib.Core.Logic.{_⊎_, inl, inr}
+use mathlib.Core.Logic.{_⊎_, inl, inr, _↔_}
 use Prim.Native.Nat.{ℕ, zero, suc, _+_, _≤_, _<_, zero-le}
 use native.Mathlib.Nat.{add-zero, add-suc, add-comm, add-assoc, eq-or-lt-of-le, le-dest, lt-of-not-le, not-suc-le-zero}
 use native.Mathlib.Decide.{le-ind}
 use native.Mathlib.Omega.{arith}
 use lib.Dec.{ltb}
-use lib.ListN.{length, getD, take, length-append, List·getD-append}
+use lib.ListN.{length, getD, take, length-append}
 use lib.Seq.{take-at, getD-at}
 use borrow.Author.Tests.{lt-ltb, le-ltb}
 use Rattle.columns.specs.Listed.{count, listed}
@@ -46,6 +46,15 @@ by-test true = inl refl
 by-test false = inr refl
 
 -- ---- counts
+
+pub count-le : (n : ℕ) (P : ℕ → Bool) → count n P ≤ n
+unfolding count
+count-le zero P = zero-le
+count-le (suc n) P = step (count-le n P) (by-test (P n))
+  where
+    step : count n P ≤ n → (P n ≡ true) ⊎ (P n ≡ false) → count (suc n) P ≤ suc n
+    step ih (inl e) = omega (arith, count-pass n P e)
+    step ih (inr e) = omega (arith, count-fail n P e)
 
 -- tests that agree below n count alike
 pub count-ext : (n : ℕ) (P Q : ℕ → Bool) → ((k : ℕ) → k < n → P k ≡ Q k) → count n P ≡ count n Q
@@ -169,7 +178,16 @@ pub listed-rises : (n : ℕ) (P : ℕ → Bool) (i j : ℕ) → i < j → j < co
 listed-rises n P i j h l =
     let a = entry n P i (let p : i < count n P = omega arith in p) in
     let b = entry n P j l in
-    lt-of-not-le (λ g. let z : ⊥ = omega (arith, count-mono (getD (listed n P) j 0) (getD (listed n P) i 0) P g, a .place, b .place) in z)
+    lt-of-not-le (λ g.
+    let z : ⊥ = omega (arith, count-mono (getD (listed n P) j 0) (getD (listed n P) i 0) P g, a .place, b .place) in
+    z)
+
+-- it holds exactly the numbers that pass
+pub listed-holds : (n : ℕ) (P : ℕ → Bool) (k : ℕ) → k < n → (P k ≡ true) ↔ ((j : ℕ) × (j < count n P) × (getD (listed n P) j 0 ≡ k))
+listed-holds n P k h = (
+  λ e. (count k P, count-lt k n P h e, listed-at k n P h e),
+  λ (j, l, q). subst (λ (i : ℕ). P i ≡ true) q (entry n P j l .passes),
+)
 
 -- ---- the numbers below m
 

@@ -16,10 +16,10 @@ use lib.ListN.{length, getD, List·getD-eq-default}
 use lib.Seq.{ext-getD}
 use borrow.Author.Tests.{eq-eqb, ne-eqb, lt-ltb, le-ltb}
 use Rattle.columns.specs.declared.Columns.{Columns}
-use Rattle.columns.specs.Listed.{count, listed}
+use Rattle.columns.specs.Listed.{listed}
 use Rattle.columns.specs.Columns.{bit, number, has, columnsOf, members, Sound}
 use Rattle.columns.proofs.Bits.{bit-of-zero, bit-number, number-lt, number-ext, number-bit}
-use Rattle.columns.proofs.Listing.{length-listed, count-ext, count-below, listed-ext, listed-below}
+use Rattle.columns.proofs.Listing.{listed-ext}
 
 -- from what a function is told of its parameter: `sound c (search needs) (λ w. search needs)`
 pub sound : (c : Columns) → length (c .words) ≡ 4 → ((w : ℕ) → Fits w64 (getD (c .words) w 0)) → Sound c

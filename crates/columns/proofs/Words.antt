@@ -1,9 +1,9 @@
 -- What shifts, masks, counts of ones and trailing zeros of the four words tell of the marks: the laws that the functions cite.
 -- Assumes nothing.
-use mathlib.Core.Path.{_≡_, refl, sym, ap, ap₂, _∙_, subst⁻¹}
-use mathlib.Core.Bool.{Bool, true, false, true≢false, _&&_, _||_, or-false}
+use mathlib.Core.Path.{_≡_, sym, ap, ap₂, _∙_, subst⁻¹}
+use mathlib.Core.Bool.{Bool, false, _&&_, _||_, or-false}
 use mathlib.Core.Logic.{_≢_}
-use Prim.Native.Nat.{ℕ, zero, suc, _+_, _*_, _-_, _/_, _%_, _^_, _≤_, _<_}
+use Prim.Native.Nat.{ℕ, _+_, _*_, _-_, _/_, _%_, _^_, _≤_, _<_}
 use native.Mathlib.Nat.{one-mul, pos-of-ne-zero}
 use native.Mathlib.Decide.{decLe, decLt, ℕ-discrete}
 use native.Mathlib.Omega.{arith}
@@ -161,11 +161,16 @@ found c s from at p h n =
 
     in-word : r < room
     in-word =
+        let e : room + at % 64 ≡ 64 = omega arith in
         least-lt room (left c at)
-        (shr-lt room (at % 64) (subst⁻¹ (λ (e : ℕ). getD (c .words) (at / 64) 0 < 2 ^ e) (let e : room + at % 64 ≡ 64 = omega arith in e) (s .small (at / 64))))
+        (shr-lt room (at % 64) (subst⁻¹ (λ (m : ℕ). getD (c .words) (at / 64) 0 < 2 ^ m) e (s .small (at / 64))))
         (pos-of-ne-zero n)
 
     zeros : trailingZeros 64 (left c at) ≡ r
     zeros =
         trailing-least 64 (left c at)
-        ∙ sym (least-unique 64 (bit (left c at)) r (record { within = omega (arith, in-word); before = lowest .before; here = λ l. lowest .here in-word }))
+        ∙ sym (least-unique 64 (bit (left c at)) r (record {
+          within = omega (arith, in-word);
+          before = lowest .before;
+          here = λ l. lowest .here in-word;
+        }))
