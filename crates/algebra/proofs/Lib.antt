@@ -1,3 +1,4 @@
+pub mod Completion
 pub mod Convolution
 pub mod EvalLaws
 pub mod Evaluation

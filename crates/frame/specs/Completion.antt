@@ -8,11 +8,11 @@ use lib.ListN.{length, getD}
 use Rattle.columns.specs.Columns.{has, members}
 use Rattle.columns.specs.declared.Columns.{Columns}
 use Rattle.field.specs.Coefficients.{reduced, value}
-use Rattle.field.specs.Residue.{minus, times, inverse, power, quotient}
+use Rattle.field.specs.Residue.{minus, times, inverse, quotient}
 use Rattle.field.specs.Total.{total}
 use Rattle.lists.specs.Tabulate.{tabulate}
 use Rattle.frame.specs.Frame.{checkSum}
-use Rattle.frame.specs.Powers.{locatorOf}
+use Rattle.frame.specs.Powers.{locatorOf, weight}
 
 -- the list without its entries that equal i
 unfoldable pub without : ℕ → List ℕ → List ℕ
@@ -30,13 +30,13 @@ unfoldable pub cleared : (n : ℕ) (J : Columns) (x : List ℕ) → List ℕ
 cleared n J x = tabulate n (λ i. cond (has J i) 0 (getD x i 0))
 
 -- The symbol at a column i of the set J of m columns, S being the check sums of the cleared row. With λ the locator polynomial of the other columns,
--- λ_0·S_m + .. + λ_(m−1)·S_1 leaves the part of column i alone, its symbol times X_i^m·λ(1 / X_i), since λ vanishes at the others.
+-- λ_0·S_m + .. + λ_(m−1)·S_1 leaves the part of column i alone, its symbol times its weight in S_m and λ(1 / X_i), since λ vanishes at the others.
 unfoldable pub completion : (n : ℕ) (J : Columns) (x : List ℕ) (i : ℕ) → ℕ
 completion n J x i =
     let m : ℕ = length (members J) in
     let others : List ℕ = locatorPolynomial (without i (members J)) in
     let part : ℕ = total m (λ k. getD others k 0 * checkSum n (cleared n J x) (m - k)) % 257 in
-    let scale : ℕ = times 257 (power 257 (locatorOf i) m) (value 257 others (inverse 257 (locatorOf i))) in
+    let scale : ℕ = times 257 (weight i m % 257) (value 257 others (inverse 257 (locatorOf i))) in
     minus 257 0 (quotient 257 part scale)
 
 unfoldable pub completed : (n : ℕ) (J : Columns) (x : List ℕ) → List ℕ
