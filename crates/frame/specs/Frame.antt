@@ -2,7 +2,7 @@
 -- A frame is the list of its symbols, row after row.
 use mathlib.Core.Path.{_≡_}
 use mathlib.Core.Bool.{Bool, not, _&&_}
-use mathlib.Core.List.{List, _++_}
+use mathlib.Core.List.{List, [], _∷_, _++_}
 use Prim.Native.Nat.{ℕ, suc, _+_, _-_, _*_, _%_, _≤_, _<_}
 use lib.Dec.{ltb, eqb}
 use lib.ListN.{length, getD, take, drop, replicate}
@@ -11,6 +11,7 @@ use Rattle.columns.specs.Listed.{count}
 use Rattle.columns.specs.declared.Columns.{Columns}
 use Rattle.field.specs.Total.{total}
 use Rattle.lists.specs.Tabulate.{tabulate, every, joined}
+use Rattle.refusal.specs.Order.{Test}
 use Rattle.frame.specs.Powers.{weight}
 use Rattle.frame.specs.Shape.{checksOf}
 use Rattle.frame.specs.declared.Shape.{Shape}
@@ -43,6 +44,13 @@ heldSums s f = let sums : List ℕ = joined (sequences s f) in sums ++ replicate
 pub record WellFormed (s : Shape) (f : List ℕ) : Type 0 where
   pub size : length f ≡ s .rows * s .columns
   pub symbols : (k : ℕ) → k < length f → getD f k 0 < 257
+
+-- the refusals of a frame that is not well-formed, in their order
+unfoldable pub frameTests : Shape → (f : List ℕ) → List Test
+frameTests s f =
+    record { number = 7; fails = not (eqb (length f) (s .rows * s .columns)) } ∷
+    record { number = 4; fails = not (every (length f) (λ k. ltb (getD f k 0) 257)) } ∷
+    []
 
 -- every check sum of every row is 0
 abbrev pub Codeword : Shape → (f : List ℕ) → Type 0

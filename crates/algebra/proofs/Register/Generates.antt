@@ -52,7 +52,7 @@ module _ (F : Field) (Q : Sequences (F .ring .car)) where
 
   -- one symbol further
   pub gen-next : (f : ℕ → car) (l n h : ℕ) → h < t → Gen f l (n * t + h) → (l + lag h < n → disc f h n ≡ 𝟘)
-    → Gen f l (suc (n * t + h))
+      → Gen f l (suc (n * t + h))
   gen-next f l n h sequence gen here g m hg hm q = go (decLt (m * t + g) (n * t + h))
     where
       go : Dec (m * t + g < n * t + h) → disc f g m ≡ 𝟘

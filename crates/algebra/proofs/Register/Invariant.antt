@@ -42,7 +42,7 @@ module _ (F : Field) (Q : Sequences (F .ring .car)) where
     pub pivots : Pivots F Q (st .size) s
     -- no pivot's row is after that of the register kept for its sequence
     pub row : (L : ℕ) → L < st .size
-      → pivots .position L + st .saved (pivots .sequence L) .size ≤ st .saved (pivots .sequence L) .place + L
+        → pivots .position L + st .saved (pivots .sequence L) .size ≤ st .saved (pivots .sequence L) .place + L
 
   module _ (l s h : ℕ) (v : Saved car) where
     pub saved-reach : FreshOrKept l s h v → v .size + lag h ≤ v .place

@@ -18,7 +18,7 @@ use Rattle.algebra.proofs.Register.Update.{updated}
 
 -- what is kept after a replacement
 replaced-cases : {A : Type 0} (T : Saved A → Type 0) (saved : ℕ → Saved A) (h : ℕ) (v : Saved A) (g : ℕ)
-  → (g ≡ h → T v) → (g ≢ h → T (saved g)) → T (replaced saved h v g)
+    → (g ≡ h → T v) → (g ≢ h → T (saved g)) → T (replaced saved h v g)
 unfolding replaced
 replaced-cases T saved h v g new old = go (eqb g h) refl
   where
@@ -35,37 +35,39 @@ module _ (F : Field) (Q : Sequences (F .ring .car)) where
   kept-later l l' s s' h v hl hs =
       ⊎-map (λ r. r)
       (λ k. let p : v .size < l = k .shorter in
-            let q : v .place * t + h < s = k .placed in
-            record
-            { one = k .one; degree = k .degree; fails = k .fails; value = k .value; shorter = omega arith; placed = omega arith })
+      let q : v .place * t + h < s = k .placed in
+      record
+      { one = k .one; degree = k .degree; fails = k .fails; value = k .value; shorter = omega arith; placed = omega arith })
 
   pivots-later : (l s s' : ℕ) → s ≤ s' → Pivots F Q l s → Pivots F Q l s'
   pivots-later l s s' hs P =
-      record
-      { poly = P .poly;
+      record {
+        poly = P .poly;
         position = P .position;
         sequence = P .sequence;
         one = P .one;
         degree = P .degree;
         fails = P .fails;
         placed = λ L q. omega (arith, P .placed L q);
-        apart = P .apart }
+        apart = P .apart;
+      }
 
   infixl 70 _⊗_
   -- another register of the same length, with what is kept as it was
   stays : (st : State car) (σ : ℕ → car) (s : ℕ) → Invariant F Q st s → Register F Q σ (st .size) (suc s)
-    → Invariant F Q (record { size = st .size; taps = σ; saved = st .saved }) (suc s)
+      → Invariant F Q (record { size = st .size; taps = σ; saved = st .saved }) (suc s)
   unfolding pivots-later
   stays st σ s inv register =
-      record
-      { register = register;
+      record {
+        register = register;
         saved = λ h hh. kept-later (st .size) (st .size) s (suc s) h (st .saved h) (omega arith) (omega arith) (inv .saved h hh);
         pivots = pivots-later (st .size) s (suc s) (omega arith) (inv .pivots);
-        row = inv .row }
+        row = inv .row;
+      }
 
   -- the step at (n, h) meets a discrepancy that is not 0
   module _ (n h : ℕ) (st : State car) (I : Invariant F Q st (n * t + h)) (sequence : h < t)
-    (asked : st .size + lag h < n) (nonzero : disc F Q (st .taps) h n ≢ 𝟘) where
+      (asked : st .size + lag h < n) (nonzero : disc F Q (st .taps) h n ≢ 𝟘) where
     abbrev s : ℕ
     s = n * t + h
 
@@ -108,7 +110,7 @@ module _ (F : Field) (Q : Sequences (F .ring .car)) where
       grown-sequence L = cond (ltb L l) (P .sequence L) h
 
       grown-cases : (T : (ℕ → car) → ℕ → ℕ → Type 0) (L : ℕ) → (L < l → T (P .poly L) (P .position L) (P .sequence L))
-        → (l ≤ L → T σ n h) → T (grown-poly L) (grown-position L) (grown-sequence L)
+          → (l ≤ L → T σ n h) → T (grown-poly L) (grown-position L) (grown-sequence L)
       unfolding grown-poly grown-position grown-sequence
       grown-cases T L old new = go (ltb L l) refl
         where
@@ -117,47 +119,48 @@ module _ (F : Field) (Q : Sequences (F .ring .car)) where
           go false e = new (ltb-false L l e)
 
       grown-apart : (j L : ℕ) → j < L → L < l' → grown-sequence j ≡ grown-sequence L
-        → grown-position j + L ≢ grown-position L + j
+          → grown-position j + L ≢ grown-position L + j
       grown-apart j L jL Ll =
           grown-cases (λ _ m g. g ≡ grown-sequence L → m + L ≢ grown-position L + j) j
           (λ hj. grown-cases (λ _ m g. P .sequence j ≡ g → P .position j + L ≢ m + j) L
-            (λ hL. P .apart j L jL hL)
-            (λ hL e. let r : P .position j + v .size ≤ v .place + j
-                       = subst (λ g. P .position j + st .saved g .size ≤ st .saved g .place + j) e (I .row j hj) in
-                     omega arith))
+          (λ hL. P .apart j L jL hL)
+          (λ hL e. let r : P .position j + v .size ≤ v .place + j
+          = subst (λ g. P .position j + st .saved g .size ≤ st .saved g .place + j) e (I .row j hj) in
+          omega arith))
           (λ hj. grown-cases (λ _ m g. h ≡ g → n + L ≢ m + j) L (λ hL. absurd (let z : ⊥ = omega arith in z)) (λ hL e. omega arith))
 
       grown-pivots : Pivots F Q l' (suc s)
       grown-pivots =
-          record
-          { poly = grown-poly;
+          record {
+            poly = grown-poly;
             position = grown-position;
             sequence = grown-sequence;
             one = λ L q. grown-cases (λ τ _ _. τ 0 ≡ 𝟙) L (P .one L) (λ _. I .register .one);
             degree = λ L q. grown-cases (λ τ _ _. Degree ring L τ) L (P .degree L) (λ b i r. I .register .degree i (omega arith));
             fails = λ L q. grown-cases (λ τ m g. Fails F Q τ L m g) L (P .fails L)
-              (λ b. fails-longer F Q σ l L n h fails-here b (omega (arith, saved-reach F Q l s h v kept-h)));
+                (λ b. fails-longer F Q σ l L n h fails-here b (omega (arith, saved-reach F Q l s h v kept-h)));
             placed = λ L q. grown-cases (λ _ m g. m * t + g < suc s) L (λ b. omega (arith, P .placed L b)) (λ b. omega arith);
-            apart = grown-apart }
+            apart = grown-apart;
+          }
 
       grown-row : (L : ℕ) → L < l'
-        → grown-position L + replaced (st .saved) h kept (grown-sequence L) .size
+          → grown-position L + replaced (st .saved) h kept (grown-sequence L) .size
           ≤ replaced (st .saved) h kept (grown-sequence L) .place + L
       grown-row L q =
           grown-cases (λ _ m g. m + replaced (st .saved) h kept g .size ≤ replaced (st .saved) h kept g .place + L) L
           (λ b. replaced-cases (λ x. P .position L + x .size ≤ x .place + L) (st .saved) h kept (P .sequence L)
-            (λ e. let r : P .position L + v .size ≤ v .place + L
-                       = subst (λ g. P .position L + st .saved g .size ≤ st .saved g .place + L) e (I .row L b) in
-                  omega arith)
-            (λ _. I .row L b))
+          (λ e. let r : P .position L + v .size ≤ v .place + L
+          = subst (λ g. P .position L + st .saved g .size ≤ st .saved g .place + L) e (I .row L b) in
+          omega arith)
+          (λ _. I .row L b))
           (λ b. replaced-cases (λ x. n + x .size ≤ x .place + L) (st .saved) h kept h (λ _. omega arith) (λ e. absurd (e refl)))
 
       grown-saved : (g : ℕ) → g < t → FreshOrKept F Q l' (suc s) g (replaced (st .saved) h kept g)
       grown-saved g hg =
           replaced-cases (λ x. FreshOrKept F Q l' (suc s) g x) (st .saved) h kept g
           (λ e. subst (λ x. FreshOrKept F Q l' (suc s) x kept) (sym e)
-            (inr (record
-            { one = I .register .one; degree = I .register .degree; fails = fails-here; value = refl; shorter = omega arith; placed = omega arith })))
+          (inr (record
+          { one = I .register .one; degree = I .register .degree; fails = fails-here; value = refl; shorter = omega arith; placed = omega arith })))
           (λ _. kept-later l l' s (suc s) g (st .saved g) (omega arith) (omega arith) (I .saved g hg))
 
     changed-keeps : Invariant F Q (changed F n h (disc F Q σ h n) st) (suc s)
@@ -166,18 +169,20 @@ module _ (F : Field) (Q : Sequences (F .ring .car)) where
       where
         σ' : ℕ → car
         σ' = reduced F σ (disc F Q σ h n ⊗ inv (v .disc)) (n - v .place) (v .taps)
+
         go : (b : Bool) → ltb (v .place + l) (n + v .size) ≡ b
-          → Invariant F Q (cond b
+            → Invariant F Q (cond b
             (record { size = n + v .size - v .place; taps = σ'; saved = replaced (st .saved) h kept })
             (record { size = l; taps = σ'; saved = st .saved })) (suc s)
         go true e =
             let g : v .place + l < n + v .size = ltb-true (v .place + l) (n + v .size) e in
-            record
-            { register =
-                updated F Q n h l (n + v .size - v .place) σ v sequence asked (I .register) kept-h (omega arith) (omega arith);
+            record {
+              register =
+                  updated F Q n h l (n + v .size - v .place) σ v sequence asked (I .register) kept-h (omega arith) (omega arith);
               saved = grown-saved g;
               pivots = grown-pivots g;
-              row = grown-row g }
+              row = grown-row g;
+            }
         go false e =
             let g : n + v .size ≤ v .place + l = ltb-false (v .place + l) (n + v .size) e in
             stays st σ' s I (updated F Q n h l l σ v sequence asked (I .register) kept-h (omega arith) (omega arith))
@@ -189,17 +194,21 @@ module _ (F : Field) (Q : Sequences (F .ring .car)) where
       where
         d : car
         d = disc F Q (st .taps) h n
+
         idle : (st .size + lag h < n → d ≡ 𝟘) → Invariant F Q st (suc (n * t + h))
         idle z =
-            stays st (st .taps) (n * t + h) I (record
-            { one = I .register .one;
+            stays st (st .taps) (n * t + h) I (record {
+              one = I .register .one;
               degree = I .register .degree;
-              gen = gen-next F Q (st .taps) (st .size) n h sequence (I .register .gen) z })
+              gen = gen-next F Q (st .taps) (st .size) n h sequence (I .register .gen) z;
+            })
+
         meets : st .size + lag h < n → (x : Dec (d ≡ 𝟘)) → Invariant F Q (ite x st (changed F n h d st)) (suc (n * t + h))
         meets q (yes z) = idle (λ _. z)
         meets q (no z) = changed-keeps n h st I sequence q z
+
         asks : (b : Bool) → ltb (st .size + lag h) n ≡ b
-          → Invariant F Q (cond b (ite (decide d 𝟘) st (changed F n h d st)) st) (suc (n * t + h))
+            → Invariant F Q (cond b (ite (decide d 𝟘) st (changed F n h d st)) st) (suc (n * t + h))
         asks true e = meets (ltb-true (st .size + lag h) n e) (decide d 𝟘)
         asks false e =
             let q : n ≤ st .size + lag h = ltb-false (st .size + lag h) n e in
@@ -208,30 +217,34 @@ module _ (F : Field) (Q : Sequences (F .ring .car)) where
   pub start-keeps : Invariant F Q (start F Q) (1 * t + 0)
   unfolding start unit
   start-keeps =
-      record
-      { register =
-          record
-          { one = refl;
-            degree = degree;
-            gen = λ g m hg hm q.
-              let pos : 1 ≤ m = omega arith in
-              absurd (let z : ⊥ = omega (arith, mul-le-mul-right t pos) in z) };
+      record {
+        register =
+            record {
+              one = refl;
+              degree = degree;
+              gen = λ g m hg hm q.
+                  let pos : 1 ≤ m = omega arith in
+                  absurd (let z : ⊥ = omega (arith, mul-le-mul-right t pos) in z);
+            };
         saved = λ h _. inl (record { place = refl; size = refl; taps = λ i. refl });
         pivots =
-          record
-          { poly = λ _. unit F;
-            position = λ _. 0;
-            sequence = λ _. 0;
-            one = λ L q. none L q;
-            degree = λ L q. none L q;
-            fails = λ L q. none L q;
-            placed = λ L q. none L q;
-            apart = λ j L _ q. none L q };
-        row = λ L q. none L q }
+            record {
+              poly = λ _. unit F;
+              position = λ _. 0;
+              sequence = λ _. 0;
+              one = λ L q. none L q;
+              degree = λ L q. none L q;
+              fails = λ L q. none L q;
+              placed = λ L q. none L q;
+              apart = λ j L _ q. none L q;
+            };
+        row = λ L q. none L q;
+      }
     where
       degree : Degree ring 0 (unit F)
       degree zero q = absurd (let z : ⊥ = omega arith in z)
       degree (suc i) q = refl
+
       none : {A : Type 0} (L : ℕ) → L < 0 → A
       none L q = absurd (let z : ⊥ = omega arith in z)
 

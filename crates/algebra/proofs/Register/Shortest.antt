@@ -13,7 +13,17 @@ use Rattle.algebra.proofs.RingLaws.{eq-of-sub-zero, add-cancel}
 use Rattle.algebra.proofs.Convolution.{shift-below, shift-above, shift-tail, shift-degree}
 use Rattle.algebra.proofs.Register.Places.{place-in-round, position-in-round}
 use Rattle.algebra.proofs.Register.Generates.{
-  Sequences, disc, Gen, Register, Fails, gen-longer, gen-add, gen-sub, gen-shift, fails-gen, fails-shift,
+  Sequences,
+  disc,
+  Gen,
+  Register,
+  Fails,
+  gen-longer,
+  gen-add,
+  gen-sub,
+  gen-shift,
+  fails-gen,
+  fails-shift,
 }
 use Rattle.algebra.proofs.Register.LeadingRow.{Pivots, Leading, leading}
 use Rattle.algebra.proofs.Register.Step.{Saved, State}
@@ -36,10 +46,11 @@ module _ (F : Field) (Q : Sequences (F .ring .car)) where
 
   register-generates : (f : ℕ → car) (l n : ℕ) → Register F Q f l (suc n * t + 0) → Generates f l n
   register-generates f l n r =
-      record
-      { one = r .one;
+      record {
+        one = r .one;
         degree = r .degree;
-        zero = λ h m hh hm q. r .gen h m hh hm (omega (arith, place-in-round t m n h hh q)) }
+        zero = λ h m hh hm q. r .gen h m hh hm (omega (arith, place-in-round t m n h hh q));
+      }
 
   module _ (n : ℕ) (st : State car) (I : Invariant F Q st (suc n * t + 0)) where
     abbrev l : ℕ
@@ -59,6 +70,7 @@ module _ (F : Field) (Q : Sequences (F .ring .car)) where
       where
         constant : f 0 ≢ 𝟘
         constant e = one-ne-zero (sym (G .one) ∙ e)
+
         go : ((i : ℕ) → f i ≡ 𝟘) ⊎ Leading F Q l (suc n * t + 0) P f L → ⊥
         go (inl z) = constant (z 0)
         go (inr r) =
@@ -83,13 +95,17 @@ module _ (F : Field) (Q : Sequences (F .ring .car)) where
       where
         δ : ℕ → car
         δ i = f i ⊕ neg (σ i)
+
         δ-zero : δ 0 ≡ 𝟘
         δ-zero = ap₂ (λ x y. x ⊕ neg y) (G .one) (I .register .one) ∙ add-neg 𝟙
+
         δ-gen : Gen F Q δ l (suc n * t + 0)
         δ-gen = gen-sub F Q f σ l (suc n * t + 0) (generates-gen f l n G) (I .register .gen)
+
         δ-degree : Degree ring l δ
         δ-degree i q =
             ap₂ (λ x y. x ⊕ neg y) (G .degree i q) (I .register .degree i q) ∙ add-neg 𝟘
+
         fails : (L : ℕ) → l ≡ suc L → Leading F Q l (suc n * t + 0) P (λ i. δ (suc i)) L → ⊥
         fails L e r =
             let h : ℕ = P .sequence (r .pivot) in
@@ -98,18 +114,20 @@ module _ (F : Field) (Q : Sequences (F .ring .car)) where
             let row : r .at + r .pivot ≡ P .position (r .pivot) + L = r .row in
             let asked : L + lag h < r .at = r .fails .asked in
             let kept : P .position (r .pivot) + st .saved h .size ≤ st .saved h .place + r .pivot
-              = I .row (r .pivot) (omega arith) in
+            = I .row (r .pivot) (omega arith) in
             let most : st .saved h .place ≤ st .saved h .size + max (n - l) (lag h) = alone h hh in
             let early : r .at + 1 ≤ n = omega (arith, size-le) in
             fails-gen F Q δ l (r .at + 1) h (suc n * t + 0)
             (subst₂ (λ x y. Fails F Q x y (r .at + 1) h) (fun-ext (shift-tail ring δ δ-zero)) (omega arith)
             (fails-shift F Q 1 (λ i. δ (suc i)) L (r .at) h (r .fails)))
             δ-gen (omega (arith, place-in-round t (r .at + 1) n h hh early))
+
         tail : (k : ℕ) → l ≡ k → (i : ℕ) → δ (suc i) ≡ 𝟘
         tail zero e = λ i. δ-degree (suc i) (omega arith)
         tail (suc L) e =
             ⊎-elim (λ z. z) (λ r. absurd (fails L e r))
             (leading F Q l (suc n * t + 0) P L (omega arith) (λ i. δ (suc i)) (λ i q. δ-degree (suc i) (omega arith)))
+
         equal : (i : ℕ) → f i ≡ σ i
         equal zero = G .one ∙ sym (I .register .one)
         equal (suc i) = eq-of-sub-zero ring (f (suc i)) (σ (suc i)) (tail l refl i)
@@ -126,6 +144,7 @@ module _ (F : Field) (Q : Sequences (F .ring .car)) where
       where
         v : Saved car
         v = st .saved h
+
         go : FreshOrKept F Q l (suc n * t + 0) h v → Other
         go (inl r) =
             let p : v .place ≡ lag h = r .place in let z : v .size ≡ 0 = r .size in absurd (let b : ⊥ = omega arith in b)
@@ -134,21 +153,23 @@ module _ (F : Field) (Q : Sequences (F .ring .car)) where
             let shorter : v .size < l = k .shorter in
             let late : suc n ≤ v .place + e = omega arith in
             let added : ℕ → car = shift ring e (v .taps) in
-            record
-            { taps = λ i. σ i ⊕ added i;
+            record {
+              taps = λ i. σ i ⊕ added i;
               generates =
-                register-generates (λ i. σ i ⊕ added i) l n (record
-                { one = ap₂ _⊕_ (I .register .one) (shift-below ring e (v .taps) 0 (omega arith)) ∙ add-zero 𝟙;
-                  degree = λ i b.
-                    ap₂ _⊕_ (I .register .degree i b) (shift-degree ring e (v .size) (v .taps) (k .degree) i (omega arith))
-                    ∙ add-zero 𝟘;
-                  gen =
-                    gen-add F Q σ added l (suc n * t + 0) (I .register .gen)
-                    (gen-longer F Q added (v .size + e) l (v .place * t + h + e * t) (suc n * t + 0)
-                    (gen-shift F Q e (v .taps) (v .size) (v .place * t + h) (k .fails .before)) (omega arith)
-                    (omega (arith, mul-le-mul-right t late, add-mul (v .place) e t))) });
+                  register-generates (λ i. σ i ⊕ added i) l n (record {
+                    one = ap₂ _⊕_ (I .register .one) (shift-below ring e (v .taps) 0 (omega arith)) ∙ add-zero 𝟙;
+                    degree = λ i b.
+                        ap₂ _⊕_ (I .register .degree i b) (shift-degree ring e (v .size) (v .taps) (k .degree) i (omega arith))
+                        ∙ add-zero 𝟘;
+                    gen =
+                        gen-add F Q σ added l (suc n * t + 0) (I .register .gen)
+                        (gen-longer F Q added (v .size + e) l (v .place * t + h + e * t) (suc n * t + 0)
+                        (gen-shift F Q e (v .taps) (v .size) (v .place * t + h) (k .fails .before)) (omega arith)
+                        (omega (arith, mul-le-mul-right t late, add-mul (v .place) e t)));
+                  });
               index = e;
               differs = λ z.
-                one-ne-zero
-                (sym (shift-above ring e (v .taps) e (omega arith) ∙ ap (v .taps) (sub-self e) ∙ k .one)
-                ∙ add-cancel ring (σ e) (added e) 𝟘 (z ∙ sym (add-zero (σ e)))) }
+                  one-ne-zero
+                  (sym (shift-above ring e (v .taps) e (omega arith) ∙ ap (v .taps) (sub-self e) ∙ k .one)
+                  ∙ add-cancel ring (σ e) (added e) 𝟘 (z ∙ sym (add-zero (σ e))));
+            }

@@ -16,9 +16,9 @@ use Rattle.algebra.proofs.Register.Step.{Saved, reduced}
 use Rattle.algebra.proofs.Register.Invariant.{FreshOrKept, saved-degree, saved-gen, saved-before}
 
 module _ (F : Field) (Q : Sequences (F .ring .car)) (n h l l' : ℕ) (σ : ℕ → F .ring .car) (v : Saved (F .ring .car))
-  (sequence : h < Q .count) (asked : l + Q .lag h < n)
-  (register : Register F Q σ l (n * Q .count + h)) (saved : FreshOrKept F Q l (n * Q .count + h) h v)
-  (longer : l ≤ l') (enough : n + v .size ≤ l' + v .place) where
+    (sequence : h < Q .count) (asked : l + Q .lag h < n)
+    (register : Register F Q σ l (n * Q .count + h)) (saved : FreshOrKept F Q l (n * Q .count + h) h v)
+    (longer : l ≤ l') (enough : n + v .size ≤ l' + v .place) where
   open Field F using (ring, inv)
   open CRing (F .ring) using (car, zero as 𝟘, one as 𝟙, add as _⊕_, mul as _⊗_, neg, add-zero, add-neg)
   open Sequences Q using (count as t, lag, symbol)
@@ -73,11 +73,11 @@ module _ (F : Field) (Q : Sequences (F .ring .car)) (n h l l' : ℕ) (σ : ℕ �
   updated-here (inr k) q =
       conv-sub ring σ added (symbol h) n
       ∙ ap (λ x. disc F Q σ h n ⊕ neg x)
-        (conv-mul ring c (shift ring e (v .taps)) (symbol h) n
-        ∙ ap (λ x. c ⊗ x)
-          (conv-shift ring e (v .taps) (symbol h) n (omega arith)
-          ∙ ap (disc F Q (v .taps) h) (let p : n - e ≡ v .place = omega (arith, before) in p) ∙ sym (k .value))
-        ∙ divide-mul F (disc F Q σ h n) (v .disc) (λ z. k .fails .nonzero (sym (k .value) ∙ z)))
+      (conv-mul ring c (shift ring e (v .taps)) (symbol h) n
+      ∙ ap (λ x. c ⊗ x)
+      (conv-shift ring e (v .taps) (symbol h) n (omega arith)
+      ∙ ap (disc F Q (v .taps) h) (let p : n - e ≡ v .place = omega (arith, before) in p) ∙ sym (k .value))
+      ∙ divide-mul F (disc F Q σ h n) (v .disc) (λ z. k .fails .nonzero (sym (k .value) ∙ z)))
       ∙ add-neg (disc F Q σ h n)
 
   updated-gen : Gen F Q σ' l' (suc (n * t + h))

@@ -1,0 +1,95 @@
+-- What each call on a job answers and leaves, for every job and everything lent (document 01, "A job" and the orders of its refusals).
+use mathlib.Core.Bool.{Bool, not}
+use mathlib.Core.List.{List, [], _∷_, _++_}
+use Prim.Native.Nat.{ℕ}
+use lib.Dec.{eqb}
+use lib.ListN.{getD}
+use Rattle.columns.specs.declared.Columns.{Columns}
+use Rattle.decoding.specs.Locating.{sizeOf, tapsOf, aloneOf, rowsReach, namesAll, namedColumns, repaired}
+use Rattle.frame.specs.Encode.{encoded, encodeTests}
+use Rattle.frame.specs.Frame.{heldSums, frameTests}
+use Rattle.frame.specs.Shape.{shapeOf, shapeTests}
+use Rattle.lists.specs.Tabulate.{every}
+use Rattle.refusal.specs.Order.{Test, firstOf}
+use Rattle.link.specs.Job.{noColumns, shapedJob, locatedJob, isEmpty, isLocatedPhase, lengthOf}
+use Rattle.link.specs.declared.Job.{Job}
+
+-- the calls, with what is lent
+pub data Call : Type 0 where
+  shape : (n : ℕ) (checks : List ℕ) → Call
+  encode : (frame : List ℕ) → Call
+  locate : (frame : List ℕ) → Call
+  repair : (frame : List ℕ) → Call
+
+-- done; the number of columns to mend or mended; or the number of a refusal
+pub data Answer : Type 0 where
+  done : Answer
+  columns : ℕ → Answer
+  refused : ℕ → Answer
+
+-- what a call answers, the set of columns beside the answer, the job and the lent frame as it leaves them (no frame is lent to shape: `[]`)
+pub record Outcome : Type 0 where
+  pub answer : Answer
+  pub marks : Columns
+  pub job : Job
+  pub frame : List ℕ
+
+-- a refusal leaves the job j and the frame f
+abbrev pub refusing : Job → (f : List ℕ) (k : ℕ) → Outcome
+refusing j f k = record { answer = refused k; marks = noColumns; job = j; frame = f }
+
+unfoldable pub shapeCall : Job → (n : ℕ) (checks : List ℕ) → Outcome
+shapeCall j n checks =
+    firstOf (refusing j []) (shapeTests n checks)
+    (record { answer = done; marks = noColumns; job = shapedJob (shapeOf n checks); frame = [] })
+
+-- refusal 21, which stands first in the orders of the other calls
+abbrev pub emptyTest : Job → Test
+emptyTest j = record { number = 21; fails = isEmpty j }
+
+unfoldable pub encodeCall : Job → (f : List ℕ) → Outcome
+encodeCall j f =
+    firstOf (refusing j f) (emptyTest j ∷ encodeTests (j .shape) f)
+    (record { answer = done; marks = noColumns; job = j; frame = encoded (j .shape) f })
+
+-- the refusals 24, 25, 26 of a well-formed frame
+unfoldable pub registerTests : Job → (f : List ℕ) → List Test
+registerTests j f =
+    let s = j .shape in
+    record { number = 24; fails = not (aloneOf s f) } ∷
+    record { number = 25; fails = not (rowsReach s (sizeOf s f)) } ∷
+    record { number = 26; fails = not (namesAll s (tapsOf s f) (sizeOf s f)) } ∷
+    []
+
+-- after 24, 25, 26 the job is shaped
+unfoldable pub locateCall : Job → (f : List ℕ) → Outcome
+locateCall j f =
+    let s = j .shape in
+    let J : Columns = namedColumns s (tapsOf s f) in
+    firstOf (refusing j f) (emptyTest j ∷ frameTests s f)
+    (firstOf (refusing (shapedJob s) f) (registerTests j f)
+    (record {
+      answer = columns (sizeOf s f);
+      marks = J;
+      job = locatedJob s (sizeOf s f) (heldSums s f) (tapsOf s f) J;
+      frame = f;
+    }))
+
+-- whether two lists of held sums are the same
+unfoldable pub sameSums : (a b : List ℕ) → Bool
+sameSums a b = every 512 (λ k. eqb (getD a k 0) (getD b k 0))
+
+unfoldable pub repairCall : Job → (f : List ℕ) → Outcome
+repairCall j f =
+    let s = j .shape in
+    let J : Columns = j .findings .columns in
+    firstOf (refusing j f)
+    (emptyTest j ∷ record { number = 22; fails = not (isLocatedPhase (j .phase)) } ∷
+    (frameTests s f ++ (record { number = 23; fails = not (sameSums (heldSums s f) (j .findings .sums)) } ∷ [])))
+    (record { answer = columns (lengthOf (j .phase)); marks = J; job = shapedJob s; frame = repaired s J f })
+
+unfoldable pub step : Job → Call → Outcome
+step j (shape n checks) = shapeCall j n checks
+step j (encode f) = encodeCall j f
+step j (locate f) = locateCall j f
+step j (repair f) = repairCall j f

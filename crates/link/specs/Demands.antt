@@ -1,0 +1,98 @@
+-- What is owed of a job: demand 1 for its four calls, and demand 3 about every list of calls. Proved in proofs/Demands.antt.
+use mathlib.Core.Path.{_≡_}
+use mathlib.Core.Logic.{_⊎_, _↔_}
+use mathlib.Core.Bool.{Bool, true, false}
+use mathlib.Core.List.{List, [], _∷_, _++_}
+use mathlib.Core.Option.{Option, none, some}
+use Prim.Native.Nat.{ℕ, _*_, _≤_, _<_}
+use lib.ListN.{length, getD}
+use Rattle.columns.specs.declared.Columns.{Columns}
+use Rattle.frame.specs.Frame.{WellFormed, Legal, sequences, heldSums, distance, differing, cell}
+use Rattle.frame.specs.Shape.{checksOf, shapeOf, shapeTests}
+use Rattle.frame.specs.declared.Shape.{Shape}
+use Rattle.refusal.specs.Order.{Reason, First, firstOf}
+use Rattle.register.specs.Register.{Generator, Shortest, Alone}
+use Rattle.link.specs.Calls.{Call, shape, encode, locate, repair, Answer, columns, refused, Outcome, step}
+use Rattle.link.specs.Job.{emptyJob, shapedJob, isEmpty, isLocatedPhase, sound, nothing}
+use Rattle.link.specs.declared.Job.{Job}
+
+-- the job after a list of calls, each on the job that the call before it returned or left
+unfoldable pub runFrom : Job → List Call → Job
+runFrom j [] = j
+runFrom j (c ∷ cs) = runFrom (step j c .job) cs
+
+-- the job after a list of calls, the first on an empty job
+abbrev pub run : List Call → Job
+run calls = runFrom emptyJob calls
+
+-- The shape of the last shape call that is not refused, or the one given where there is none. Whether a shape call is refused does not depend on the job.
+unfoldable pub lastShapeFrom : Option Shape → List Call → Option Shape
+lastShapeFrom s [] = s
+lastShapeFrom s (shape n checks ∷ cs) = lastShapeFrom (firstOf (λ k. s) (shapeTests n checks) (some (shapeOf n checks))) cs
+lastShapeFrom s (encode f ∷ cs) = lastShapeFrom s cs
+lastShapeFrom s (locate f ∷ cs) = lastShapeFrom s cs
+lastShapeFrom s (repair f ∷ cs) = lastShapeFrom s cs
+
+abbrev pub lastShape : List Call → Option Shape
+lastShape calls = lastShapeFrom none calls
+
+-- Demand 3, first part. A repair of the frame f that answers c leaves a legal frame; c is its distance from f, the marked columns are those that this
+-- distance counts, and every other legal frame lies farther from f.
+pub record Mended (s : Shape) (f : List ℕ) (c : ℕ) (after : Outcome) : Type 0 where
+  pub legal : Legal s (after .frame)
+  pub count : distance s (after .frame) f ≡ c
+  pub marks : after .marks ≡ differing s (after .frame) f
+  pub nearest : (g : List ℕ) → Legal s g → (g ≡ after .frame → ⊥) → c < distance s g f
+
+abbrev pub RepairMends : Type 0
+RepairMends =
+    (calls : List Call) (f : List ℕ) (c : ℕ) → step (run calls) (repair f) .answer ≡ columns c →
+    (s : Shape) × (lastShape calls ≡ some s) × Mended s f c (step (run calls) (repair f))
+
+-- a legal frame lies at distance c from f
+abbrev pub LegalAt : Shape → (f : List ℕ) (c : ℕ) → Type 0
+LegalAt s f c = (g : List ℕ) × Legal s g × (distance s g f ≡ c)
+
+abbrev pub IsRefused : Outcome → Type 0
+IsRefused o = (k : ℕ) × (o .answer ≡ refused k)
+
+-- Demand 3, second part. Locating a well-formed frame whose shortest register, of length c, is alone, with no row having fewer checks than c, is
+-- refused exactly when no legal frame lies at distance c.
+abbrev pub LocateExact : Type 0
+LocateExact =
+    (calls : List Call) (s : Shape) (f : List ℕ) (c : ℕ) (σ : List ℕ) → lastShape calls ≡ some s → WellFormed s f →
+    Shortest 257 c (sequences s f) σ → Alone 257 c (sequences s f) σ → ((h : ℕ) → h < s .rows → c ≤ checksOf s h) →
+    IsRefused (step (run calls) (locate f)) ↔ (LegalAt s f c → ⊥)
+
+-- an encode, or a call refused by another number than 24, 25, 26
+abbrev pub IsEncode : Call → Type 0
+IsEncode (shape n checks) = ⊥
+IsEncode (encode f) = Unit {0}
+IsEncode (locate f) = ⊥
+IsEncode (repair f) = ⊥
+
+abbrev pub RefusedEarly : Outcome → Type 0
+RefusedEarly o = (k : ℕ) × (o .answer ≡ refused k) × (k ≡ 24 → ⊥) × (k ≡ 25 → ⊥) × (k ≡ 26 → ⊥)
+
+-- calls from the job j on that are encodes or refused so
+abbrev pub Between : Job → List Call → Type 0
+Between j [] = Unit {0}
+Between j (c ∷ cs) = (IsEncode c ⊎ RefusedEarly (step j c)) × Between (step j c .job) cs
+
+-- Demand 3, third part. A legal frame g was sent, and f is what damage made of it: well-formed, and at most half the smallest check count of columns altered.
+-- Then locating f is not refused, nor is a later repair of f with nothing between them but encodes and calls refused early; the repair leaves g.
+pub record Recovered (before between : List Call) (f g : List ℕ) : Type 0 where
+  pub located : IsRefused (step (run before) (locate f)) → ⊥
+  pub mended : IsRefused (step (run (before ++ (locate f ∷ between))) (repair f)) → ⊥
+  pub frame : step (run (before ++ (locate f ∷ between))) (repair f) .frame ≡ g
+
+abbrev pub DamageMended : Type 0
+DamageMended =
+    (before between : List Call) (s : Shape) (f g : List ℕ) → lastShape before ≡ some s → Legal s g → WellFormed s f →
+    ((h : ℕ) → h < s .rows → 2 * distance s g f ≤ checksOf s h) → Between (run (before ++ (locate f ∷ []))) between →
+    Recovered before between f g
+
+pub record Demand3 : Type 0 where
+  pub repair-mends : RepairMends
+  pub locate-exact : LocateExact
+  pub damage-mended : DamageMended
