@@ -1,11 +1,11 @@
 -- The definitions compute: columns 2, 63, 64 and 255 as words, as a list, and the next of them.
 -- Assumes nothing.
 use mathlib.Core.Path.{_≡_, refl}
-use mathlib.Core.Bool.{Bool, true, false, _&&_, _||_}
-use mathlib.Core.List.{List, [], _∷_}
+use mathlib.Core.Bool.{Bool, _&&_, _||_}
+use mathlib.Core.List.{[], _∷_}
 use Prim.Native.Nat.{ℕ}
 use lib.Dec.{eqb, leb}
-use Rattle.columns.specs.Listed.{count, listed, least}
+use Rattle.columns.specs.Listed.{listed, least}
 use Rattle.columns.specs.Columns.{number, has, columnsOf, members}
 
 abbrev four : ℕ → Bool
