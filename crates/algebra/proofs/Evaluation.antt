@@ -2,7 +2,8 @@
 -- polynomial's value at the inverse of its base. So a polynomial that vanishes at these inverses generates the sequence.
 -- Power sums from another exponent on are power sums with other weights: e i · X i ^ b for e i.
 -- Assumes nothing.
-use mathlib.Core.Path.{_≡_, refl, sym, ap, ap₂, _∙_}
+use mathlib.Core.Path.{_≡_, refl, sym, ap, _∙_}
+use mathlib.Core.List.{[], _∷_}
 use Prim.Native.Nat.{ℕ, suc, _+_, _-_, _≤_, _<_}
 use native.Mathlib.Omega.{arith}
 use Rattle.algebra.specs.Ring.{CRing}
@@ -11,10 +12,11 @@ use Rattle.algebra.specs.Polynomial.{Degree, conv, eval}
 use Rattle.algebra.proofs.Sums.{sum-ext, sum-zeros, sum-mul, sum-swap}
 use Rattle.algebra.proofs.RingLaws.{mul-zero, zero-mul}
 use Rattle.algebra.proofs.Powers.{pow-add, pow-mul, pow-one}
+use Rattle.algebra.proofs.Solver.{_:·_, _:=_, solve}
 use Rattle.algebra.proofs.Convolution.{conv-degree}
 
 module _ (R : CRing) where
-  open CRing R using (car, zero as 𝟘, one as 𝟙, mul as _⊗_, mul-assoc, mul-comm, mul-one)
+  open CRing R using (car, zero as 𝟘, one as 𝟙, mul as _⊗_, mul-assoc, mul-one)
 
   infixl 70 _⊗_
   pub eval-sum : (l : ℕ) (f : ℕ → car) (x : car) → eval R l f x ≡ sum R (suc l) (λ i. f i ⊗ pow R x i)
@@ -30,14 +32,6 @@ module _ (R : CRing) where
       ∙ sym (mul-assoc (pow R x (j - k)) (pow R x k) (pow R y k))
       ∙ ap (λ z. z ⊗ pow R y k)
       (sym (pow-add R x (j - k) k) ∙ ap (pow R x) (let q : j - k + k ≡ j = omega arith in q))
-
-  regroup : (a e x y : car) → a ⊗ (e ⊗ (x ⊗ y)) ≡ (e ⊗ x) ⊗ (a ⊗ y)
-  regroup a e x y =
-      mul-comm a (e ⊗ (x ⊗ y)) ∙ ap (λ z. z ⊗ a) (sym (mul-assoc e x y)) ∙ mul-assoc (e ⊗ x) y a
-      ∙ ap (λ z. (e ⊗ x) ⊗ z) (mul-comm y a)
-
-  rotate : (e x v : car) → (e ⊗ x) ⊗ v ≡ e ⊗ v ⊗ x
-  rotate e x v = mul-assoc e x v ∙ ap (λ z. e ⊗ z) (mul-comm x v) ∙ sym (mul-assoc e v x)
 
   module _ (m l : ℕ) (e X Y f S : ℕ → car) (inverse : (i : ℕ) → i < m → X i ⊗ Y i ≡ 𝟙) (degree : Degree R l f)
       (j : ℕ) (long : l ≤ j) (sums : (k : ℕ) → j ≤ k + l → k ≤ j → S k ≡ sum R m (λ i. e i ⊗ pow R (X i) k)) where
@@ -55,7 +49,7 @@ module _ (R : CRing) where
             → f k ⊗ (e i ⊗ pow R (X i) (j - k)) ≡ (e i ⊗ pow R (X i) j) ⊗ (f k ⊗ pow R (Y i) k)
         term i k h g =
             ap (λ z. f k ⊗ (e i ⊗ z)) (pow-sub (X i) (Y i) (inverse i h) j k (omega arith))
-            ∙ regroup (f k) (e i) (pow R (X i) j) (pow R (Y i) k)
+            ∙ solve R (f k ∷ e i ∷ pow R (X i) j ∷ pow R (Y i) k ∷ []) (λ a c x y. a :· (c :· (x :· y)) := (c :· x) :· (a :· y)) tt
 
         column : (i : ℕ) → i < m
             → sum R (suc l) (λ k. f k ⊗ (e i ⊗ pow R (X i) (j - k))) ≡ e i ⊗ eval R l f (Y i) ⊗ pow R (X i) j
@@ -64,7 +58,7 @@ module _ (R : CRing) where
             (λ k. (e i ⊗ pow R (X i) j) ⊗ (f k ⊗ pow R (Y i) k)) (λ k g. term i k h g)
             ∙ sum-mul R (suc l) (e i ⊗ pow R (X i) j) (λ k. f k ⊗ pow R (Y i) k)
             ∙ ap (λ z. (e i ⊗ pow R (X i) j) ⊗ z) (sym (eval-sum l f (Y i)))
-            ∙ rotate (e i) (pow R (X i) j) (eval R l f (Y i))
+            ∙ solve R (e i ∷ pow R (X i) j ∷ eval R l f (Y i) ∷ []) (λ c x a. (c :· x) :· a := c :· a :· x) tt
 
     pub roots-generate : ((i : ℕ) → i < m → eval R l f (Y i) ≡ 𝟘) → conv R f S j ≡ 𝟘
     roots-generate root =

@@ -1,9 +1,10 @@
 -- The theory of the shortest register that generates several sequences, over an abstract field.
-pub mod Places
 pub mod Generates
-pub mod LeadingRow
-pub mod Step
+pub mod Growth
 pub mod Invariant
-pub mod Update
+pub mod LeadingRow
+pub mod Places
 pub mod Preserved
 pub mod Shortest
+pub mod Step
+pub mod Update

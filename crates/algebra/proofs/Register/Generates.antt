@@ -2,7 +2,7 @@
 -- that place which length l asks for. It fails at a symbol where it generates up to that symbol and its product there is not 0.
 -- Both are kept by multiples, by a shift (length and place grow with it), and failing by adding what generates further.
 -- Assumes nothing.
-use mathlib.Core.Path.{_≡_, refl, sym, ap, ap₂, subst₂, _∙_}
+use mathlib.Core.Path.{_≡_, sym, ap, ap₂, subst₂, _∙_}
 use mathlib.Core.Logic.{_≢_}
 use Prim.Native.Nat.{ℕ, suc, _+_, _-_, _*_, _≤_, _<_}
 use native.Mathlib.Nat.{add-mul}

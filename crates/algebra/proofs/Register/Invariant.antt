@@ -1,14 +1,14 @@
 -- What holds of Algorithm 4's state before the symbol at place s is read: its register generates up to s; what is kept for each
 -- sequence is as at the start, or is a register that failed there; and there are pivots for all lengths below the register's.
 -- Assumes nothing.
-use mathlib.Core.Path.{_≡_, refl, sym, ap, _∙_}
-use mathlib.Core.Logic.{_⊎_, inl, inr}
-use Prim.Native.Nat.{ℕ, _+_, _*_, _≤_, _<_}
+use mathlib.Core.Path.{_≡_, refl}
+use mathlib.Core.Logic.{_⊎_, inl, inr, ⊎-map}
+use Prim.Native.Nat.{ℕ, zero, suc, _+_, _*_, _≤_, _<_, max}
 use native.Mathlib.Omega.{arith}
 use Rattle.algebra.specs.Ring.{CRing, Field}
 use Rattle.algebra.specs.Polynomial.{Degree}
 use Rattle.algebra.proofs.Convolution.{conv-zero}
-use Rattle.algebra.proofs.Register.Places.{position-lt}
+use Rattle.algebra.proofs.Register.Places.{position-lt, position-in-round}
 use Rattle.algebra.proofs.Register.Generates.{Sequences, disc, Gen, Register, Fails}
 use Rattle.algebra.proofs.Register.LeadingRow.{Pivots}
 use Rattle.algebra.proofs.Register.Step.{Saved, State}
@@ -61,7 +61,34 @@ module _ (F : Field) (Q : Sequences (F .ring .car)) where
     saved-size (inl r) = let z : v .size ≡ 0 = r .size in omega arith
     saved-size (inr k) = let p : v .size < l = k .shorter in omega arith
 
+  pub saved-later : (l l' s s' h : ℕ) (v : Saved car) → l ≤ l' → s ≤ s' → FreshOrKept l s h v → FreshOrKept l' s' h v
+  saved-later l l' s s' h v hl hs =
+      ⊎-map (λ r. r)
+      (λ k. let p : v .size < l = k .shorter in
+      let q : v .place * t + h < s = k .placed in
+      record
+      { one = k .one; degree = k .degree; fails = k .fails; value = k .value; shorter = omega arith; placed = omega arith })
+
   -- what is kept for h was kept before round n, at the step (n, h) if that asks for its symbol
   pub saved-before : (l n h : ℕ) (v : Saved car) → h < t → l + lag h < n → FreshOrKept l (n * t + h) h v → v .place < n
   saved-before l n h v hh q (inl r) = let p : v .place ≡ lag h = r .place in omega arith
   saved-before l n h v hh q (inr k) = position-lt t (v .place) n h hh (k .placed)
+
+  -- bounds in round n
+  pub saved-place : (l s n h : ℕ) (v : Saved car) → s ≤ suc n * t → FreshOrKept l s h v → v .place ≤ max n (lag h)
+  saved-place l s n h v q (inl r) = let p : v .place ≡ lag h = r .place in omega arith
+  saved-place l s n h v q (inr k) =
+      omega (arith, position-in-round t (v .place) n h (omega (arith, k .placed)))
+
+  pub size-le : (s n : ℕ) (st : State car) → s ≤ suc n * t → Invariant st s → st .size ≤ n
+  size-le s n st q I = go (st .size) refl
+    where
+      P : Pivots F Q (st .size) s
+      P = I .pivots
+
+      go : (l : ℕ) → st .size ≡ l → l ≤ n
+      go zero e = omega arith
+      go (suc L) e =
+          let below : L < st .size = omega arith in
+          omega
+          (arith, P .fails L below .asked, position-in-round t (P .position L) n (P .sequence L) (omega (arith, P .placed L below)))

@@ -5,20 +5,22 @@
 -- Assumes nothing.
 use mathlib.Core.Path.{_≡_, refl, sym, ap, ap₂, subst, fun-ext, _∙_}
 use mathlib.Core.Logic.{_≢_, _⊎_, inl, inr, ⊎-map}
-use Prim.Native.Nat.{ℕ, zero, suc, _+_, _-_, _*_, _≤_, _<_}
+use mathlib.Core.List.{[], _∷_}
+use Prim.Native.Nat.{ℕ, zero, suc, _+_, _*_, _≤_, _<_}
 use native.Mathlib.Decide.{decLt}
 use native.Mathlib.Numerals.{add-one}
 use native.Mathlib.Omega.{arith}
 use Rattle.algebra.specs.Ring.{CRing, Field}
 use Rattle.algebra.specs.Polynomial.{Degree, shift}
 use Rattle.algebra.proofs.RingLaws.{neg-zero, mul-zero, zero-mul, zero-add}
+use Rattle.algebra.proofs.Solver.{_:+_, _:-_, _:=_, solve}
 use Rattle.algebra.proofs.Convolution.{shift-below, shift-tail, shift-zeros}
 use Rattle.algebra.proofs.Register.Places.{same-position, same-sequence}
-use Rattle.algebra.proofs.Register.Generates.{Sequences, Gen, Fails, gen-longer, fails-mul, fails-add, fails-shift}
+use Rattle.algebra.proofs.Register.Generates.{Sequences, Fails, gen-longer, fails-mul, fails-add, fails-shift}
 
 module _ (F : Field) (Q : Sequences (F .ring .car)) where
   open Field F using (ring, decide)
-  open CRing (F .ring) using (car, zero as 𝟘, one as 𝟙, add as _⊕_, mul as _⊗_, neg, add-zero, add-neg, add-comm, add-assoc, mul-one)
+  open CRing (F .ring) using (car, zero as 𝟘, one as 𝟙, add as _⊕_, mul as _⊗_, neg, add-zero, add-neg, add-comm, mul-one)
   open Sequences Q using (count as t)
 
   infixl 60 _⊕_
@@ -44,11 +46,7 @@ module _ (F : Field) (Q : Sequences (F .ring .car)) where
       sym (ap (λ x. f 0 ⊗ τ i ⊕ x)
       (shift-tail ring (λ j. f j ⊕ neg (f 0 ⊗ τ j))
       (ap (λ x. f 0 ⊕ neg x) (ap (λ x. f 0 ⊗ x) one ∙ mul-one (f 0)) ∙ add-neg (f 0)) i)
-      ∙ add-sub-cancel (f 0 ⊗ τ i) (f i))
-    where
-      add-sub-cancel : (a b : car) → a ⊕ (b ⊕ neg a) ≡ b
-      add-sub-cancel a b =
-          ap (λ x. a ⊕ x) (add-comm b (neg a)) ∙ sym (add-assoc a (neg a) b) ∙ ap (λ x. x ⊕ b) (add-neg a) ∙ zero-add ring b
+      ∙ solve ring (f 0 ⊗ τ i ∷ f i ∷ []) (λ a b. a :+ (b :- a) := b) tt)
 
   rest-zero : (f τ : ℕ → car) (i : ℕ) → f (suc i) ≡ 𝟘 → τ (suc i) ≡ 𝟘 → rest f τ i ≡ 𝟘
   unfolding rest

@@ -27,7 +27,7 @@ use Rattle.algebra.proofs.Register.Generates.{
 }
 use Rattle.algebra.proofs.Register.LeadingRow.{Pivots, Leading, leading}
 use Rattle.algebra.proofs.Register.Step.{Saved, State}
-use Rattle.algebra.proofs.Register.Invariant.{FreshOrKept, Invariant}
+use Rattle.algebra.proofs.Register.Invariant.{FreshOrKept, Invariant, size-le}
 
 module _ (F : Field) (Q : Sequences (F .ring .car)) where
   open Field F using (ring, one-ne-zero)
@@ -77,16 +77,6 @@ module _ (F : Field) (Q : Sequences (F .ring .car)) where
             fails-gen F Q f L (r .at) (P .sequence (r .pivot)) (suc n * t + 0) (r .fails) (generates-gen f L n G)
             (omega (arith, r .early constant, P .placed L below))
 
-    pub size-le : l ≤ n
-    size-le = go l refl
-      where
-        go : (k : ℕ) → l ≡ k → k ≤ n
-        go zero e = omega arith
-        go (suc L) e =
-            let below : L < l = omega arith in
-            omega
-            (arith, P .fails L below .asked, position-in-round t (P .position L) n (P .sequence L) (omega (arith, P .placed L below)))
-
     abbrev pub Alone : Type 0
     Alone = (h : ℕ) → h < t → st .saved h .place ≤ st .saved h .size + max (n - l) (lag h)
 
@@ -116,7 +106,7 @@ module _ (F : Field) (Q : Sequences (F .ring .car)) where
             let kept : P .position (r .pivot) + st .saved h .size ≤ st .saved h .place + r .pivot
             = I .row (r .pivot) (omega arith) in
             let most : st .saved h .place ≤ st .saved h .size + max (n - l) (lag h) = alone h hh in
-            let early : r .at + 1 ≤ n = omega (arith, size-le) in
+            let early : r .at + 1 ≤ n = omega (arith, size-le F Q (suc n * t + 0) n st (omega arith) I) in
             fails-gen F Q δ l (r .at + 1) h (suc n * t + 0)
             (subst₂ (λ x y. Fails F Q x y (r .at + 1) h) (fun-ext (shift-tail ring δ δ-zero)) (omega arith)
             (fails-shift F Q 1 (λ i. δ (suc i)) L (r .at) h (r .fails)))

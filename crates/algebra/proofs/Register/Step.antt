@@ -1,6 +1,5 @@
 -- Algorithm 4 of Schmidt and Sidorenko over an abstract field: its state, one step, a round, and all rounds up to n.
 -- A polynomial is a function of its index, so that nothing need be said of lists; the names are those of crate register.
-use mathlib.Core.Path.{_≡_}
 use mathlib.Core.Bool.{cond}
 use mathlib.Core.Logic.{ite}
 use Prim.Native.Nat.{ℕ, zero, suc, _+_, _-_}

@@ -1,7 +1,7 @@
 -- The update of Algorithm 4: σ − (d / d_h)·x^(n − n_h)·σ^h generates through the symbol at (n, h), with each length that is
 -- at least l and n − (n_h − l_h). One statement serves the growing and the staying length.
 -- Assumes nothing.
-use mathlib.Core.Path.{_≡_, refl, sym, ap, _∙_}
+use mathlib.Core.Path.{_≡_, sym, ap, _∙_}
 use mathlib.Core.Logic.{inl, inr}
 use Prim.Native.Nat.{ℕ, suc, _+_, _-_, _*_, _≤_, _<_}
 use native.Mathlib.Nat.{add-mul}
