@@ -13,7 +13,7 @@ use Rattle.register.specs.Algorithm4.{Saved, State, start, replaced, ste
 use Rattle.register.specs.Register.{discrepancy}
 use Rattle.register.specs.Sequences.{symbol}
 use Rattle.register.proofs.Cases.{cond-cases, grown, stayed, changed-cases, step-cases}
-use Rattle.register.proofs.Reduced.{length-reduced, reduced-residues}
+use Rattle.register.proofs.Coefficients.{length-reduced, reduced-residues}
 
 -- the state in or after round n of N
 pub record Bounded (p N : ℕ) (ss : List (List ℕ)) (n : ℕ) (st : State) : Type 0 where

@@ -1,4 +1,10 @@
+pub mod Abstract
+pub mod Aligned
 pub mod Bounds
 pub mod Cases
+pub mod Coefficients
+pub mod EachRound
+pub mod FieldStep
+pub mod Generators
 pub mod Ordering
-pub mod Reduced
+pub mod Polynomials
