@@ -1,20 +1,21 @@
--- What is owed of a job: demand 1 for its four calls, and demand 3 about every list of calls. Proved in proofs/Demands.antt.
+-- Demand 3, about every list of calls on one job from an empty one. Proved in proofs/Demands.antt.
 use mathlib.Core.Path.{_≡_}
 use mathlib.Core.Logic.{_⊎_, _↔_}
-use mathlib.Core.Bool.{Bool, true, false}
+use mathlib.Core.Bool.{true, false}
 use mathlib.Core.List.{List, [], _∷_, _++_}
 use mathlib.Core.Option.{Option, none, some}
 use Prim.Native.Nat.{ℕ, _*_, _≤_, _<_}
-use lib.ListN.{length, getD}
-use Rattle.columns.specs.declared.Columns.{Columns}
-use Rattle.frame.specs.Frame.{WellFormed, Legal, sequences, heldSums, distance, differing, cell}
+use Rattle.frame.specs.Frame.{WellFormed, Legal, sequences, distance, differing}
 use Rattle.frame.specs.Shape.{checksOf, shapeOf, shapeTests}
 use Rattle.frame.specs.declared.Shape.{Shape}
-use Rattle.refusal.specs.Order.{Reason, First, firstOf}
-use Rattle.register.specs.Register.{Generator, Shortest, Alone}
-use Rattle.link.specs.Calls.{Call, shape, encode, locate, repair, Answer, columns, refused, Outcome, step}
-use Rattle.link.specs.Job.{emptyJob, shapedJob, isEmpty, isLocatedPhase, sound, nothing}
-use Rattle.link.specs.declared.Job.{Job}
+use Rattle.refusal.specs.Order.{firstOf}
+use Rattle.register.specs.Register.{Shortest, Alone}
+use Rattle.job.specs.Calls.{Call, shape, encode, locate, repair, columns, refused, Outcome, step}
+use Rattle.job.specs.Job.{emptyJob, isLocatedPhase, sound, nothing}
+use Rattle.job.specs.Refusals.{LegalAt}
+use Rattle.job.specs.declared.Job.{Job}
+use Rattle.job.specs.declared.Phase.{Phase}
+use Rattle.job.specs.declared.Phase.the-variants.{Empty, Shaped, Located}
 
 -- the job after a list of calls, each on the job that the call before it returned or left
 unfoldable pub runFrom : Job → List Call → Job
@@ -36,6 +37,18 @@ lastShapeFrom s (repair f ∷ cs) = lastShapeFrom s cs
 abbrev pub lastShape : List Call → Option Shape
 lastShape calls = lastShapeFrom none calls
 
+-- the shape that a job holds
+abbrev pub heldShape : Phase → Shape → Option Shape
+heldShape Empty s = none
+heldShape Shaped s = some s
+heldShape (Located c a) s = some s
+
+-- What every job reached by calls holds: it is sound, its shape is that of the last shape call not refused, and what is not located holds zeros.
+pub record Reached (calls : List Call) : Type 0 where
+  pub sound : sound (run calls) ≡ true
+  pub shape : heldShape (run calls .phase) (run calls .shape) ≡ lastShape calls
+  pub zeros : isLocatedPhase (run calls .phase) ≡ false → run calls .findings ≡ nothing
+
 -- Demand 3, first part. A repair of the frame f that answers c leaves a legal frame; c is its distance from f, the marked columns are those that this
 -- distance counts, and every other legal frame lies farther from f.
 pub record Mended (s : Shape) (f : List ℕ) (c : ℕ) (after : Outcome) : Type 0 where
@@ -44,17 +57,14 @@ pub record Mended (s : Shape) (f : List ℕ) (c : ℕ) (after : Outcome) : Type 
   pub marks : after .marks ≡ differing s (after .frame) f
   pub nearest : (g : List ℕ) → Legal s g → (g ≡ after .frame → ⊥) → c < distance s g f
 
-abbrev pub RepairMends : Type 0
-RepairMends =
-    (calls : List Call) (f : List ℕ) (c : ℕ) → step (run calls) (repair f) .answer ≡ columns c →
-    (s : Shape) × (lastShape calls ≡ some s) × Mended s f c (step (run calls) (repair f))
-
--- a legal frame lies at distance c from f
-abbrev pub LegalAt : Shape → (f : List ℕ) (c : ℕ) → Type 0
-LegalAt s f c = (g : List ℕ) × Legal s g × (distance s g f ≡ c)
-
 abbrev pub IsRefused : Outcome → Type 0
 IsRefused o = (k : ℕ) × (o .answer ≡ refused k)
+
+abbrev pub RepairMends : Type 0
+RepairMends =
+    (calls : List Call) (f : List ℕ) → (IsRefused (step (run calls) (repair f)) → ⊥) →
+    (s : Shape) × (c : ℕ) × (lastShape calls ≡ some s) × (step (run calls) (repair f) .answer ≡ columns c) ×
+    Mended s f c (step (run calls) (repair f))
 
 -- Demand 3, second part. Locating a well-formed frame whose shortest register, of length c, is alone, with no row having fewer checks than c, is
 -- refused exactly when no legal frame lies at distance c.
@@ -93,6 +103,7 @@ DamageMended =
     Recovered before between f g
 
 pub record Demand3 : Type 0 where
+  pub reached : (calls : List Call) → Reached calls
   pub repair-mends : RepairMends
   pub locate-exact : LocateExact
   pub damage-mended : DamageMended

@@ -10,10 +10,10 @@ use Rattle.decoding.specs.Locating.{rowsReach}
 use Rattle.frame.specs.Shape.{isShape}
 use Rattle.frame.specs.declared.Shape.{Shape}
 use Rattle.lists.specs.Tabulate.{every}
-use Rattle.link.specs.declared.Findings.{Findings}
-use Rattle.link.specs.declared.Job.{Job}
-use Rattle.link.specs.declared.Phase.{Phase}
-use Rattle.link.specs.declared.Phase.the-variants.{Empty, Shaped, Located}
+use Rattle.job.specs.declared.Findings.{Findings}
+use Rattle.job.specs.declared.Job.{Job}
+use Rattle.job.specs.declared.Phase.{Phase}
+use Rattle.job.specs.declared.Phase.the-variants.{Empty, Shaped, Located}
 
 unfoldable pub noColumns : Columns
 noColumns = columnsOf (λ i. false)

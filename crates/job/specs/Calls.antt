@@ -11,8 +11,8 @@ use Rattle.frame.specs.Frame.{heldSums, frameTests}
 use Rattle.frame.specs.Shape.{shapeOf, shapeTests}
 use Rattle.lists.specs.Tabulate.{every}
 use Rattle.refusal.specs.Order.{Test, firstOf}
-use Rattle.link.specs.Job.{noColumns, shapedJob, locatedJob, isEmpty, isLocatedPhase, lengthOf}
-use Rattle.link.specs.declared.Job.{Job}
+use Rattle.job.specs.Job.{noColumns, shapedJob, locatedJob, isEmpty, isLocatedPhase, lengthOf}
+use Rattle.job.specs.declared.Job.{Job}
 
 -- the calls, with what is lent
 pub data Call : Type 0 where

@@ -1,4 +1,4 @@
-// The job of the receiving end: shape, encode, locate and repair (document 01, "A job").
+// The job of the receiving end: its types, and the mathematics of its calls. There are no functions here (document 01, "A job").
 use columns::Columns;
 use frame::Shape;
 use refusal::Refusal;

@@ -1,0 +1,51 @@
+-- The refusals of shapes and frames, each with its reason in the words of document 01, and what is owed of them: each number is given exactly where its
+-- reason is the first of its order that holds. With `OnlyLegal` of Encode.antt this is what is owed of the encoder. Proved in proofs/Demands.antt.
+use mathlib.Core.Path.{_≡_}
+use mathlib.Core.Logic.{_⊎_, _↔_}
+use mathlib.Core.Bool.{true}
+use mathlib.Core.List.{List, [], _∷_}
+use Prim.Native.Nat.{ℕ, _*_, _≤_, _<_}
+use lib.ListN.{length, getD}
+use Rattle.refusal.specs.Order.{Reason, First}
+use Rattle.refusal.specs.Outcome.{outcome, passed, refused}
+use Rattle.frame.specs.Encode.{encoded, encodeTests, OnlyLegal}
+use Rattle.frame.specs.Frame.{cell, frameTests}
+use Rattle.frame.specs.Shape.{checksOf, isShape, shapeTests}
+use Rattle.frame.specs.declared.Shape.{Shape}
+
+-- a check count outside 1 to 64 or not below the columns n
+abbrev pub BadChecks : (n k : ℕ) → Type 0
+BadChecks n k = (k < 1) ⊎ ((64 < k) ⊎ (n ≤ k))
+
+abbrev pub shapeReasons : (n : ℕ) (checks : List ℕ) → List Reason
+shapeReasons n checks =
+    record { number = 2; holds = (length checks < 1) ⊎ (8 < length checks) } ∷
+    record { number = 5; holds = (n < 2) ⊎ (256 < n) } ∷
+    record { number = 6; holds = (h : ℕ) × (h < length checks) × BadChecks n (getD checks h 0) } ∷
+    []
+
+abbrev pub sizeReason : Shape → (f : List ℕ) → Reason
+sizeReason s f = record { number = 7; holds = length f ≡ s .rows * s .columns → ⊥ }
+
+-- encode looks at data cells only
+abbrev pub encodeReasons : Shape → (f : List ℕ) → List Reason
+encodeReasons s f =
+    sizeReason s f ∷
+    record {
+      number = 4;
+      holds =
+          (h : ℕ) × (i : ℕ) × (h < s .rows) × (checksOf s h ≤ i) × (i < s .columns) × (257 ≤ cell (s .columns) f h i);
+    } ∷
+    []
+
+abbrev pub frameReasons : Shape → (f : List ℕ) → List Reason
+frameReasons s f = sizeReason s f ∷ record { number = 4; holds = (k : ℕ) × (k < length f) × (257 ≤ getD f k 0) } ∷ []
+
+pub record Demand1 : Type 0 where
+  pub shape : (n : ℕ) (checks : List ℕ) (k : ℕ) → (outcome (shapeTests n checks) ≡ refused k) ↔ First k (shapeReasons n checks)
+  pub encode : (s : Shape) (f : List ℕ) (k : ℕ) → (outcome (encodeTests s f) ≡ refused k) ↔ First k (encodeReasons s f)
+  pub frame : (s : Shape) (f : List ℕ) (k : ℕ) → (outcome (frameTests s f) ≡ refused k) ↔ First k (frameReasons s f)
+
+-- Demand 2 of the encoder
+abbrev pub Demand2 : Type 0
+Demand2 = (s : Shape) (f : List ℕ) → isShape s ≡ true → outcome (encodeTests s f) ≡ passed → OnlyLegal s f (encoded s f)

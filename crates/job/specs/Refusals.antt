@@ -1,0 +1,78 @@
+-- Demand 1 for the calls on a job: the refusals of each call in their order, each with its reason in the words of document 01, and what a refusal leaves.
+-- Proved in proofs/Refusals.antt.
+use mathlib.Core.Path.{_≡_}
+use mathlib.Core.Logic.{_⊎_, _↔_}
+use mathlib.Core.Bool.{false}
+use mathlib.Core.List.{List, [], _∷_, _++_}
+use Prim.Native.Nat.{ℕ, _<_}
+use Rattle.frame.specs.Demands.{shapeReasons, encodeReasons, frameReasons}
+use Rattle.frame.specs.Frame.{Legal, sequences, heldSums, distance}
+use Rattle.frame.specs.Shape.{checksOf}
+use Rattle.frame.specs.declared.Shape.{Shape}
+use Rattle.refusal.specs.Order.{Reason, First}
+use Rattle.register.specs.Register.{Generator, Shortest, Alone}
+use Rattle.job.specs.Calls.{Call, shape, encode, locate, repair, refused, Outcome, step}
+use Rattle.job.specs.Job.{noColumns, shapedJob, isLocatedPhase, sound}
+use Rattle.job.specs.declared.Job.{Job}
+use Rattle.job.specs.declared.Phase.the-variants.{Empty}
+
+-- a legal frame lies at distance c from f
+abbrev pub LegalAt : Shape → (f : List ℕ) (c : ℕ) → Type 0
+LegalAt s f c = (g : List ℕ) × Legal s g × (distance s g f ≡ c)
+
+-- the job is empty, or a value that no call leaves, which counts as empty
+abbrev pub emptyReason : Job → Reason
+emptyReason j = record { number = 21; holds = (j .phase ≡ Empty) ⊎ (sound j ≡ false) }
+
+-- Of a well-formed frame: another register of the shortest length exists; it is alone, and some row has fewer checks than its length c; no legal
+-- frame lies at distance c.
+abbrev pub registerReasons : Shape → (f : List ℕ) → List Reason
+registerReasons s f =
+    record {
+      number = 24;
+      holds =
+          (c : ℕ) × (σ : List ℕ) × (τ : List ℕ) × Shortest 257 c (sequences s f) σ × Generator 257 c (sequences s f) τ ×
+          (τ ≡ σ → ⊥);
+    } ∷
+    record {
+      number = 25;
+      holds =
+          (c : ℕ) × (σ : List ℕ) × (h : ℕ) × Shortest 257 c (sequences s f) σ × Alone 257 c (sequences s f) σ × (h < s .rows) ×
+          (checksOf s h < c);
+    } ∷
+    record
+    { number = 26; holds = (c : ℕ) × (σ : List ℕ) × Shortest 257 c (sequences s f) σ × (LegalAt s f c → ⊥) } ∷
+    []
+
+-- the refusals of a call in their order
+abbrev pub reasons : Job → Call → List Reason
+reasons j (shape n checks) = shapeReasons n checks
+reasons j (encode f) = emptyReason j ∷ encodeReasons (j .shape) f
+reasons j (locate f) = emptyReason j ∷ (frameReasons (j .shape) f ++ registerReasons (j .shape) f)
+reasons j (repair f) =
+    emptyReason j ∷ record { number = 22; holds = isLocatedPhase (j .phase) ≡ false } ∷
+    (frameReasons (j .shape) f ++
+    (record { number = 23; holds = heldSums (j .shape) f ≡ j .findings .sums → ⊥ } ∷ []))
+
+-- the frame that is lent to a call
+abbrev pub lent : Call → List ℕ
+lent (shape n checks) = []
+lent (encode f) = f
+lent (locate f) = f
+lent (repair f) = f
+
+-- after 24, 25, 26 the job is shaped; after every other refusal it is as it was
+abbrev pub leaves : Job → ℕ → Job → Type 0
+leaves j k after = (Late × (after ≡ shapedJob (j .shape))) ⊎ ((Late → ⊥) × (after ≡ j))
+  where
+    Late : Type 0
+    Late = (k ≡ 24) ⊎ ((k ≡ 25) ⊎ (k ≡ 26))
+
+pub record Refused (j : Job) (c : Call) (k : ℕ) (o : Outcome) : Type 0 where
+  pub frame : o .frame ≡ lent c
+  pub marks : o .marks ≡ noColumns
+  pub job : leaves j k (o .job)
+
+pub record Demand1 : Type 0 where
+  pub exact : (j : Job) (c : Call) (k : ℕ) → (step j c .answer ≡ refused k) ↔ First k (reasons j c)
+  pub left : (j : Job) (c : Call) (k : ℕ) → step j c .answer ≡ refused k → Refused j c k (step j c)
