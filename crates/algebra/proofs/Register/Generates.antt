@@ -41,6 +41,7 @@ module _ (F : Field) (Q : Sequences (F .ring .car)) where
     pub degree : Degree ring l f
     pub gen : Gen f l s
 
+  -- with length l it fails first at position n of sequence h
   pub record Fails (f : ℕ → car) (l n h : ℕ) : Type 0 where
     pub sequence : h < t
     pub asked : l + lag h < n
@@ -108,7 +109,9 @@ module _ (F : Field) (Q : Sequences (F .ring .car)) where
       record {
         sequence = fails .sequence;
         asked = fails .asked;
-        before = gen-add f f' l (n * t + h) (fails .before) (gen-longer f' l l (suc (n * t + h)) (n * t + h) gen (omega arith) (omega arith));
+        before =
+            gen-add f f' l (n * t + h) (fails .before)
+            (gen-longer f' l l (suc (n * t + h)) (n * t + h) gen (omega arith) (omega arith));
         nonzero = λ e. fails .nonzero
             (sym (add-zero (disc f h n))
             ∙ ap (λ x. disc f h n ⊕ x) (sym (gen h n (fails .sequence) (fails .asked) (omega arith)))

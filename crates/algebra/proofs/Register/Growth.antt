@@ -1,5 +1,5 @@
--- When Algorithm 4's register becomes longer, from l to l', its old self is kept for the sequence at which it failed and is the pivot of
--- all lengths from l to l' − 1: their rows are after that of what was kept before. So the invariant goes on to the next place.
+-- When Algorithm 4's register becomes longer, from l to l', its old self is kept for the sequence at which it failed and is
+-- the pivot of all lengths from l to l' − 1, in rows after that of what was kept before. The invariant goes on to the next place.
 -- Assumes nothing.
 use mathlib.Core.Path.{_≡_, refl, sym, subst}
 use mathlib.Core.Bool.{Bool, true, false, cond}
@@ -13,7 +13,7 @@ use Rattle.algebra.specs.Polynomial.{Degree}
 use Rattle.algebra.proofs.Register.Generates.{Sequences, disc, Register, Fails, fails-longer}
 use Rattle.algebra.proofs.Register.LeadingRow.{Pivots}
 use Rattle.algebra.proofs.Register.Step.{Saved, State, replaced}
-use Rattle.algebra.proofs.Register.Invariant.{FreshOrKept, Invariant, saved-reach, saved-later}
+use Rattle.algebra.proofs.Register.Invariant.{Kept, FreshOrKept, Invariant, saved-reach, saved-later}
 
 -- what is kept after a replacement
 replaced-cases : {A : Type 0} (T : Saved A → Type 0) (saved : ℕ → Saved A) (h : ℕ) (v : Saved A) (g : ℕ)
@@ -26,7 +26,8 @@ replaced-cases T saved h v g new old = go (eqb g h) refl
     go false e = old (eqb-false g h e)
 
 -- the step at (n, h) meets a discrepancy that is not 0, and n − l > n_h − l_h
-module _ (F : Field) (Q : Sequences (F .ring .car)) (n h : ℕ) (st : State (F .ring .car)) (I : Invariant F Q st (n * Q .count + h))
+module _ (F : Field) (Q : Sequences (F .ring .car)) (n h : ℕ) (st : State (F .ring .car))
+    (I : Invariant F Q st (n * Q .count + h))
     (sequence : h < Q .count) (asked : st .size + Q .lag h < n) (nonzero : disc F Q (st .taps) h n ≢ F .ring .zero)
     (grows : st .saved h .place + st .size < n + st .saved h .size) where
   open Field F using (ring)
@@ -77,16 +78,17 @@ module _ (F : Field) (Q : Sequences (F .ring .car)) (n h : ℕ) (st : State (F .
       go true e = old (ltb-true L l e)
       go false e = new (ltb-false L l e)
 
+  old-row : (L : ℕ) → L < l → P .sequence L ≡ h → P .position L + v .size ≤ v .place + L
+  old-row L b e = subst (λ g. P .position L + st .saved g .size ≤ st .saved g .place + L) e (I .row L b)
+
   grown-apart : (j L : ℕ) → j < L → L < l' → grown-sequence j ≡ grown-sequence L
       → grown-position j + L ≢ grown-position L + j
   grown-apart j L jL Ll =
       grown-cases (λ _ m g. g ≡ grown-sequence L → m + L ≢ grown-position L + j) j
-      (λ hj. grown-cases (λ _ m g. P .sequence j ≡ g → P .position j + L ≢ m + j) L
-      (λ hL. P .apart j L jL hL)
-      (λ hL e. let r : P .position j + v .size ≤ v .place + j
-      = subst (λ g. P .position j + st .saved g .size ≤ st .saved g .place + j) e (I .row j hj) in
-      omega arith))
-      (λ hj. grown-cases (λ _ m g. h ≡ g → n + L ≢ m + j) L (λ hL. absurd (let z : ⊥ = omega arith in z)) (λ hL e. omega arith))
+      (λ hj. grown-cases (λ _ m g. P .sequence j ≡ g → P .position j + L ≢ m + j) L (λ hL. P .apart j L jL hL)
+      (λ hL e. omega (arith, old-row j hj e)))
+      (λ hj. grown-cases (λ _ m g. h ≡ g → n + L ≢ m + j) L
+      (λ hL. absurd (let z : ⊥ = omega arith in z)) (λ hL e. omega arith))
 
   grown-pivots : Pivots F Q l' (suc s)
   grown-pivots =
@@ -108,18 +110,25 @@ module _ (F : Field) (Q : Sequences (F .ring .car)) (n h : ℕ) (st : State (F .
   grown-row L q =
       grown-cases (λ _ m g. m + replaced (st .saved) h kept g .size ≤ replaced (st .saved) h kept g .place + L) L
       (λ b. replaced-cases (λ x. P .position L + x .size ≤ x .place + L) (st .saved) h kept (P .sequence L)
-      (λ e. let r : P .position L + v .size ≤ v .place + L
-      = subst (λ g. P .position L + st .saved g .size ≤ st .saved g .place + L) e (I .row L b) in
-      omega arith)
-      (λ _. I .row L b))
-      (λ b. replaced-cases (λ x. n + x .size ≤ x .place + L) (st .saved) h kept h (λ _. omega arith) (λ e. absurd (e refl)))
+      (λ e. omega (arith, old-row L b e)) (λ _. I .row L b))
+      (λ b. replaced-cases (λ x. n + x .size ≤ x .place + L) (st .saved) h kept h
+      (λ _. omega arith) (λ e. absurd (e refl)))
+
+  kept-here : Kept F Q l' (suc s) h kept
+  kept-here =
+      record {
+        one = I .register .one;
+        degree = I .register .degree;
+        fails = fails-here;
+        value = refl;
+        shorter = omega arith;
+        placed = omega arith;
+      }
 
   grown-saved : (g : ℕ) → g < t → FreshOrKept F Q l' (suc s) g (replaced (st .saved) h kept g)
   grown-saved g hg =
       replaced-cases (λ x. FreshOrKept F Q l' (suc s) g x) (st .saved) h kept g
-      (λ e. subst (λ x. FreshOrKept F Q l' (suc s) x kept) (sym e)
-      (inr (record
-      { one = I .register .one; degree = I .register .degree; fails = fails-here; value = refl; shorter = omega arith; placed = omega arith })))
+      (λ e. subst (λ x. FreshOrKept F Q l' (suc s) x kept) (sym e) (inr kept-here))
       (λ _. saved-later F Q l l' s (suc s) g (st .saved g) (omega arith) (omega arith) (I .saved g hg))
 
   pub growth-keeps : (σ' : ℕ → car) → Register F Q σ' l' (suc s)

@@ -63,13 +63,16 @@ module _ (F : Field) (Q : Sequences (F .ring .car)) where
 
   pub saved-later : (l l' s s' h : ℕ) (v : Saved car) → l ≤ l' → s ≤ s' → FreshOrKept l s h v → FreshOrKept l' s' h v
   saved-later l l' s s' h v hl hs =
-      ⊎-map (λ r. r)
-      (λ k. let p : v .size < l = k .shorter in
-      let q : v .place * t + h < s = k .placed in
-      record
-      { one = k .one; degree = k .degree; fails = k .fails; value = k .value; shorter = omega arith; placed = omega arith })
+      ⊎-map (λ r. r) (λ k. record {
+        one = k .one;
+        degree = k .degree;
+        fails = k .fails;
+        value = k .value;
+        shorter = omega (arith, k .shorter);
+        placed = omega (arith, k .placed);
+      })
 
-  -- what is kept for h was kept before round n, at the step (n, h) if that asks for its symbol
+  -- a step (n, h) that asks for its symbol comes after n_h
   pub saved-before : (l n h : ℕ) (v : Saved car) → h < t → l + lag h < n → FreshOrKept l (n * t + h) h v → v .place < n
   saved-before l n h v hh q (inl r) = let p : v .place ≡ lag h = r .place in omega arith
   saved-before l n h v hh q (inr k) = position-lt t (v .place) n h hh (k .placed)
@@ -90,5 +93,6 @@ module _ (F : Field) (Q : Sequences (F .ring .car)) where
       go zero e = omega arith
       go (suc L) e =
           let below : L < st .size = omega arith in
-          omega
-          (arith, P .fails L below .asked, position-in-round t (P .position L) n (P .sequence L) (omega (arith, P .placed L below)))
+          let early : P .position L ≤ n
+          = position-in-round t (P .position L) n (P .sequence L) (omega (arith, P .placed L below)) in
+          omega (arith, P .fails L below .asked)

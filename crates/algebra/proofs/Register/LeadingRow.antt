@@ -12,8 +12,8 @@ use native.Mathlib.Numerals.{add-one}
 use native.Mathlib.Omega.{arith}
 use Rattle.algebra.specs.Ring.{CRing, Field}
 use Rattle.algebra.specs.Polynomial.{Degree, shift}
-use Rattle.algebra.proofs.RingLaws.{neg-zero, mul-zero, zero-mul, zero-add}
-use Rattle.algebra.proofs.Solver.{_:+_, _:-_, _:=_, solve}
+use Rattle.algebra.proofs.RingLaws.{neg-zero, mul-zero, zero-mul}
+use Rattle.algebra.proofs.Solver.{:0, _:+_, _:-_, _:·_, _:=_, _:×_:≡_:⇒_, solve}
 use Rattle.algebra.proofs.Convolution.{shift-below, shift-tail, shift-zeros}
 use Rattle.algebra.proofs.Register.Places.{same-position, same-sequence}
 use Rattle.algebra.proofs.Register.Generates.{Sequences, Fails, gen-longer, fails-mul, fails-add, fails-shift}
@@ -72,6 +72,11 @@ module _ (F : Field) (Q : Sequences (F .ring .car)) where
       leading-own fails =
           record { pivot = L; at = position L; short = omega arith; row = refl; fails = fails; early = λ _. omega arith }
 
+      leading-lower : (r : Leading x L) → Fails F Q f L (r .at) (sequence (r .pivot))
+          → (f 0 ≢ 𝟘 → r .at * t + sequence (r .pivot) ≤ position L * t + sequence L) → Leading f L
+      leading-lower r fails early =
+          record { pivot = r .pivot; at = r .at; short = r .short; row = r .row; fails = fails; early = early }
+
       own : f 0 ≢ 𝟘 → Fails F Q (λ i. f 0 ⊗ poly L i) L (position L) (sequence L)
       own nonzero = fails-mul F Q (f 0) (poly L) L (position L) (sequence L) nonzero (P .fails L below)
 
@@ -90,18 +95,13 @@ module _ (F : Field) (Q : Sequences (F .ring .car)) where
               leading-own (subst (λ g. Fails F Q g L (position L) (sequence L)) (fun-ext (λ i. sym (parts i)))
               (fails-add F Q (λ i. f 0 ⊗ poly L i) x L (position L) (sequence L) (own nonzero)
               (gen-longer F Q x L L B (suc A) (r .fails .before) (omega arith) h)))
-          go (no _) (yes h) = record {
-            pivot = r .pivot;
-            at = r .at;
-            short = r .short;
-            row = r .row;
-            fails =
-                subst (λ g. Fails F Q g L (r .at) (sequence (r .pivot)))
-                (fun-ext (λ i. add-comm (x i) (f 0 ⊗ poly L i) ∙ sym (parts i)))
-                (fails-add F Q x (λ i. f 0 ⊗ poly L i) L (r .at) (sequence (r .pivot)) (r .fails)
-                (gen-longer F Q (λ i. f 0 ⊗ poly L i) L L A (suc B) (own nonzero .before) (omega arith) h));
-            early = λ _. omega arith;
-          }
+          go (no _) (yes h) =
+              leading-lower r
+              (subst (λ g. Fails F Q g L (r .at) (sequence (r .pivot)))
+              (fun-ext (λ i. add-comm (x i) (f 0 ⊗ poly L i) ∙ sym (parts i)))
+              (fails-add F Q x (λ i. f 0 ⊗ poly L i) L (r .at) (sequence (r .pivot)) (r .fails)
+              (gen-longer F Q (λ i. f 0 ⊗ poly L i) L L A (suc B) (own nonzero .before) (omega arith) h)))
+              (λ _. omega arith)
           go (no h) (no k) =
               let e : r .at * t + sequence (r .pivot) ≡ position L * t + sequence L = omega arith in
               let hr : sequence (r .pivot) < t = r .fails .sequence in
@@ -111,26 +111,24 @@ module _ (F : Field) (Q : Sequences (F .ring .car)) where
               absurd (P .apart (r .pivot) L lower below
               (same-sequence t (r .at) (position L) (sequence (r .pivot)) (sequence L) hr hL e) (omega arith))
 
-      leading-of-parts : ((i : ℕ) → x i ≡ 𝟘) ⊎ ((r : Leading x L) × (r .pivot < L)) → Dec (f 0 ≡ 𝟘) → ((i : ℕ) → f i ≡ 𝟘) ⊎ Leading f L
+      leading-of-parts : ((i : ℕ) → x i ≡ 𝟘) ⊎ ((r : Leading x L) × (r .pivot < L)) → Dec (f 0 ≡ 𝟘)
+          → ((i : ℕ) → f i ≡ 𝟘) ⊎ Leading f L
       leading-of-parts (inl z) (yes c) =
           inl (λ i. parts i ∙ ap₂ (λ y w. y ⊗ poly L i ⊕ w) c (z i) ∙ add-zero (𝟘 ⊗ poly L i) ∙ zero-mul ring (poly L i))
       leading-of-parts (inl z) (no c) =
           inr (leading-own (subst (λ g. Fails F Q g L (position L) (sequence L))
           (fun-ext (λ i. sym (parts i ∙ ap (λ w. f 0 ⊗ poly L i ⊕ w) (z i) ∙ add-zero (f 0 ⊗ poly L i))))
           (own c)))
-      leading-of-parts (inr (r, h)) (yes c) = inr (record {
-        pivot = r .pivot;
-        at = r .at;
-        short = r .short;
-        row = r .row;
-        fails =
-            subst (λ g. Fails F Q g L (r .at) (sequence (r .pivot)))
-            (fun-ext (λ i. sym (parts i ∙ ap (λ y. y ⊗ poly L i ⊕ x i) c ∙ ap (λ w. w ⊕ x i) (zero-mul ring (poly L i)) ∙ zero-add ring (x i))))
-            (r .fails);
-        early = λ n. absurd (n c);
-      })
+      leading-of-parts (inr (r, h)) (yes c) =
+          inr (leading-lower r
+          (subst (λ g. Fails F Q g L (r .at) (sequence (r .pivot)))
+          (fun-ext (λ i. sym (parts i
+          ∙ solve ring (f 0 ∷ poly L i ∷ x i ∷ []) (λ a b w. b :× a :≡ :0 :⇒ a :· b :+ w := w) tt c)))
+          (r .fails))
+          (λ n. absurd (n c)))
       leading-of-parts (inr (r, h)) (no c) = inr (leading-of-sum r h c)
 
+    -- by parts, for the rest divided by the variable
     leading-step : (L : ℕ) → L < l → (f : ℕ → car)
         → ((i : ℕ) → rest f (poly L) i ≡ 𝟘) ⊎ ((r : Leading (shift ring 1 (rest f (poly L))) L) × (r .pivot < L))
         → ((i : ℕ) → f i ≡ 𝟘) ⊎ Leading f L

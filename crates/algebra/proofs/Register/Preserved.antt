@@ -43,7 +43,8 @@ module _ (F : Field) (Q : Sequences (F .ring .car)) where
   stays st σ s inv register =
       record {
         register = register;
-        saved = λ h hh. saved-later F Q (st .size) (st .size) s (suc s) h (st .saved h) (omega arith) (omega arith) (inv .saved h hh);
+        saved = λ h hh.
+            saved-later F Q (st .size) (st .size) s (suc s) h (st .saved h) (omega arith) (omega arith) (inv .saved h hh);
         pivots = pivots-later (st .size) s (suc s) (omega arith) (inv .pivots);
         row = inv .row;
       }

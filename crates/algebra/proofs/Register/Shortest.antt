@@ -77,6 +77,7 @@ module _ (F : Field) (Q : Sequences (F .ring .car)) where
             fails-gen F Q f L (r .at) (P .sequence (r .pivot)) (suc n * t + 0) (r .fails) (generates-gen f L n G)
             (omega (arith, r .early constant, P .placed L below))
 
+    -- the test on the state: n_h − l_h ≤ max (n − l) (lag h), said without subtracting l_h
     abbrev pub Alone : Type 0
     Alone = (h : ℕ) → h < t → st .saved h .place ≤ st .saved h .size + max (n - l) (lag h)
 

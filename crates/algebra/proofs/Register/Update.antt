@@ -11,7 +11,17 @@ use Rattle.algebra.specs.Polynomial.{Degree, shift}
 use Rattle.algebra.proofs.RingLaws.{neg-zero, mul-zero}
 use Rattle.algebra.proofs.FieldLaws.{divide-mul}
 use Rattle.algebra.proofs.Convolution.{conv-mul, conv-sub, conv-shift, shift-below, shift-degree}
-use Rattle.algebra.proofs.Register.Generates.{Sequences, disc, Gen, Register, gen-longer, gen-next, gen-mul, gen-sub, gen-shift}
+use Rattle.algebra.proofs.Register.Generates.{
+  Sequences,
+  disc,
+  Gen,
+  Register,
+  gen-longer,
+  gen-next,
+  gen-mul,
+  gen-sub,
+  gen-shift,
+}
 use Rattle.algebra.proofs.Register.Step.{Saved, reduced}
 use Rattle.algebra.proofs.Register.Invariant.{FreshOrKept, saved-degree, saved-gen, saved-before}
 
@@ -65,7 +75,8 @@ module _ (F : Field) (Q : Sequences (F .ring .car)) (n h l l' : ℕ) (σ : ℕ �
 
   updated-before : Gen F Q σ' l' (n * t + h)
   updated-before =
-      gen-sub F Q σ added l' (n * t + h) (gen-longer F Q σ l l' (n * t + h) (n * t + h) (register .gen) longer (omega arith)) added-gen
+      gen-sub F Q σ added l' (n * t + h)
+      (gen-longer F Q σ l l' (n * t + h) (n * t + h) (register .gen) longer (omega arith)) added-gen
 
   updated-here : FreshOrKept F Q l (n * t + h) h v → l' + lag h < n → disc F Q σ' h n ≡ 𝟘
   updated-here (inl r) q =
