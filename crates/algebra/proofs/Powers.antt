@@ -1,8 +1,8 @@
--- Laws of powers: clauses as equations, sums of exponents, powers of products and of one.
+-- Laws of powers: clauses as equations, sums and products of exponents, powers of products and of one.
 -- Assumes nothing.
 use mathlib.Core.Path.{_≡_, refl, sym, ap, ap₂, _∙_}
-use Prim.Native.Nat.{ℕ, zero, suc, _+_}
-use native.Mathlib.Nat.{add-zero as n-add-zero, add-suc}
+use Prim.Native.Nat.{ℕ, zero, suc, _+_, _*_}
+use native.Mathlib.Nat.{add-zero as n-add-zero, add-suc, mul-zero as n-mul-zero, mul-suc}
 use Rattle.algebra.specs.Ring.{CRing}
 use Rattle.algebra.specs.Sum.{pow}
 use Rattle.algebra.proofs.RingLaws.{mul-swap-inner}
@@ -34,3 +34,8 @@ module _ (R : CRing) where
   pow-mul a b (suc n) =
       pow-suc (a ⊗ b) n ∙ ap (λ x. x ⊗ (a ⊗ b)) (pow-mul a b n)
       ∙ mul-swap-inner R (pow R a n) (pow R b n) a b ∙ sym (ap₂ _⊗_ (pow-suc a n) (pow-suc b n))
+
+  pub pow-pow : (a : car) (m n : ℕ) → pow R a (m * n) ≡ pow R (pow R a m) n
+  pow-pow a m zero = ap (pow R a) (n-mul-zero m) ∙ pow-zero a ∙ sym (pow-zero (pow R a m))
+  pow-pow a m (suc n) =
+      ap (pow R a) (mul-suc m n) ∙ pow-add a (m * n) m ∙ ap (λ x. x ⊗ pow R a m) (pow-pow a m n) ∙ sym (pow-suc (pow R a m) n)

@@ -1,0 +1,2 @@
+pub mod Field257
+pub mod Locators
