@@ -1,0 +1,2 @@
+// The encoder and the check sums of frames over the field of 257.
+pub mod powers;
