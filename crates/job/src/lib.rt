@@ -30,13 +30,14 @@ pub enum Reply {
     Refused(Refusal),
 }
 
-pub struct Shaped {
+// What shape returns.
+pub struct Reshaped {
     pub verdict: Verdict,
     pub job: Job,
 }
 
-// The answer of locate or repair, the columns, none where it refuses, and the job as the call leaves it.
-pub struct Outcome {
+// What locate and repair return: the answer, the columns, none where it refuses, and the job as the call leaves it.
+pub struct Answered {
     pub reply: Reply,
     pub columns: Columns,
     pub job: Job,
