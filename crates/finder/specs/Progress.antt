@@ -44,6 +44,17 @@ pub record Ready (p N : ℕ) (s : List ℕ) (n h : ℕ) (st : State) : Type 0 wh
   pub disc : st .saved h .disc < p
   pub saved-residues : (i : ℕ) → getD (st .saved h .taps) i 0 < p
 
+-- what holds of the taps and of the m + 1 taps saved for sequence h when the one is reduced by q·x^e times the other
+pub record Reducible (p : ℕ) (taps : List ℕ) (q e m : ℕ) (saved : List ℕ) (h : ℕ) : Type 0 where
+  pub two-or-more : 2 ≤ p
+  pub modulus : p ≤ 65521
+  pub factor : q < p
+  pub reach : e + m ≤ 128
+  pub sequence : h < 8
+  pub width : length taps ≡ 129
+  pub residues : (i : ℕ) → getD taps i 0 < p
+  pub saved-residues : (i : ℕ) → getD (take (suc m) (block h saved)) i 0 < p
+
 -- what one step leaves: the state of the definition, and zeros past the register
 pub record Stepped (st : State) (g : Progress) (taps saved : List ℕ) : Type 0 where
   pub state : stateOf g taps saved ≡ st

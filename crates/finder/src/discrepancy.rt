@@ -5,7 +5,7 @@ ghost use lib.ListN.{length};
 ghost use Rattle.register.specs.Register.{discrepancy};
 
 pub fn wide(x: u16) -> u64
-    ensures { λ r. ⌜ r ≡ x ⌝ }
+    ensures { λ r. ⌜ (r ≡ x) × (r < 65536) ⌝ }
 {
     x as u64
 }

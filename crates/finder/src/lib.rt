@@ -1,9 +1,8 @@
 // The shortest register of up to eight sequences (document 01, "Registers").
 mod discrepancy;
 mod find;
-mod order;
 mod reduce;
-mod step;
+mod sort;
 
 use refusal::Refusal;
 

@@ -1,17 +1,22 @@
 // The taps of a register less a multiple of a shifted one, and the copy of a register that is saved.
 ghost use mathlib.Core.Path.{_≡_};
 ghost use mathlib.Core.List.{_++_};
-ghost use Prim.Native.Nat.{ℕ, suc, _+_, _*_, _≤_, _<_};
-ghost use lib.ListN.{length, getD, take, drop};
+ghost use Prim.Native.Nat.{suc, _*_, _<_};
+ghost use lib.ListN.{length, take, drop};
 ghost use Rattle.field.specs.Coefficients.{reduced};
-ghost use Rattle.finder.specs.Progress.{block};
+ghost use Rattle.finder.specs.Progress.{block, Reducible};
 
 // All 129 taps less q·x^e·τ, τ being the m + 1 taps saved for sequence h. Adding (p − q)·τ needs one remainder a tap, and 32 bits hold it.
-pub fn reduce(p: u32, taps: &mut [u16], q: u32, e: usize, m: usize, saved: &[u16], h: usize)
-    requires { ⌜ (2 ≤ p) × (p ≤ 65521) × (q < p) × (e + m ≤ 128) × (h < 8) ⌝ }
-    requires { ⌜ (length (now taps) ≡ 129) × (length (now saved) ≡ 1032) ⌝ }
-    requires { ⌜ ((i : ℕ) → getD (now taps) i 0 < p) ⌝ }
-    requires { ⌜ ((i : ℕ) → getD (take (suc m) (block h (now saved))) i 0 < p) ⌝ }
+pub fn reduce(
+    p: u32,
+    taps: &mut [u16; 129],
+    q: u32,
+    e: usize,
+    m: usize,
+    saved: &[u16; 1032],
+    h: usize,
+)
+    requires { ⌜ Reducible p (now taps) q e m (now saved) h ⌝ }
     ensures { λ _. ⌜ now (taps .exit) ≡ reduced p 128 (now (taps .entry)) q e (take (suc m) (block h (now (saved .entry)))) ⌝ }
 {
     let c = p - q;

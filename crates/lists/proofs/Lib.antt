@@ -1,1 +1,3 @@
+pub mod Copy
+pub mod Entries
 pub mod Tabulated

@@ -1,0 +1,146 @@
+-- The taps of a register less q·x^e·τ, worked tap by tap: `reduced` by no tap of τ, by one more, and by all of them; and its entries at one length and
+-- at another. Assumes nothing.
+use mathlib.Core.Path.{_≡_, sym, ap, ap₂, _∙_}
+use mathlib.Core.Logic.{_≢_}
+use mathlib.Core.List.{List, []}
+use Prim.Native.Nat.{ℕ, suc, _+_, _-_, _*_, _/_, _%_, _≤_, _<_}
+use native.Mathlib.Decide.{decLt, ℕ-discrete}
+use native.Mathlib.Nat.{div-add-mod', add-mul, add-mul-mod-self-right, add-mod-right, mul-zero, zero-mod, mod-eq-of-lt, div-le-of-le-mul, mul-le-mul, mul-le-mul-right, mod-lt, mul-add, sub-zero, add-sub-cancel-left}
+use native.Mathlib.Numerals.{add-one}
+use native.Mathlib.Omega.{arith}
+use lib.ListN.{length, getD, take, set, length-take, length-set, List·getD-eq-default}
+use lib.Seq.{ext-getD, take-all, getD-take, getD-set-same, getD-set-other}
+use Rattle.field.specs.Coefficients.{reduced, shifted}
+use Rattle.field.specs.Residue.{minus, times}
+use Rattle.lists.proofs.Entries.{getD-take-suc}
+use Rattle.register.proofs.Coefficients.{shifted-below, shifted-above, length-reduced, getD-reduced}
+use Rattle.finder.specs.Progress.{block, Reducible}
+use Rattle.finder.proofs.Blocks.{saved-at}
+
+-- with p = c + q, b = d + t and q·b = t·p + r, the numbers a + c·b and a + (p − r) differ by a multiple of p
+scaled-apart : (p a c q b d t r : ℕ) → c + q ≡ p → d + t ≡ b → t * p + r ≡ q * b → r ≤ p → a + c * b + p ≡ a + (p - r) + d * p
+scaled-apart p a c q b d t r hp hb e le =
+    let first : p * b ≡ c * b + q * b = ap (λ (x : ℕ). x * b) (sym hp) ∙ add-mul c q b in
+    let second : p * b ≡ p * d + p * t = ap (λ (x : ℕ). p * x) (sym hb) ∙ mul-add p d t in
+    omega arith
+
+-- one remainder does both: a + (p − q)·b and a − q·b are the same modulo p
+pub minus-scaled : (p a q b : ℕ) → 0 < p → q < p → (a + (p - q) * b) % p ≡ minus p a (times p q b)
+minus-scaled p a q b pos h =
+    let r : ℕ = (q * b) % p in
+    let t : ℕ = q * b / p in
+    let fewer : t ≤ b = div-le-of-le-mul p (mul-le-mul-right b (let e : q ≤ p = omega arith in e)) in
+    let apart : a + (p - q) * b + p ≡ a + (p - r) + (b - t) * p = scaled-apart p a (p - q) q b (b - t) t r (omega arith) (omega arith) (div-add-mod' (q * b) p) (omega (arith, mod-lt (q * b) pos)) in
+    sym (add-mod-right (a + (p - q) * b) p) ∙ ap (λ (x : ℕ). x % p) apart ∙ add-mul-mod-self-right (a + (p - r)) (b - t) p
+
+minus-zero : (p a q : ℕ) → a < p → minus p a (times p q 0) ≡ a
+minus-zero p a q h = rw (mul-zero, zero-mod, sub-zero, add-mod-right) (mod-eq-of-lt h)
+
+-- c·y and x + c·y fit 32 bits where c is at most the largest modulus and x and y are residues
+pub tap-fits : {p c x y : ℕ} → p ≤ 65521 → c ≤ p → x < p → y < p → x + c * y < 4294967296
+tap-fits {p} {c} {x} {y} hp hc hx hy =
+    omega (arith, mul-le-mul (let e : c ≤ 65521 = omega arith in e) (let e : y ≤ 65520 = omega arith in e))
+
+module _ (p l : ℕ) (σ : List ℕ) (q e : ℕ) where
+  -- tap i of σ − q·x^e·τ
+  abbrev tap : (τ : List ℕ) (i : ℕ) → ℕ
+  tap τ i = minus p (getD σ i 0) (times p q (shifted e τ i))
+
+  tap-same : (τ ρ : List ℕ) (i : ℕ) → shifted e τ i ≡ shifted e ρ i → tap τ i ≡ tap ρ i
+  tap-same τ ρ i h = ap (λ (x : ℕ). minus p (getD σ i 0) (times p q x)) h
+
+  tap-kept : (τ : List ℕ) (i : ℕ) → shifted e τ i ≡ 0 → getD σ i 0 < p → tap τ i ≡ getD σ i 0
+  tap-kept τ i h less = ap (λ (x : ℕ). minus p (getD σ i 0) (times p q x)) h ∙ minus-zero p (getD σ i 0) q less
+
+  -- where τ has no entries from i on, nothing is taken off the taps from e + i on; nor is it before e
+  shifted-past : (τ : List ℕ) (i k : ℕ) → length τ ≤ i → e + i ≤ k → shifted e τ k ≡ 0
+  shifted-past τ i k h le = shifted-above e τ k (omega arith) ∙ List·getD-eq-default τ 0 (let b : length τ ≤ k - e = omega arith in b)
+
+  shifted-none : (k : ℕ) → shifted e [] k ≡ 0
+  shifted-none k = pick (decLt k e)
+    where
+      pick : Dec (k < e) → shifted e [] k ≡ 0
+      pick (yes h) = shifted-below e [] k h
+      pick (no h) = shifted-above e [] k (omega arith)
+
+  pub reduced-none : length σ ≡ suc l → ((i : ℕ) → getD σ i 0 < p) → σ ≡ reduced p l σ q e []
+  reduced-none len less =
+      ext-getD 0 σ (reduced p l σ q e []) (len ∙ sym (length-reduced p l σ q e []))
+      (λ i h. sym (getD-reduced p l σ q e [] i (omega arith) ∙ tap-kept [] i (shifted-none i) (less i)))
+
+  pub reduced-all : (τ : List ℕ) (i n : ℕ) {now : List ℕ} → now ≡ reduced p l σ q e (take i (take n τ)) → n ≤ i → now ≡ reduced p l σ q e (take n τ)
+  reduced-all τ i n eq h = eq ∙ ap (λ (ρ : List ℕ). reduced p l σ q e ρ) (take-all i (take n τ) (omega (arith, length-take n τ)))
+
+  -- the tap at which one more entry of τ comes into play
+  pub next-tap : (τ : List ℕ) (i : ℕ) {now : List ℕ} → now ≡ reduced p l σ q e (take i τ) → e + i < suc l → getD σ (e + i) 0 < p → getD now (e + i) 0 ≡ getD σ (e + i) 0
+  next-tap τ i eq h less =
+      ap (λ (s : List ℕ). getD s (e + i) 0) eq ∙ getD-reduced p l σ q e (take i τ) (e + i) (omega arith)
+      ∙ tap-kept (take i τ) (e + i) (shifted-past (take i τ) i (e + i) (omega (arith, length-take i τ)) (omega arith)) less
+
+  pub reduced-more :
+      (τ : List ℕ) (i : ℕ) {now : List ℕ} → now ≡ reduced p l σ q e (take i τ) → e + i < suc l → 0 < p → q < p → getD σ (e + i) 0 < p →
+      set now (e + i) ((getD σ (e + i) 0 + (p - q) * getD τ i 0) % p) ≡ reduced p l σ q e (take (suc i) τ)
+  reduced-more τ i {now} eq h pos less-q less =
+      ext-getD 0 (set now (e + i) v) (reduced p l σ q e (take (suc i) τ)) (length-set now (e + i) v ∙ len ∙ sym (length-reduced p l σ q e (take (suc i) τ)))
+      (λ k b. at k (omega (arith, len, length-set now (e + i) v)) (ℕ-discrete k (e + i)) ∙ sym (getD-reduced p l σ q e (take (suc i) τ) k (omega (arith, len, length-set now (e + i) v))))
+    where
+      v : ℕ
+      v = (getD σ (e + i) 0 + (p - q) * getD τ i 0) % p
+
+      len : length now ≡ suc l
+      len = ap length eq ∙ length-reduced p l σ q e (take i τ)
+
+      entry : shifted e (take (suc i) τ) (e + i) ≡ getD τ i 0
+      entry =
+          shifted-above e (take (suc i) τ) (e + i) (omega arith) ∙ ap (λ (j : ℕ). getD (take (suc i) τ) j 0) (add-sub-cancel-left e i) ∙ getD-take (suc i) τ i 0 (omega arith)
+
+      other : (k : ℕ) → k ≢ e + i → shifted e (take i τ) k ≡ shifted e (take (suc i) τ) k
+      other k ne = pick (decLt k e)
+        where
+          pick : Dec (k < e) → shifted e (take i τ) k ≡ shifted e (take (suc i) τ) k
+          pick (yes b) = shifted-below e (take i τ) k b ∙ sym (shifted-below e (take (suc i) τ) k b)
+          pick (no b) =
+              shifted-above e (take i τ) k (omega arith)
+              ∙ sym (getD-take-suc i τ (k - e) 0 (λ same. ne (omega (arith, same))))
+              ∙ sym (shifted-above e (take (suc i) τ) k (omega arith))
+
+      at : (k : ℕ) → k < suc l → Dec (k ≡ e + i) → getD (set now (e + i) v) k 0 ≡ tap (take (suc i) τ) k
+      at k b (yes same) =
+          rw same
+          (getD-set-same now (e + i) v 0 (omega (arith, len)) ∙ minus-scaled p (getD σ (e + i) 0) q (getD τ i 0) pos less-q
+          ∙ ap (λ (x : ℕ). minus p (getD σ (e + i) 0) (times p q x)) (sym entry))
+      at k b (no ne) =
+          getD-set-other now (e + i) k v 0 ne ∙ ap (λ (s : List ℕ). getD s k 0) eq ∙ getD-reduced p l σ q e (take i τ) k (omega arith) ∙ tap-same (take i τ) (take (suc i) τ) k (other k ne)
+
+-- ---- a turn of the code's loop, at entry i of what is saved for h
+
+module _ {p : ℕ} {σ : List ℕ} {q e m : ℕ} {saved : List ℕ} {h : ℕ} (r : Reducible p σ q e m saved h) (i : ℕ) {now : List ℕ} (le : i ≤ m) (eq : now ≡ reduced p 128 σ q e (take i (take (suc m) (block h saved)))) where
+  within : e + i < 129
+  within = let b : e + m ≤ 128 = r .reach in omega arith
+
+  kept-tap : getD now (e + i) 0 ≡ getD σ (e + i) 0
+  kept-tap = next-tap p 128 σ q e (take (suc m) (block h saved)) i eq within (r .residues (e + i))
+
+  saved-tap : getD saved (h * 129 + i) 0 ≡ getD (take (suc m) (block h saved)) i 0
+  saved-tap = let b : e + m ≤ 128 = r .reach in saved-at saved h m i le (omega arith)
+
+  pub tap-less : getD now (e + i) 0 < p
+  tap-less = rw kept-tap (r .residues (e + i))
+
+  pub saved-less : getD saved (h * 129 + i) 0 < p
+  saved-less = rw saved-tap (r .saved-residues i)
+
+  pub turn-fits : getD now (e + i) 0 + (p - q) * getD saved (h * 129 + i) 0 < 4294967296
+  turn-fits = tap-fits (r .modulus) (let b : p - q ≤ p = omega arith in b) tap-less saved-less
+
+  pub turn-below : (getD now (e + i) 0 + (p - q) * getD saved (h * 129 + i) 0) % p < 65536
+  turn-below =
+      let b = r .two-or-more in
+      let fits = r .modulus in
+      omega (arith, mod-lt (getD now (e + i) 0 + (p - q) * getD saved (h * 129 + i) 0) (let pos : 0 < p = omega arith in pos))
+
+  pub turn-reduces : set now (e + i) ((getD now (e + i) 0 + (p - q) * getD saved (h * 129 + i) 0) % p) ≡ reduced p 128 σ q e (take (i + 1) (take (suc m) (block h saved)))
+  turn-reduces =
+      ap₂ (λ (x y : ℕ). set now (e + i) ((x + (p - q) * y) % p)) kept-tap saved-tap
+      ∙ reduced-more p 128 σ q e (take (suc m) (block h saved)) i eq within (let b = r .two-or-more in omega arith) (r .factor) (r .residues (e + i))
+      ∙ ap (λ (k : ℕ). reduced p 128 σ q e (take k (take (suc m) (block h saved)))) (sym (add-one i))
