@@ -1,2 +1,4 @@
+pub mod CheckSums
 pub mod Field257
 pub mod Locators
+pub mod Members

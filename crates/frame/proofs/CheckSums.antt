@@ -1,0 +1,97 @@
+-- Check sums in the field: a check sum is the sum of a row's symbols, each times a power of its column's locator. It is linear in the row, and for a row
+-- that is 0 outside a set of columns it is a sum over the set. So a row that is 0 outside a set and whose first check sums, as many as the set has columns,
+-- are 0 is 0 (Vandermonde): two rows that agree outside the set and in these sums are equal.
+-- Assumes nothing.
+use mathlib.Core.Path.{_≡_, refl, sym, ap, ap₂, _∙_}
+use mathlib.Core.Logic.{_⊎_, inl, inr}
+use mathlib.Core.Bool.{Bool, true, false}
+use mathlib.Core.List.{List, [], _∷_}
+use Prim.Native.Nat.{ℕ, suc, _+_, _*_, _%_, _≤_, _<_}
+use native.Mathlib.Nat.{mod-lt}
+use native.Mathlib.Omega.{arith}
+use lib.Dec.{lit<}
+use lib.ListN.{length, getD}
+use lib.Seq.{ext-getD}
+use Rattle.algebra.specs.Ring.{CRing, Field}
+use Rattle.algebra.specs.Sum.{sum, pow}
+use Rattle.algebra.proofs.RingLaws.{add-mul, neg-mul, zero-mul, eq-of-sub-zero}
+use Rattle.algebra.proofs.Sums.{sum-ext, sum-add, sum-neg}
+use Rattle.algebra.proofs.Vandermonde.{weights-unique}
+use Rattle.columns.specs.Columns.{has}
+use Rattle.columns.specs.declared.Columns.{Columns}
+use Rattle.columns.proofs.Listing.{by-test}
+use Rattle.field.proofs.Bridge.{res-mod, res-mul, res-total}
+use Rattle.field.proofs.Totals.{total-ext}
+use Rattle.field.proofs.Prime257.{prime-257}
+use Rattle.frame.proofs.Field257.{F257, R257, res257, res-tells}
+use Rattle.frame.proofs.Locators.{locatorAt, firstExponent, res-weight}
+use Rattle.frame.proofs.Members.{size, member, Below, member-place, member-locators-distinct, member-locators-nonzero, sum-members}
+use Rattle.frame.specs.Frame.{checkSum}
+use Rattle.frame.specs.Powers.{weight}
+open CRing R257 using (car, zero as 𝟘, add as _⊕_, mul as _⊗_, neg, add-neg)
+
+infixl 60 _⊕_
+infixl 70 _⊗_
+-- the power of column i's locator in check sum j + 1
+abbrev pub weightAt : (i j : ℕ) → R257 .car
+weightAt i j = pow R257 (locatorAt i) (firstExponent + j)
+
+-- check sum j + 1 of a row of field elements
+abbrev pub rowSum : (n : ℕ) (d : ℕ → R257 .car) (j : ℕ) → R257 .car
+rowSum n d j = sum R257 n (λ i. d i ⊗ weightAt i j)
+
+-- the row in the field
+abbrev pub symbols : List ℕ → ℕ → R257 .car
+symbols x i = res257 (getD x i 0)
+
+pub checkSum-below : (n : ℕ) (x : List ℕ) (j : ℕ) → checkSum n x j < 257
+unfolding checkSum
+checkSum-below n x j = mod-lt _ (lit< tt)
+
+pub res-checkSum : (n : ℕ) (x : List ℕ) (j : ℕ) → res257 (checkSum n x (suc j)) ≡ rowSum n (symbols x) j
+unfolding checkSum
+res-checkSum n x j =
+    res-mod 257 prime-257 _ ∙ res-total 257 prime-257 n (λ i. getD x i 0 * weight i (suc j))
+    ∙ sum-ext R257 n _ _ (λ i _. res-mul 257 prime-257 (getD x i 0) (weight i (suc j)) ∙ ap (λ w. symbols x i ⊗ w) (res-weight i j))
+
+-- rows with the same symbols have the same check sums
+pub checkSum-ext : (n : ℕ) (x y : List ℕ) (j : ℕ) → ((i : ℕ) → i < n → getD x i 0 ≡ getD y i 0) → checkSum n x j ≡ checkSum n y j
+unfolding checkSum
+checkSum-ext n x y j e = ap (λ (t : ℕ). t % 257) (total-ext n _ _ (λ i h. ap (λ (s : ℕ). s * weight i j) (e i h)))
+
+pub rowSum-sub : (n : ℕ) (c d : ℕ → car) (j : ℕ) → rowSum n (λ i. c i ⊕ neg (d i)) j ≡ rowSum n c j ⊕ neg (rowSum n d j)
+rowSum-sub n c d j =
+    sum-ext R257 n _ (λ i. c i ⊗ weightAt i j ⊕ neg (d i ⊗ weightAt i j)) (λ i _.
+    add-mul R257 (c i) (neg (d i)) (weightAt i j) ∙ ap (λ x. c i ⊗ weightAt i j ⊕ x) (neg-mul R257 (d i) (weightAt i j)))
+    ∙ sum-add R257 n (λ i. c i ⊗ weightAt i j) (λ i. neg (d i ⊗ weightAt i j))
+    ∙ ap (λ x. rowSum n c j ⊕ x) (sum-neg R257 n (λ i. d i ⊗ weightAt i j))
+
+module _ (n : ℕ) (J : Columns) (narrow : n ≤ 256) (below : Below n J) where
+  -- the check sums of a row that is 0 outside the set
+  pub rowSum-members : (d : ℕ → car) → ((i : ℕ) → has J i ≡ false → d i ≡ 𝟘) → (j : ℕ)
+      → rowSum n d j ≡ sum R257 (size J) (λ k. d (member J k) ⊗ weightAt (member J k) j)
+  rowSum-members d z j =
+      sum-members R257 n J (λ i. d i ⊗ weightAt i j) narrow below (λ i f. ap (λ x. x ⊗ weightAt i j) (z i f) ∙ zero-mul R257 (weightAt i j))
+
+  pub supported-zero : (d : ℕ → car) → ((i : ℕ) → has J i ≡ false → d i ≡ 𝟘) → ((j : ℕ) → j < size J → rowSum n d j ≡ 𝟘) → (i : ℕ) → d i ≡ 𝟘
+  supported-zero d z sums i = pick (by-test (has J i))
+    where
+      pick : (has J i ≡ true) ⊎ (has J i ≡ false) → d i ≡ 𝟘
+      pick (inl t) =
+          let place = member-place J i (let b = below i t in omega arith) t in
+          ap d (sym (place .2))
+          ∙ weights-unique F257 (size J) (λ k. locatorAt (member J k)) (member-locators-distinct J) (member-locators-nonzero J) firstExponent
+          (λ k. d (member J k)) (λ j h. sym (rowSum-members d z j) ∙ sums j h) (place .0) (place .1)
+      pick (inr f) = z i f
+
+  pub same-row : (x y : List ℕ) → length x ≡ n → length y ≡ n → ((i : ℕ) → i < n → getD x i 0 < 257) → ((i : ℕ) → i < n → getD y i 0 < 257)
+      → ((i : ℕ) → has J i ≡ false → getD x i 0 ≡ getD y i 0) → ((j : ℕ) → j < size J → checkSum n x (suc j) ≡ checkSum n y (suc j)) → x ≡ y
+  same-row x y lx ly sx sy outside sums =
+      ext-getD 0 x y (lx ∙ sym ly) (λ i h.
+      let b : i < n = omega arith in
+      res-tells (getD x i 0) (getD y i 0) (sx i b) (sy i b) (eq-of-sub-zero R257 _ _ (supported-zero (λ i. symbols x i ⊕ neg (symbols y i))
+      (λ i f. ap (λ s. res257 s ⊕ neg (symbols y i)) (outside i f) ∙ add-neg (symbols y i))
+      (λ j l.
+      rowSum-sub n (symbols x) (symbols y) j
+      ∙ ap (λ s. s ⊕ neg (rowSum n (symbols y) j)) (sym (res-checkSum n x j) ∙ ap res257 (sums j l) ∙ res-checkSum n y j)
+      ∙ add-neg (rowSum n (symbols y) j)) i)))
