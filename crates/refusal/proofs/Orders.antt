@@ -1,14 +1,40 @@
--- Tests and reasons that say the same, one by one: the first test that fails has the number of the first reason that holds, and no test fails exactly
--- where no reason holds.
+-- Orders of refusals. What is given goes by cases: a number of the order, or what stands for no refusal, and then every test passes. Where tests and
+-- reasons say the same, one by one, the number given is that of the first reason that holds, and no test fails exactly where no reason holds.
 -- Assumes nothing.
-use mathlib.Core.Path.{_≡_, refl, sym, ap, _∙_}
-use mathlib.Core.Logic.{inl, inr, _↔_, _≢_}
+use mathlib.Core.Path.{_≡_, refl, sym, subst, _∙_}
+use mathlib.Core.Logic.{_⊎_, inl, inr, _↔_, _≢_}
 use mathlib.Core.Bool.{Bool, true, false, not, false≢true}
-use mathlib.Core.List.{List, [], _∷_}
+use mathlib.Core.List.{List, [], _∷_, _++_, append-nil}
 use Prim.Native.Nat.{ℕ}
 use native.Mathlib.Omega.{arith}
 use Rattle.refusal.specs.Order.{Reason, First, None, Test, firstOf}
 use Rattle.refusal.specs.Outcome.{Outcome, passed, refused, outcome}
+
+-- k is a number of the order
+abbrev pub Among : ℕ → List Test → Type 0
+Among k [] = ⊥
+Among k (t ∷ ts) = (k ≡ t .number) ⊎ Among k ts
+
+-- no test fails
+abbrev pub Pass : List Test → Type 0
+Pass [] = Unit {0}
+Pass (t ∷ ts) = (t .fails ≡ false) × Pass ts
+
+module _ {A : Type 0} (refuse : ℕ → A) (otherwise : A) where
+  pub by-tests : (P : A → Type 0) (ts : List Test) → ((k : ℕ) → Among k ts → P (refuse k)) → (Pass ts → P otherwise)
+      → P (firstOf refuse ts otherwise)
+  by-tests P [] fail pass = pass tt
+  by-tests P (t ∷ ts) fail pass = pick (t .fails) refl (by-tests P ts (λ k a. fail k (inr a)))
+    where
+      pick : (b : Bool) → t .fails ≡ b → ((Pass ts → P otherwise) → P (firstOf refuse ts otherwise)) → P (firstOf refuse (t ∷ ts) otherwise)
+      pick true e later = rw e (fail (t .number) (inl refl))
+      pick false e later = rw e (later (λ p. pass (e, p)))
+
+  pub pass-otherwise : (ts : List Test) → Pass ts → firstOf refuse ts otherwise ≡ otherwise
+  pass-otherwise [] p = refl
+  pass-otherwise (t ∷ ts) p = rw (p .0) (pass-otherwise ts (p .1))
+
+-- ---- tests and reasons
 
 -- a test that fails exactly where a reason of the same number holds
 pub record Says (t : Test) (r : Reason) : Type 0 where
@@ -38,45 +64,49 @@ fails-not t r s n = pick (t .fails) refl
     pick true e = absurd (n (s .reason e))
     pick false e = refl
 
-module _ {A : Type 0} (refuse : ℕ → A) (otherwise : A) where
-  pub reason-refuses : (k : ℕ) (ts : List Test) (rs : List Reason) → SayAll ts rs → First k rs → firstOf refuse ts otherwise ≡ refuse k
-  reason-refuses k [] [] s f = absurd f
-  reason-refuses k [] (r ∷ rs) s f = absurd s
-  reason-refuses k (t ∷ ts) [] s f = absurd s
-  reason-refuses k (t ∷ ts) (r ∷ rs) s (inl f) = rw (s .0 .fails (f .0)) (ap refuse (s .0 .number ∙ sym (f .1)))
-  reason-refuses k (t ∷ ts) (r ∷ rs) s (inr f) = rw (fails-not t r (s .0) (f .0)) (reason-refuses k ts rs (s .1) (f .1))
+pub pass-none : (ts : List Test) (rs : List Reason) → SayAll ts rs → Pass ts → None rs
+pass-none [] [] s p = tt
+pass-none [] (r ∷ rs) s p = absurd s
+pass-none (t ∷ ts) [] s p = absurd s
+pass-none (t ∷ ts) (r ∷ rs) s p = (passes t r (s .0) (p .0), pass-none ts rs (s .1) (p .1))
 
-  pub none-passes : (ts : List Test) (rs : List Reason) → SayAll ts rs → None rs → firstOf refuse ts otherwise ≡ otherwise
-  none-passes [] [] s n = refl
-  none-passes [] (r ∷ rs) s n = absurd s
-  none-passes (t ∷ ts) [] s n = absurd s
-  none-passes (t ∷ ts) (r ∷ rs) s n = rw (fails-not t r (s .0) (n .0)) (none-passes ts rs (s .1) (n .1))
+pub none-pass : (ts : List Test) (rs : List Reason) → SayAll ts rs → None rs → Pass ts
+none-pass [] [] s n = tt
+none-pass [] (r ∷ rs) s n = absurd s
+none-pass (t ∷ ts) [] s n = absurd s
+none-pass (t ∷ ts) (r ∷ rs) s n = (fails-not t r (s .0) (n .0), none-pass ts rs (s .1) (n .1))
 
-  -- where a refusal tells its number and is not what is given otherwise, the converse holds
-  module _ (tells : (k m : ℕ) → refuse k ≡ refuse m → k ≡ m) (differs : (k : ℕ) → otherwise ≢ refuse k) where
-    pub refused-reason : (k : ℕ) (ts : List Test) (rs : List Reason) → SayAll ts rs → firstOf refuse ts otherwise ≡ refuse k → First k rs
-    refused-reason k [] [] s e = absurd (differs k e)
-    refused-reason k [] (r ∷ rs) s e = absurd s
-    refused-reason k (t ∷ ts) [] s e = absurd s
-    refused-reason k (t ∷ ts) (r ∷ rs) s e = pick (t .fails) refl (refused-reason k ts rs (s .1))
-      where
-        pick : (b : Bool) → t .fails ≡ b → (firstOf refuse ts otherwise ≡ refuse k → First k rs) → First k (r ∷ rs)
-        pick true f ih = inl (s .0 .reason f, tells k (r .number) (sym (rw f at e) ∙ ap refuse (s .0 .number)))
-        pick false f ih = inr (passes t r (s .0) f, ih (rw f at e))
+-- Gives a says that a is the refusal k. Where no reason of this order holds, the answer `otherwise` goes on with the order of `rest`.
+module _ {A : Type 0} (Gives : A → Type 0) (k : ℕ) (refuse : ℕ → A) (otherwise : A) (tells : (m : ℕ) → Gives (refuse m) ↔ (k ≡ m)) where
+  pub gives-first : (ts : List Test) (rs rest : List Reason) → SayAll ts rs → (None rs → Gives otherwise ↔ First k rest)
+      → Gives (firstOf refuse ts otherwise) ↔ First k (rs ++ rest)
+  gives-first [] [] rest s later = later tt
+  gives-first [] (r ∷ rs) rest s later = absurd s
+  gives-first (t ∷ ts) [] rest s later = absurd s
+  gives-first (t ∷ ts) (r ∷ rs) rest s later = pick (t .fails) refl (λ n. gives-first ts rs rest (s .1) (λ m. later (n, m)))
+    where
+      pick : (b : Bool) → t .fails ≡ b → ((r .holds → ⊥) → Gives (firstOf refuse ts otherwise) ↔ First k (rs ++ rest))
+          → Gives (firstOf refuse (t ∷ ts) otherwise) ↔ First k (r ∷ (rs ++ rest))
+      pick true e ih = rw e (
+        λ g. inl (s .0 .reason e, tells (t .number) .0 g ∙ s .0 .number),
+        λ f. tells (t .number) .1 (head f ∙ sym (s .0 .number)),
+      )
+        where
+          head : First k (r ∷ (rs ++ rest)) → k ≡ r .number
+          head (inl f) = f .1
+          head (inr f) = absurd (f .0 (s .0 .reason e))
+      pick false e ih = rw e (λ g. inr (no-reason, ih no-reason .0 g), λ f. ih no-reason .1 (tail f))
+        where
+          no-reason : r .holds → ⊥
+          no-reason = passes t r (s .0) e
 
-    pub passed-none : (ts : List Test) (rs : List Reason) → SayAll ts rs → firstOf refuse ts otherwise ≡ otherwise → None rs
-    passed-none [] [] s e = tt
-    passed-none [] (r ∷ rs) s e = absurd s
-    passed-none (t ∷ ts) [] s e = absurd s
-    passed-none (t ∷ ts) (r ∷ rs) s e = pick (t .fails) refl (passed-none ts rs (s .1))
-      where
-        pick : (b : Bool) → t .fails ≡ b → (firstOf refuse ts otherwise ≡ otherwise → None rs) → None (r ∷ rs)
-        pick true f ih = absurd (differs (t .number) (sym (rw f at e)))
-        pick false f ih = (passes t r (s .0) f, ih (rw f at e))
+          tail : First k (r ∷ (rs ++ rest)) → First k (rs ++ rest)
+          tail (inl f) = absurd (no-reason (f .0))
+          tail (inr f) = f .1
 
 -- ---- the outcome of tests
 
-refused-tells : (k m : ℕ) → refused k ≡ refused m → k ≡ m
+refused-tells : (k m : ℕ) → refused m ≡ refused k → k ≡ m
 refused-tells k m e = cc
 
 passed-differs : (k : ℕ) → passed ≢ refused k
@@ -85,8 +115,14 @@ passed-differs k e = let z : _≡_ {A = ℕ} 0 1 = cc in omega arith
 module _ (ts : List Test) (rs : List Reason) (say : SayAll ts rs) where
   -- a number is answered exactly where its reason is the first that holds
   pub outcome-refused : (k : ℕ) → (outcome ts ≡ refused k) ↔ First k rs
-  outcome-refused k = (refused-reason refused passed refused-tells passed-differs k ts rs say, reason-refuses refused passed k ts rs say)
+  outcome-refused k =
+      subst (λ (l : List Reason). (outcome ts ≡ refused k) ↔ First k l) (append-nil rs)
+      (gives-first (λ o. o ≡ refused k) k refused passed (λ m. (refused-tells k m, λ e. cc)) ts rs [] say
+      (λ n. (passed-differs k, λ e. absurd e)))
 
   -- and none where no reason holds
   pub outcome-passed : (outcome ts ≡ passed) ↔ None rs
-  outcome-passed = (passed-none refused passed refused-tells passed-differs ts rs say, none-passes refused passed ts rs say)
+  outcome-passed = (
+    by-tests refused passed (λ o. o ≡ passed → None rs) ts (λ k a e. absurd (passed-differs k (sym e))) (λ p e. pass-none ts rs say p),
+    λ n. pass-otherwise refused passed ts (none-pass ts rs say n),
+  )
