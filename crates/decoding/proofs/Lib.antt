@@ -1,2 +1,3 @@
+pub mod FrameSums
 pub mod Recurrence
 pub mod Support
