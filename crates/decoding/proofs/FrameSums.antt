@@ -1,32 +1,30 @@
 -- The check sums of a frame in the field of residues modulo 257, as power sums of a word for each row, and what it means there that a frame is a codeword
 -- and that taps generate its sequences. The word of a row is its symbols, each scaled so that the sum S_j weighs it with power j of its locator.
 -- Assumes nothing.
-use mathlib.Core.Path.{_≡_, refl, sym, ap, ap₂, subst, _∙_}
+use mathlib.Core.Path.{_≡_, sym, ap, ap₂, _∙_}
 use mathlib.Core.Logic.{_≢_}
 use mathlib.Core.List.{List, [], _∷_}
-use Prim.Native.Nat.{ℕ, zero, suc, _+_, _-_, _*_, _%_, _≤_, _<_}
-use native.Mathlib.Nat.{mod-eq-of-lt, mod-mod}
+use Prim.Native.Nat.{ℕ, zero, suc, _+_, _-_, _*_, _≤_, _<_}
 use native.Mathlib.Omega.{arith}
-use lib.ListN.{length, getD, take, drop}
+use lib.ListN.{length, getD, drop}
 use lib.Seq.{getD-take, getD-drop}
 use Rattle.algebra.specs.Ring.{CRing, Field}
 use Rattle.algebra.specs.Sum.{sum, pow}
-use Rattle.algebra.specs.Polynomial.{Degree, conv}
+use Rattle.algebra.specs.Polynomial.{conv}
 use Rattle.algebra.proofs.Convolution.{conv-degree}
 use Rattle.algebra.proofs.FieldLaws.{mul-cancel, mul-nonzero, power-nonzero, inv-nonzero}
 use Rattle.algebra.proofs.Powers.{pow-add, pow-suc}
 use Rattle.algebra.proofs.RingLaws.{eq-of-sub-zero}
 use Rattle.algebra.proofs.Solver.{:1, _:-_, _:·_, :neg, _:=_, _:×_:≡_:⇒_, solve}
 use Rattle.algebra.proofs.Sums.{sum-ext, sum-add, sum-neg}
-use Rattle.field.specs.Total.{total}
-use Rattle.field.proofs.Bridge.{res-zero, res-mod, res-mul, res-same, res-is-zero, res-total}
+use Rattle.field.proofs.Bridge.{res-zero, res-mod, res-mul, res-total}
 use Rattle.field.proofs.Prime257.{prime-257}
 use Rattle.frame.specs.Frame.{row, cell, checkSum, checkSums, sequences, Codeword}
-use Rattle.frame.specs.Powers.{weight}
 use Rattle.frame.specs.Shape.{checksOf}
 use Rattle.frame.specs.declared.Shape.{Shape}
-use Rattle.frame.proofs.Field257.{F257, R257, res257}
-use Rattle.frame.proofs.Locators.{locatorAt, locator-nonzero, firstExponent, res-weight}
+use Rattle.frame.proofs.Field257.{F257, R257, res257, res-tells, res-tells-zero}
+use Rattle.frame.proofs.CheckSums.{checkSum-below, res-checkSum}
+use Rattle.frame.proofs.Locators.{locatorAt, locator-nonzero, firstExponent}
 use Rattle.lists.proofs.Tabulated.{length-tabulate, getD-tabulate}
 use Rattle.register.specs.Register.{discrepancy, Generates}
 use Rattle.register.specs.Sequences.{symbol}
@@ -37,13 +35,6 @@ open CRing R257 using (car, zero as 𝟘, add as _⊕_, mul as _⊗_, neg, add-n
 
 infixl 60 _⊕_
 infixl 70 _⊗_
-res-checkSum : (n : ℕ) (x : List ℕ) (j : ℕ)
-    → res257 (checkSum n x (suc j)) ≡ sum R257 n (λ i. res257 (getD x i 0) ⊗ pow R257 (locatorAt i) (firstExponent + j))
-unfolding checkSum
-res-checkSum n x j =
-    res-mod 257 prime-257 _ ∙ res-total 257 prime-257 n (λ i. getD x i 0 * weight i (suc j))
-    ∙ sum-ext R257 n _ _ (λ i _. res-mul 257 prime-257 (getD x i 0) (weight i (suc j)) ∙ ap (λ y. res257 (getD x i 0) ⊗ y) (res-weight i j))
-
 -- ---- the word of a row
 
 scale : ℕ → car
@@ -98,10 +89,8 @@ pub error-same-cell : (n : ℕ) (f g : List ℕ) (h i : ℕ) → cell n f h i < 
     → error n f g h i ≡ 𝟘 → cell n f h i ≡ cell n g h i
 unfolding word error
 error-same-cell n f g h i lf lg e =
-    sym (mod-eq-of-lt lf)
-    ∙ res-same 257 prime-257 (cell n f h i) (cell n g h i) .0
+    res-tells (cell n f h i) (cell n g h i) lf lg
     (mul-cancel F257 (scale i) _ _ (scale-nonzero i) (mul-comm _ _ ∙ eq-of-sub-zero R257 (word n f h i) (word n g h i) e ∙ mul-comm _ _))
-    ∙ mod-eq-of-lt lg
 
 -- ---- codewords and generators
 
@@ -112,10 +101,8 @@ codeword-sums s f code h j below one within =
 
 pub sums-codeword : (s : Shape) (f : List ℕ)
     → ((h j : ℕ) → h < s .rows → 1 ≤ j → j ≤ checksOf s h → sums (s .columns) f h j ≡ 𝟘) → Codeword s f
-unfolding checkSum
 sums-codeword s f zeros h j below one within =
-    sym (mod-mod _ 257)
-    ∙ res-is-zero 257 prime-257 (checkSum (s .columns) (row (s .columns) f h) j) .0 (res-sums (s .columns) f h j one ∙ zeros h j below one within)
+    res-tells-zero _ (checkSum-below (s .columns) (row (s .columns) f h) j) (res-sums (s .columns) f h j one ∙ zeros h j below one within)
 
 -- ---- the sequences of a frame
 
@@ -159,6 +146,5 @@ module _ (s : Shape) (f : List ℕ) (h : ℕ) (below : h < s .rows) where
         → Generates 257 l τ (getD (sequences s f) h [])
     sums-generate zeros j after within =
         let inside : j ≤ checksOf s h = (let e = sequence-length in omega arith) in
-        let d : ℕ = discrepancy 257 l τ (getD (sequences s f) h []) j in
-        sym (mod-eq-of-lt (discrepancy-less 257 l τ (getD (sequences s f) h []) j (omega arith)))
-        ∙ res-is-zero 257 prime-257 d .0 (res-discrepancy j after inside ∙ zeros j after inside)
+        res-tells-zero _ (discrepancy-less 257 l τ (getD (sequences s f) h []) j (omega arith))
+        (res-discrepancy j after inside ∙ zeros j after inside)

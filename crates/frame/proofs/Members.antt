@@ -64,7 +64,8 @@ module _ (R : CRing) where
   open CRing R using (car, zero as 𝟘, add as _⊕_, add-zero)
 
   infixl 60 _⊕_
-  sum-listed : (n : ℕ) (P : ℕ → Bool) (f : ℕ → car) → ((i : ℕ) → i < n → P i ≡ false → f i ≡ 𝟘)
+  -- the same for the columns below n that pass a test
+  pub sum-listed : (n : ℕ) (P : ℕ → Bool) (f : ℕ → car) → ((i : ℕ) → i < n → P i ≡ false → f i ≡ 𝟘)
       → sum R n f ≡ sum R (count n P) (λ k. f (getD (listed n P) k 0))
   sum-listed zero P f z = sum-zero R f ∙ sym (ap (λ m. sum R m (λ k. f (getD (listed 0 P) k 0))) (count-zero P) ∙ sum-zero R _)
   sum-listed (suc n) P f z = step (sum-listed n P f (λ i h. z i (le-step h))) (by-test (P n))
