@@ -55,19 +55,19 @@ module _ (p : ℕ) (prime : Prime p) where
           poly-reduced p prime l (st .taps) (quotient p d (v .disc)) (n - v .place) (v .taps) (omega (arith, b .taps))
           (omega (arith, b .saved-taps h, b .place h))
           ∙ ap (λ q. Step.reduced (residues p prime) (poly p prime (st .taps)) q (n - v .place) (poly p prime (v .taps)))
-            (res-quotient p prime d (v .disc))
+          (res-quotient p prime d (v .disc))
 
       abs-changed : abs (changed p n h d st) ≡ Step.changed (residues p prime) n h (res p prime d) (abs st)
       abs-changed =
           changed-cases p n h d st (λ x. abs x ≡ Step.changed (residues p prime) n h (res p prime d) (abs st))
           (λ grow.
-            let l : ℕ = n + st .saved h .size - st .saved h .place in
-            ap₂ {C = Step.State (residues p prime .ring .car)} (λ t s. record { size = l; taps = t; saved = s }) (abs-taps l (omega arith) (omega arith))
-            (fun-ext (abs-replaced (st .saved) h (record { place = n; size = st .size; disc = d; taps = st .taps })))
-            ∙ sym (grows (residues p prime) n h (abs st) (res p prime d) grow))
+          let l : ℕ = n + st .saved h .size - st .saved h .place in
+          ap₂ {C = Step.State (residues p prime .ring .car)} (λ t s. record { size = l; taps = t; saved = s }) (abs-taps l (omega arith) (omega arith))
+          (fun-ext (abs-replaced (st .saved) h (record { place = n; size = st .size; disc = d; taps = st .taps })))
+          ∙ sym (grows (residues p prime) n h (abs st) (res p prime d) grow))
           (λ stay.
-            ap (λ t. record { size = st .size; taps = t; saved = λ g. absSaved (st .saved g) }) (abs-taps (st .size) (omega arith) stay)
-            ∙ sym (stays (residues p prime) n h (abs st) (res p prime d) stay))
+          ap (λ t. record { size = st .size; taps = t; saved = λ g. absSaved (st .saved g) }) (abs-taps (st .size) (omega arith) stay)
+          ∙ sym (stays (residues p prime) n h (abs st) (res p prime d) stay))
 
     abs-step : (n h : ℕ) (st : State) → Bounded p N ss n st
         → abs (step p N (getD ss h []) n h st) ≡ Step.step (residues p prime) (sequences p prime N ss) n h (abs st)
@@ -77,14 +77,14 @@ module _ (p : ℕ) (prime : Prime p) where
         step-cases p N s n h st (λ x. abs x ≡ Step.step (residues p prime) Q n h (abs st))
         (λ e. sym (idle (residues p prime) n h (abs st) Q e))
         (λ asked e. sym (satisfied (residues p prime) n h (abs st) Q asked
-          (disc-zero p prime N (st .size) (st .taps) s (b .taps) (fits h) n asked e)))
+        (disc-zero p prime N (st .size) (st .taps) s (b .taps) (fits h) n asked e)))
         (λ asked e.
-          let d : ℕ = discrepancy p (st .size) (st .taps) s (n + length s - N) in
-          abs-changed n h st b (omega arith) d
-          ∙ ap (λ x. Step.changed (residues p prime) n h x (abs st))
-            (disc-aligned p prime N (st .size) (st .taps) s (b .taps) (fits h) n asked)
-          ∙ sym (fails (residues p prime) n h (abs st) Q asked
-            (λ z. e (zero-disc p prime N (st .size) (st .taps) s (b .taps) (fits h) n asked z))))
+        let d : ℕ = discrepancy p (st .size) (st .taps) s (n + length s - N) in
+        abs-changed n h st b (omega arith) d
+        ∙ ap (λ x. Step.changed (residues p prime) n h x (abs st))
+        (disc-aligned p prime N (st .size) (st .taps) s (b .taps) (fits h) n asked)
+        ∙ sym (fails (residues p prime) n h (abs st) Q asked
+        (λ z. e (zero-disc p prime N (st .size) (st .taps) s (b .taps) (fits h) n asked z))))
 
     abs-turn : (n h : ℕ) (st : State) → Bounded p N ss n st
         → abs (turn p N ss n h st) ≡ Step.turn (residues p prime) (sequences p prime N ss) n h (abs st)
@@ -99,8 +99,8 @@ module _ (p : ℕ) (prime : Prime p) where
     abs-start =
         ap₂ {C = Step.State (residues p prime .ring .car)} (λ t s. record { size = 0; taps = t; saved = s }) (fun-ext poly-one)
         (fun-ext (λ h.
-          ap₂ {C = Step.Saved (residues p prime .ring .car)} (λ d t. record { place = N - length (getD ss h []); size = 0; disc = d; taps = t })
-          (res-one p prime) (fun-ext poly-zero)))
+        ap₂ {C = Step.Saved (residues p prime .ring .car)} (λ d t. record { place = N - length (getD ss h []); size = 0; disc = d; taps = t })
+        (res-one p prime) (fun-ext poly-zero)))
 
     pub abs-rounds : (n : ℕ) → abs (rounds p N ss n) ≡ Step.rounds (residues p prime) (sequences p prime N ss) n
     unfolding rounds Step.rounds

@@ -52,9 +52,9 @@ module _ (p : ℕ) (prime : Prime p) (N : ℕ) where
         ∙ res-total p prime (suc l) terms
         ∙ sum-ext (residues p prime .ring) (suc l) (λ i. res p prime (terms i)) (λ i. poly p prime σ i ⊗ aligned s (m - i))
         (λ i h.
-          res-mul p prime (getD σ i 0) (symbol s (m + length s - N - i))
-          ∙ ap (λ (j : ℕ). poly p prime σ i ⊗ res p prime (symbol s j))
-            (let e : m + length s - N - i ≡ m - i - (N - length s) = omega arith in e))
+        res-mul p prime (getD σ i 0) (symbol s (m + length s - N - i))
+        ∙ ap (λ (j : ℕ). poly p prime σ i ⊗ res p prime (symbol s j))
+        (let e : m + length s - N - i ≡ m - i - (N - length s) = omega arith in e))
         ∙ sym (conv-degree (residues p prime .ring) l (poly p prime σ) (aligned s) m (poly-degree p prime l σ taps) (omega arith))
 
     pub disc-zero : (m : ℕ) → l + (N - length s) < m

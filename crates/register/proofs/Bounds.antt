@@ -101,7 +101,10 @@ module _ (p N : ℕ) (ss : List (List ℕ)) (two : 2 ≤ p) where
     bounded-step s =
         let d : ℕ = discrepancy p (st .size) (st .taps) s (n + length s - N) in
         step-cases p N s n h st (Bounded p N ss n) (λ _. b) (λ _ _. b)
-        (λ _ _. changed-cases p n h d st (Bounded p N ss n) (λ _. bounded-grown d (discrepancy-less p (st .size) (st .taps) s (n + length s - N) (omega arith))) (λ _. bounded-stayed d))
+        (λ _ _.
+        changed-cases p n h d st (Bounded p N ss n)
+        (λ _. bounded-grown d (discrepancy-less p (st .size) (st .taps) s (n + length s - N) (omega arith)))
+        (λ _. bounded-stayed d))
 
   pub bounded-turn : (n h : ℕ) (st : State) → Bounded p N ss n st → Bounded p N ss n (turn p N ss n h st)
   unfolding turn

@@ -46,5 +46,5 @@ module _ (p l : ℕ) (σ : List ℕ) (q e : ℕ) (τ : List ℕ) where
   reduced-residues pos =
       residues-past p (reduced p l σ q e τ) pos
       (λ i h.
-        let inside : i ≤ l = omega (arith, length-reduced) in
-        rw (getD-reduced i inside) (mod-lt (getD σ i 0 + (p - times p q (shifted e τ i))) pos))
+      let inside : i ≤ l = omega (arith, length-reduced) in
+      rw (getD-reduced i inside) (mod-lt (getD σ i 0 + (p - times p q (shifted e τ i))) pos))

@@ -61,8 +61,8 @@ module _ (p : ℕ) (ss : List (List ℕ)) (n : ℕ) (prime : Prime p) (round : n
 
   found-alone : foundAlone p ss n ≡ true → Alone p (st .size) (shortened (longest ss - n) ss) (st .taps)
   found-alone e τ g =
-      poly-same p prime τ (st .taps) (omega (arith, g .register .taps, bounded .taps)) (residues-past p τ (omega (arith, prime .two-or-more)) (g .register .residues))
-      (bounded .residues)
+      poly-same p prime τ (st .taps) (omega (arith, g .register .taps, bounded .taps))
+      (residues-past p τ (omega (arith, prime .two-or-more)) (g .register .residues)) (bounded .residues)
       (alone-unique (residues p prime) Q n (abs p prime st) invariant (marked-at e) (poly p prime τ)
       (generator-poly p prime ss n round (st .size) τ g))
 
@@ -74,8 +74,8 @@ module _ (p : ℕ) (ss : List (List ℕ)) (n : ℕ) (prime : Prime p) (round : n
       let same = poly-coefficients p prime (st .size) (o .taps) (o .generates .degree) in
       let taps : length τ ≡ suc (st .size) = length-tabulate (suc (st .size)) _ in
       let equal : τ ≡ st .taps =
-        alone τ (poly-generator p prime ss n round (st .size) τ taps (coefficients-less p prime (st .size) (o .taps))
-        (subst (λ f. GeneratesUpTo (residues p prime) Q f (st .size) n) (sym (fun-ext same)) (o .generates))) in
+      alone τ (poly-generator p prime ss n round (st .size) τ taps (coefficients-less p prime (st .size) (o .taps))
+      (subst (λ f. GeneratesUpTo (residues p prime) Q f (st .size) n) (sym (fun-ext same)) (o .generates))) in
       o .differs (sym (same (o .index)) ∙ ap (λ l. poly p prime l (o .index)) equal)
 
   found-marked : Alone p (st .size) (shortened (longest ss - n) ss) (st .taps) → foundAlone p ss n ≡ true

@@ -52,7 +52,7 @@ module _ (p : ℕ) (prime : Prime p) (ss : List (List ℕ)) (n : ℕ) (round : n
   generator-poly g =
       let taps : length σ ≡ suc l = omega (arith, g .register .taps) in
       let each : All Shortened ss =
-        λ h b. subst (Generates p l σ) (shortened-at (N - n) ss h) (g .generates h (rw length-shortened b)) in
+      λ h b. subst (Generates p l σ) (shortened-at (N - n) ss h) (g .generates h (rw length-shortened b)) in
       record {
         one = ap (res p prime) (g .register .first) ∙ res-one p prime;
         degree = poly-degree p prime l σ taps;
@@ -65,7 +65,7 @@ module _ (p : ℕ) (prime : Prime p) (ss : List (List ℕ)) (n : ℕ) (round : n
       → Generator p l (shortened (N - n) ss) σ
   poly-generator taps small g =
       let each : All Shortened (ordered ss) =
-        λ h b. aligned-generates p prime N l σ (getD (ordered ss) h []) taps (within-longest ss h) n round (λ m. g .zero h m b) in
+      λ h b. aligned-generates p prime N l σ (getD (ordered ss) h []) taps (within-longest ss h) n round (λ m. g .zero h m b) in
       record {
         register = record {
           taps = omega arith;

@@ -8,3 +8,4 @@ pub mod FieldStep
 pub mod Generators
 pub mod Ordering
 pub mod Polynomials
+pub mod Stable

@@ -55,8 +55,8 @@ module _ (p : ℕ) (prime : Prime p) where
   coefficients-less l f =
       residues-past p (coefficients l f) (omega (arith, prime .two-or-more))
       (λ i h.
-        let inside : i < suc l = rw length-tabulate at h in
-        rw (getD-tabulate (suc l) (λ i. value p prime (f i)) i 0 inside) (value-less p prime (f i)))
+      let inside : i < suc l = rw length-tabulate at h in
+      rw (getD-tabulate (suc l) (λ i. value p prime (f i)) i 0 inside) (value-less p prime (f i)))
 
   res-shifted : (e : ℕ) (τ : List ℕ) (i : ℕ) → res p prime (shifted e τ i) ≡ shift (residues p prime .ring) e (poly τ) i
   res-shifted e τ i = pick (decLt i e)
@@ -77,8 +77,13 @@ module _ (p : ℕ) (prime : Prime p) where
         pick (no inside) = getD-reduced p l σ q e τ i (omega arith)
         pick (yes past) =
             getD-reduced-past p l σ q e τ i past
-            ∙ rw (List·getD-eq-default σ 0 (let h : length σ ≤ i = omega arith in h), shifted-above e τ i (omega arith),
-                List·getD-eq-default τ 0 (let h : length τ ≤ i - e = omega arith in h), mul-zero, zero-mod)
+            ∙ rw (
+              List·getD-eq-default σ 0 (let h : length σ ≤ i = omega arith in h),
+              shifted-above e τ i (omega arith),
+              List·getD-eq-default τ 0 (let h : length τ ≤ i - e = omega arith in h),
+              mul-zero,
+              zero-mod,
+            )
             (sym (ap (λ (x : ℕ). x % p) (let h : 0 + (p - 0) ≡ p = omega arith in h) ∙ mod-self p))
 
     pub poly-reduced : poly (reduced p l σ q e τ) ≡ reducedPoly (residues p prime) (poly σ) (res p prime q) e (poly τ)
