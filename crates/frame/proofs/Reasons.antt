@@ -1,0 +1,156 @@
+-- The tests of shapes and frames say their reasons: each fails exactly where its reason holds. Where they pass, the shape is one, and the frame is
+-- well-formed.
+-- Assumes nothing.
+use mathlib.Core.Path.{_≡_, refl, sym, ap, ap₂, _∙_}
+use mathlib.Core.Logic.{_⊎_, inl, inr}
+use mathlib.Core.Bool.{Bool, true, false, not, _&&_, _||_, and-eq-true-iff, false≢true}
+use mathlib.Core.List.{List}
+use Prim.Native.Nat.{ℕ, _*_, _≤_, _<_}
+use native.Mathlib.Decide.{decLt}
+use native.Mathlib.Omega.{arith}
+use lib.Dec.{leb, ltb, eqb}
+use lib.ListN.{length, getD, List·getD-append}
+use borrow.Author.Tests.{ltb-true, ltb-false, leb-true, eqb-true, eqb-false, lt-ltb, le-ltb, le-leb, eq-eqb}
+use Rattle.lists.specs.Tabulate.{every}
+use Rattle.lists.proofs.Tabulated.{every-at, every-of, every-witness, every-ext}
+use Rattle.refusal.specs.Order.{Reason, Test}
+use Rattle.refusal.proofs.Orders.{Says, SayAll, says-not, Pass}
+use Rattle.frame.specs.Demands.{BadChecks, shapeReasons, encodeReasons, frameReasons, sizeReason}
+use Rattle.frame.specs.Encode.{encodeTests, dataBelow}
+use Rattle.frame.specs.Frame.{cell, WellFormed, frameTests}
+use Rattle.frame.specs.Shape.{checksOf, shapeOf, shapeTests, isShape, rowsInRange, columnsInRange, checksInRange}
+use Rattle.frame.specs.declared.Shape.{Shape}
+
+-- a number that is not in the range lo .. hi
+outside-says : (k lo hi n : ℕ)
+    → Says (record { number = k; fails = not (leb lo n && leb n hi) }) (record { number = k; holds = (n < lo) ⊎ (hi < n) })
+outside-says k lo hi n = says-not k (leb lo n && leb n hi) ((n < lo) ⊎ (hi < n)) never (λ e. pick e (decLt n lo) (decLt hi n))
+  where
+    never : (leb lo n && leb n hi) ≡ true → (n < lo) ⊎ (hi < n) → ⊥
+    never e o = let (l, h) = and-eq-true-iff (leb lo n) (leb n hi) .0 e in off (leb-true lo n l) (leb-true n hi h) o
+      where
+        off : lo ≤ n → n ≤ hi → (n < lo) ⊎ (hi < n) → ⊥
+        off a b (inl c) = omega arith
+        off a b (inr c) = omega arith
+
+    pick : (leb lo n && leb n hi) ≡ false → Dec (n < lo) → Dec (hi < n) → (n < lo) ⊎ (hi < n)
+    pick e (yes l) d = inl l
+    pick e (no l) (yes h) = inr h
+    pick e (no l) (no h) =
+        absurd (false≢true (sym e ∙ ap₂ _&&_ (le-leb lo n (omega arith)) (le-leb n hi (omega arith))))
+
+-- a check count k is in range for n columns
+inRange : (n k : ℕ) → Bool
+inRange n k = leb 1 k && (leb k 64 && ltb k n)
+
+in-range : (n k : ℕ) → inRange n k ≡ true → BadChecks n k → ⊥
+unfolding inRange
+in-range n k e = off (leb-true 1 k (a .0)) (leb-true k 64 (b .0)) (ltb-true k n (b .1))
+  where
+    a : (leb 1 k ≡ true) × ((leb k 64 && ltb k n) ≡ true)
+    a = and-eq-true-iff (leb 1 k) (leb k 64 && ltb k n) .0 e
+
+    b : (leb k 64 ≡ true) × (ltb k n ≡ true)
+    b = and-eq-true-iff (leb k 64) (ltb k n) .0 (a .1)
+
+    off : 1 ≤ k → k ≤ 64 → k < n → BadChecks n k → ⊥
+    off l m h (inl x) = omega arith
+    off l m h (inr (inl x)) = omega arith
+    off l m h (inr (inr x)) = omega arith
+
+out-of-range : (n k : ℕ) → inRange n k ≡ false → BadChecks n k
+unfolding inRange
+out-of-range n k e = pick (decLt k 1) (decLt 64 k) (decLt k n)
+  where
+    pick : Dec (k < 1) → Dec (64 < k) → Dec (k < n) → BadChecks n k
+    pick (yes a) b c = inl a
+    pick (no a) (yes b) c = inr (inl b)
+    pick (no a) (no b) (no c) = inr (inr (omega arith))
+    pick (no a) (no b) (yes c) =
+        absurd (false≢true (sym e ∙ ap₂ _&&_ (le-leb 1 k (omega arith)) (ap₂ _&&_ (le-leb k 64 (omega arith)) (lt-ltb k n c))))
+
+pub shape-says : (n : ℕ) (checks : List ℕ) → SayAll (shapeTests n checks) (shapeReasons n checks)
+unfolding shapeTests rowsInRange columnsInRange checksInRange inRange
+shape-says n checks = (
+  outside-says 2 1 8 (length checks),
+  (
+    outside-says 5 2 256 n,
+    (
+      says-not 6 (every (length checks) (λ h. inRange n (getD checks h 0)))
+          ((h : ℕ) × (h < length checks) × BadChecks n (getD checks h 0))
+          (λ e (h, l, b). in-range n (getD checks h 0) (every-at (length checks) _ e h l) b)
+          (λ e. let (h, l, b) = every-witness (length checks) _ e in (h, l, out-of-range n (getD checks h 0) b)),
+      tt,
+    ),
+  ),
+)
+
+size-says : (s : Shape) (f : List ℕ)
+    → Says (record { number = 7; fails = not (eqb (length f) (s .rows * s .columns)) }) (sizeReason s f)
+size-says s f = says-not 7 (eqb (length f) (s .rows * s .columns)) _ (λ e n. n (eqb-true _ _ e)) (eqb-false _ _)
+
+pub encode-says : (s : Shape) (f : List ℕ) → SayAll (encodeTests s f) (encodeReasons s f)
+unfolding encodeTests dataBelow
+encode-says s f = (
+  size-says s f,
+  (
+    says-not 4 (every (s .rows) (λ h. every (s .columns) (below h))) _
+        (λ e (h, i, r, c, n, x). false≢true (sym (ap₂ _||_ (le-ltb i (checksOf s h) c) (le-ltb (cell (s .columns) f h i) 257 x))
+        ∙ every-at (s .columns) (below h) (every-at (s .rows) _ e h r) i n))
+        found,
+    tt,
+  ),
+)
+  where
+    below : ℕ → ℕ → Bool
+    below h i = ltb i (checksOf s h) || ltb (cell (s .columns) f h i) 257
+
+    both : (a b : Bool) → (a || b) ≡ false → (a ≡ false) × (b ≡ false)
+    both true b e = absurd (false≢true (sym e))
+    both false b e = (refl, e)
+
+    found : every (s .rows) (λ h. every (s .columns) (below h)) ≡ false
+        → (h : ℕ) × (i : ℕ) × (h < s .rows) × (checksOf s h ≤ i) × (i < s .columns) × (257 ≤ cell (s .columns) f h i)
+    found e =
+        let (h, r, p) = every-witness (s .rows) (λ h. every (s .columns) (below h)) e in
+        let (i, n, q) = every-witness (s .columns) (below h) p in
+        let (c, x) = both _ _ q in
+        (h, i, r, ltb-false _ _ c, n, ltb-false _ _ x)
+
+pub frame-says : (s : Shape) (f : List ℕ) → SayAll (frameTests s f) (frameReasons s f)
+unfolding frameTests
+frame-says s f = (
+  size-says s f,
+  (
+    says-not 4 (every (length f) (λ k. ltb (getD f k 0) 257)) _
+        (λ e (k, l, x). let b : getD f k 0 < 257 = ltb-true (getD f k 0) 257 (every-at (length f) _ e k l) in omega (arith, x))
+        (λ e. let (k, l, b) = every-witness (length f) _ e in (k, l, ltb-false _ _ b)),
+    tt,
+  ),
+)
+
+-- ---- where the tests pass
+
+-- a flag whose negation is false
+flag : (b : Bool) → not b ≡ false → b ≡ true
+flag true e = refl
+flag false e = absurd (false≢true (sym e))
+
+pub shape-passes : (n : ℕ) (checks : List ℕ) → Pass (shapeTests n checks) → isShape (shapeOf n checks) ≡ true
+unfolding shapeTests isShape shapeOf checksInRange inRange
+shape-passes n checks (r, (c, (k, u))) =
+    ap₂ _&&_ (flag (rowsInRange (length checks)) r)
+    (ap₂ _&&_ (flag (columnsInRange n) c)
+    (every-ext (length checks) _ (λ h. inRange n (getD checks h 0)) (λ h l. ap (inRange n) (List·getD-append checks _ 0 h l)) ∙ flag _ k))
+
+pub frame-passes : (s : Shape) (f : List ℕ) → Pass (frameTests s f) → WellFormed s f
+unfolding frameTests
+frame-passes s f (l, (b, u)) = record {
+  size = eqb-true _ _ (flag _ l);
+  symbols = λ k h. ltb-true _ _ (every-at (length f) _ (flag _ b) k h);
+}
+
+pub well-formed-passes : (s : Shape) (f : List ℕ) → WellFormed s f → Pass (frameTests s f)
+unfolding frameTests
+well-formed-passes s f w =
+    (ap not (eq-eqb _ _ (w .size)), (ap not (every-of (length f) _ (λ k h. lt-ltb _ _ (w .symbols k h))), tt))
