@@ -67,28 +67,31 @@ module _ (p : ℕ) (ss : List (List ℕ)) (n : ℕ) (prime : Prime p) (round : n
       (generator-poly p prime ss n round (st .size) τ g))
 
   -- another register over the field is another list of taps
-  other-refutes : Other (residues p prime) Q n (abs p prime st) invariant
-      → Alone p (st .size) (shortened (longest ss - n) ss) (st .taps) → ⊥
-  other-refutes o alone =
+  other-taps : Other (residues p prime) Q n (abs p prime st) invariant
+      → (τ : List ℕ) × Generator p (st .size) (shortened (longest ss - n) ss) τ × (τ ≡ st .taps → ⊥)
+  other-taps o =
       let τ : List ℕ = coefficients p prime (st .size) (o .taps) in
       let same = poly-coefficients p prime (st .size) (o .taps) (o .generates .degree) in
       let taps : length τ ≡ suc (st .size) = length-tabulate (suc (st .size)) _ in
-      let equal : τ ≡ st .taps =
-      alone τ (poly-generator p prime ss n round (st .size) τ taps (coefficients-less p prime (st .size) (o .taps))
-      (subst (λ f. GeneratesUpTo (residues p prime) Q f (st .size) n) (sym (fun-ext same)) (o .generates))) in
-      o .differs (sym (same (o .index)) ∙ ap (λ l. poly p prime l (o .index)) equal)
+      (τ,
+      poly-generator p prime ss n round (st .size) τ taps (coefficients-less p prime (st .size) (o .taps))
+      (subst (λ f. GeneratesUpTo (residues p prime) Q f (st .size) n) (sym (fun-ext same)) (o .generates)),
+      λ equal. o .differs (sym (same (o .index)) ∙ ap (λ l. poly p prime l (o .index)) equal))
+
+  -- where the mark is missing there is another register of this length
+  pub found-other : foundAlone p ss n ≡ false → (τ : List ℕ) × Generator p (st .size) (shortened (longest ss - n) ss) τ × (τ ≡ st .taps → ⊥)
+  unfolding foundAlone isAlone
+  found-other e =
+      let w = every-witness (length (ordered ss)) _ e in
+      other-taps (not-alone (residues p prime) Q n (abs p prime st) invariant (w .0) (w .1)
+      (leb-false (st .saved (w .0) .place) (st .saved (w .0) .size + max (n - st .size) (longest ss - length (getD (ordered ss) (w .0) []))) (w .2)))
 
   found-marked : Alone p (st .size) (shortened (longest ss - n) ss) (st .taps) → foundAlone p ss n ≡ true
-  unfolding foundAlone isAlone
   found-marked alone = pick (foundAlone p ss n) refl
     where
       pick : (b : Bool) → foundAlone p ss n ≡ b → foundAlone p ss n ≡ true
       pick true e = e
-      pick false e =
-          let w = every-witness (length (ordered ss)) _ e in
-          absurd
-          (other-refutes (not-alone (residues p prime) Q n (abs p prime st) invariant (w .0) (w .1)
-          (leb-false (st .saved (w .0) .place) (st .saved (w .0) .size + max (n - st .size) (longest ss - length (getD (ordered ss) (w .0) []))) (w .2))) alone)
+      pick false e = let (τ, g, differ) = found-other e in absurd (differ (alone τ g))
 
 pub each-round : EachRound
 each-round p ss n prime some below round =
