@@ -4,6 +4,7 @@ pub mod Bounds
 pub mod Cases
 pub mod Coefficients
 pub mod EachRound
+pub mod Examples
 pub mod FieldStep
 pub mod Generators
 pub mod Ordering
