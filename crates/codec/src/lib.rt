@@ -1,2 +1,3 @@
 // The encoder and the check sums of frames over the field of 257.
 pub mod powers;
+pub mod sums;

@@ -1,3 +1,4 @@
 pub mod Copy
 pub mod Entries
+pub mod Filling
 pub mod Tabulated

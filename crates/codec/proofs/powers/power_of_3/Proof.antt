@@ -1,6 +1,6 @@
 -- `codec::powers::power_of_3` meets its contract. Assumes nothing.
-use mathlib.Core.Path.{_∙_}
-use Rattle.codec.proofs.PowerTable.{same-turn}
+use mathlib.Core.Path.{sym, _∙_}
+use Rattle.frame.proofs.Locators.{power-mod}
 use borrow.Author.Needs.{needs}
 use Rattle.codec.proofs.powers.power_of_3.Statement.{statement}
 use Rattle.codec.proofs.powers.power_of_3.Tie as tie
@@ -15,7 +15,7 @@ entry-requires : tie.Need-entry-requires
 entry-requires c κs = search needs
 
 returns : tie.Need-returns
-returns c = c .entry .ensures ∙ same-turn (c .before .before .before .args .e)
+returns c = c .entry .ensures ∙ sym (power-mod (c .before .before .before .args .e))
 
 pub power-of-3-spec : {M : Type 1} → statement M
 power-of-3-spec = tie.close (tie.spec powers-requires cast-entry entry-requires returns)

@@ -1,0 +1,69 @@
+-- `codec::sums::row_sums` meets its contract. The loop fills the list with the check sums. Assumes nothing.
+use Prim.Native.Nat.{ℕ, suc, _-_}
+use mathlib.Core.Path.{ap, _∙_}
+use native.Mathlib.Numerals.{add-one}
+use native.Mathlib.Omega.{arith}
+use lib.ListN.{length}
+use Rattle.lists.proofs.Filling.{Filled, filled-none, filled-more, filled-all}
+use Rattle.frame.specs.Frame.{checkSum, checkSums}
+use borrow.Author.Needs.{needs}
+use Rattle.codec.proofs.sums.row_sums.Statement.{statement}
+use Rattle.codec.proofs.sums.row_sums.Tie as tie
+
+abbrev Inv-loop : tie.InvT-loop
+Inv-loop powers x sums₀ j₀ sums j = Filled (λ k. checkSum (length x) x (suc k)) sums₀ j sums
+
+abbrev μ-loop : tie.MeasureT-loop
+μ-loop powers x sums₀ j₀ sums j = length sums₀ - j
+
+loop-holds : tie.Need-loop-holds Inv-loop μ-loop
+loop-holds c = filled-none _ _
+
+add-check-sum : tie.Need-add-check-sum Inv-loop μ-loop
+add-check-sum c = omega arith
+
+check-sum-requires : tie.Need-check-sum-requires Inv-loop μ-loop
+check-sum-requires c κs = search needs
+
+mul-sums : tie.Need-mul-sums Inv-loop μ-loop
+mul-sums c = omega arith
+
+slice-write-sums : tie.Need-slice-write-sums Inv-loop μ-loop
+slice-write-sums c = omega arith
+
+add-j : tie.Need-add-j Inv-loop μ-loop
+add-j c = omega arith
+
+loop-less : tie.Need-loop-less Inv-loop μ-loop
+loop-less c = omega arith
+
+loop-again : tie.Need-loop-again Inv-loop μ-loop
+loop-again c = 
+    let at = c .before .before in
+    let x = at .before .before .before .args .x .now in
+    filled-more (λ k. checkSum (length x) x (suc k)) _ (at .loop .j) (c .check-sum .result) (at .loop .sums) (at .loop .inv)
+    (omega arith) (c .check-sum .ensures ∙ ap (checkSum (length x) x) (add-one (at .loop .j)))
+
+same-length : tie.Need-same-length Inv-loop μ-loop
+same-length c = omega arith
+
+returns : tie.Need-returns Inv-loop μ-loop
+unfolding checkSums
+returns c = filled-all _ _ _ _ (c .before .loop .inv) (c .loop-test .left)
+
+pub row-sums-spec : {M : Type 1} → statement M
+row-sums-spec =
+    tie.close
+    (tie.spec
+    Inv-loop
+    μ-loop
+    loop-holds
+    add-check-sum
+    check-sum-requires
+    mul-sums
+    slice-write-sums
+    add-j
+    loop-less
+    loop-again
+    same-length
+    returns)

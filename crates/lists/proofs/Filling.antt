@@ -1,0 +1,73 @@
+-- Lists by index, changed one entry after the other: setting an entry, and filling a list from its front. Assumes nothing.
+use mathlib.Core.Path.{_≡_, refl, sym, ap, _∙_}
+use mathlib.Core.Bool.{Bool, cond}
+use mathlib.Core.List.{List}
+use mathlib.Core.Logic.{_≢_}
+use Prim.Native.Nat.{ℕ, _+_, _≤_, _<_}
+use native.Mathlib.Decide.{decLt, ℕ-discrete}
+use native.Mathlib.Omega.{arith}
+use lib.Dec.{ltb}
+use lib.ListN.{length, getD, set, length-set}
+use lib.Seq.{getD-set-same, getD-set-other}
+use borrow.Author.Tests.{lt-ltb, le-ltb}
+use Rattle.lists.specs.Tabulate.{tabulate}
+use Rattle.lists.proofs.Tabulated.{length-tabulate, getD-tabulate, tabulate-ext, tabulate-getD}
+
+-- a list that has n entries, at each k what g says
+pub by-entries : (n : ℕ) (g : ℕ → ℕ) (l : List ℕ) → length l ≡ n → ((k : ℕ) → k < n → getD l k 0 ≡ g k) → l ≡ tabulate n g
+by-entries n g l e h =
+    sym (tabulate-getD l 0) ∙ ap (λ (m : ℕ). tabulate m (λ k. getD l k 0)) e ∙ tabulate-ext n (λ k. getD l k 0) g h
+
+-- the entry i becomes h i, and the others are h's already
+pub set-tabulate : (n : ℕ) (g h : ℕ → ℕ) (i v : ℕ) → i < n → v ≡ h i → ((k : ℕ) → k < n → k ≢ i → g k ≡ h k) → set (tabulate n g) i v ≡ tabulate n h
+set-tabulate n g h i v less e others =
+    by-entries n h (set (tabulate n g) i v) (length-set (tabulate n g) i v ∙ length-tabulate n g) (λ k l. at k l (ℕ-discrete k i))
+  where
+    at : (k : ℕ) → k < n → Dec (k ≡ i) → getD (set (tabulate n g) i v) k 0 ≡ h k
+    at k l (yes q) =
+        ap (λ (m : ℕ). getD (set (tabulate n g) i v) m 0) q
+        ∙ getD-set-same (tabulate n g) i v 0 (let m = length-tabulate n g in omega arith) ∙ e ∙ ap h (sym q)
+    at k l (no q) = getD-set-other (tabulate n g) i k v 0 q ∙ getD-tabulate n g k 0 l ∙ others k l q
+
+-- the list l with its first j entries taken from f instead
+abbrev filling : (f : ℕ → ℕ) (l : List ℕ) (j : ℕ) → List ℕ
+filling f l j = tabulate (length l) (λ k. cond (ltb k j) (f k) (getD l k 0))
+
+-- filling `from` with f has come to j, and left l
+pub record Filled (f : ℕ → ℕ) (from : List ℕ) (j : ℕ) (l : List ℕ) : Type 0 where
+  pub within : j ≤ length from
+  pub size : length l ≡ length from
+  pub entries : l ≡ filling f from j
+
+module _ (f : ℕ → ℕ) (from : List ℕ) where
+  -- how entry k is chosen
+  abbrev chosen : ℕ → Bool → ℕ
+  chosen k b = cond b (f k) (getD from k 0)
+
+  pub filled-none : Filled f from 0 from
+  filled-none = record {
+    within = omega arith;
+    size = refl;
+    entries =
+        by-entries (length from) (λ k. chosen k (ltb k 0)) from refl (λ k h. ap (chosen k) (sym (le-ltb k 0 (omega arith))));
+  }
+
+  pub filled-more : (j v : ℕ) (l : List ℕ) → Filled f from j l → j < length l → v ≡ f j → Filled f from (j + 1) (set l j v)
+  filled-more j v l a less e = record {
+    within = (let s = a .size in omega arith);
+    size = length-set l j v ∙ a .size;
+    entries =
+        ap (λ (m : List ℕ). set m j v) (a .entries)
+        ∙ set-tabulate (length from) (λ k. chosen k (ltb k j)) (λ k. chosen k (ltb k (j + 1))) j v (let s = a .size in omega arith)
+        (e ∙ ap (chosen j) (sym (lt-ltb j (j + 1) (omega arith)))) (λ k h q. ap (chosen k) (same k q (decLt k j)));
+  }
+    where
+      same : (k : ℕ) → k ≢ j → Dec (k < j) → ltb k j ≡ ltb k (j + 1)
+      same k q (yes h) = lt-ltb k j h ∙ sym (lt-ltb k (j + 1) (omega arith))
+      same k q (no h) = le-ltb k j (omega arith) ∙ sym (le-ltb k (j + 1) (omega arith))
+
+  pub filled-all : (j : ℕ) (l : List ℕ) → Filled f from j l → length l ≤ j → l ≡ tabulate (length from) f
+  filled-all j l a le =
+      a .entries
+      ∙ tabulate-ext (length from) (λ k. chosen k (ltb k j)) f
+      (λ k h. ap (chosen k) (lt-ltb k j (let s = a .size in omega arith)))
