@@ -1,7 +1,9 @@
 pub mod CheckSums
 pub mod Field257
+pub mod HeldSums
 pub mod LocatorPolynomial
 pub mod Locators
 pub mod Members
 pub mod Others
 pub mod Reasons
+pub mod Shapes

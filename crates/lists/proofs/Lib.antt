@@ -1,4 +1,5 @@
 pub mod Copy
 pub mod Entries
 pub mod Filling
+pub mod Joined
 pub mod Tabulated
