@@ -8,9 +8,10 @@ use mathlib.Core.Bool.{Bool, true, false}
 use mathlib.Core.List.{List, [], _∷_}
 use Prim.Native.Nat.{ℕ, suc, _+_, _*_, _%_, _≤_, _<_}
 use native.Mathlib.Nat.{mod-lt}
+use native.Mathlib.Decide.{decLt}
 use native.Mathlib.Omega.{arith}
 use lib.Dec.{lit<}
-use lib.ListN.{length, getD}
+use lib.ListN.{length, getD, List·getD-eq-default}
 use lib.Seq.{ext-getD}
 use Rattle.algebra.specs.Ring.{CRing, Field}
 use Rattle.algebra.specs.Sum.{sum, pow}
@@ -85,13 +86,18 @@ module _ (n : ℕ) (J : Columns) (narrow : n ≤ 256) (below : Below n J) where
       pick (inr f) = z i f
 
   pub same-row : (x y : List ℕ) → length x ≡ n → length y ≡ n → ((i : ℕ) → i < n → getD x i 0 < 257) → ((i : ℕ) → i < n → getD y i 0 < 257)
-      → ((i : ℕ) → has J i ≡ false → getD x i 0 ≡ getD y i 0) → ((j : ℕ) → j < size J → checkSum n x (suc j) ≡ checkSum n y (suc j)) → x ≡ y
+      → ((i : ℕ) → i < n → has J i ≡ false → getD x i 0 ≡ getD y i 0)
+      → ((j : ℕ) → j < size J → checkSum n x (suc j) ≡ checkSum n y (suc j)) → x ≡ y
   same-row x y lx ly sx sy outside sums =
       ext-getD 0 x y (lx ∙ sym ly) (λ i h.
       let b : i < n = omega arith in
       res-tells (getD x i 0) (getD y i 0) (sx i b) (sy i b) (eq-of-sub-zero R257 _ _ (supported-zero (λ i. symbols x i ⊕ neg (symbols y i))
-      (λ i f. ap (λ s. res257 s ⊕ neg (symbols y i)) (outside i f) ∙ add-neg (symbols y i))
+      (λ i f. ap (λ s. res257 s ⊕ neg (symbols y i)) (kept i f (decLt i n)) ∙ add-neg (symbols y i))
       (λ j l.
       rowSum-sub n (symbols x) (symbols y) j
       ∙ ap (λ s. s ⊕ neg (rowSum n (symbols y) j)) (sym (res-checkSum n x j) ∙ ap res257 (sums j l) ∙ res-checkSum n y j)
       ∙ add-neg (rowSum n (symbols y) j)) i)))
+    where
+      kept : (i : ℕ) → has J i ≡ false → Dec (i < n) → getD x i 0 ≡ getD y i 0
+      kept i f (yes h) = outside i h f
+      kept i f (no past) = List·getD-eq-default x 0 (omega arith) ∙ sym (List·getD-eq-default y 0 (omega arith))

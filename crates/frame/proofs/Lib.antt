@@ -1,4 +1,5 @@
 pub mod CheckSums
+pub mod CompletionLaws
 pub mod Field257
 pub mod HeldSums
 pub mod LocatorPolynomial

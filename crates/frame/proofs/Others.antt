@@ -73,7 +73,7 @@ getD-mapped f (x ∷ xs) (suc p) d h = getD-mapped f xs p d (le-of-suc-le-suc h)
 module _ (J : Columns) where
   open CRing R257 using (zero as 𝟘)
 
-  pub others : ℕ → List ℕ
+  abbrev pub others : ℕ → List ℕ
   others k = without (member J k) (members J)
 
   module _ (d : ℕ) (sized : size J ≡ suc d) (k : ℕ) (h : k < suc d) where
@@ -81,7 +81,7 @@ module _ (J : Columns) where
     within = rw sized h
 
     others-gap : others k ≡ gap (members J) k within
-    unfolding gap others
+    unfolding gap
     others-gap = without-one (member J k) (members J) k within refl (λ p l n e. n (members-distinct J p k l within e))
 
     pub others-size : length (others k) ≡ d
