@@ -1,0 +1,87 @@
+-- `reader::fields` meets its contract. The loop's invariant: the fields passed stand in `out`, and its later entries are as they were.
+-- Assumes nothing.
+use mathlib.Core.Path.{_≡_, refl, sym, _∙_}
+use Prim.Native.Nat.{_-_, _/_, _≤_}
+use native.Mathlib.Omega.{arith}
+use lib.ListN.{length}
+use denote.Ref.{now}
+use borrow.Author.Needs.{needs}
+use Rattle.reader.specs.Fields.{Filled}
+use Rattle.reader.proofs.Filling.{filled-none, filled-more}
+use Rattle.reader.proofs.Handed.{value-means, end-means}
+use Rattle.reader.proofs.fields.Statement.{statement}
+use Rattle.reader.proofs.fields.Tie as tie
+
+abbrev Inv-loop : tie.InvT-loop
+Inv-loop s out₀ k₀ out k =
+    (k ≤ length s / 2) × (k ≤ length out₀) × (length out ≡ length out₀) × Filled s out₀ out k
+
+abbrev μ-loop : tie.MeasureT-loop
+μ-loop s out₀ k₀ out k = length out₀ - k
+
+loop-holds : tie.Need-loop-holds Inv-loop μ-loop
+loop-holds c = (omega arith, omega arith, refl, filled-none _ _)
+
+nth-requires : tie.Need-nth-requires Inv-loop μ-loop
+nth-requires c κs = omega arith
+
+enum-known-v : tie.Need-enum-known-v Inv-loop μ-loop
+enum-known-v c = search needs
+
+enum-told : tie.Need-enum-told Inv-loop μ-loop
+enum-told c = search needs
+
+same-length : tie.Need-same-length Inv-loop μ-loop
+same-length c = search needs
+
+returns : tie.Need-returns Inv-loop μ-loop
+returns c =
+    let start = c .before .before .before .before .before .before .before in
+    let at = c .before .before .before .before .loop in
+    let ended = end-means (now (start .args .s)) (at .k) (sym (c .enum-told .given .1) ∙ c .before .before .nth .ensures) in
+    (omega arith, at .inv .3)
+
+mul-out : tie.Need-mul-out Inv-loop μ-loop
+mul-out c = search needs
+
+slice-write-out : tie.Need-slice-write-out Inv-loop μ-loop
+slice-write-out c = search needs
+
+add-k : tie.Need-add-k Inv-loop μ-loop
+add-k c = search needs
+
+loop-less : tie.Need-loop-less Inv-loop μ-loop
+loop-less c = omega arith
+
+loop-again : tie.Need-loop-again Inv-loop μ-loop
+loop-again c =
+    let start = c .before .before .before .before .before .before .before .before in
+    let at = c .before .before .before .before .before .loop in
+    let handed = value-means (now (start .args .s)) (at .k) (c .before .v .given .0 .0) (sym (c .before .v .given .1) ∙ c .before .before .before .nth .ensures) in
+    (omega arith, omega arith, search needs, filled-more _ _ (at .out) (at .k) _ (handed .0) (handed .1) (omega arith) (at .inv .3))
+
+same-length-2 : tie.Need-same-length-2 Inv-loop μ-loop
+same-length-2 c = search needs
+
+returns-2 : tie.Need-returns-2 Inv-loop μ-loop
+returns-2 c = (omega arith, c .before .loop .inv .3)
+
+pub fields-spec : {M : Type 1} → statement M
+fields-spec =
+    tie.close
+    (tie.spec
+    Inv-loop
+    μ-loop
+    loop-holds
+    nth-requires
+    enum-known-v
+    enum-told
+    same-length
+    returns
+    mul-out
+    slice-write-out
+    add-k
+    loop-less
+    loop-again
+    same-length-2
+    returns-2)
