@@ -14,7 +14,7 @@ use borrow.Author.Tests.{ltb-true, ltb-false, leb-true, eqb-true, eqb-false, lt-
 use Rattle.lists.specs.Tabulate.{every}
 use Rattle.lists.proofs.Tabulated.{every-at, every-of, every-witness, every-ext}
 use Rattle.refusal.specs.Order.{Reason, Test}
-use Rattle.refusal.proofs.Orders.{Says, SayAll, says-not, Pass}
+use Rattle.refusal.proofs.Orders.{Pass, no-fail, Says, SayAll, says-not}
 use Rattle.frame.specs.Demands.{BadChecks, shapeReasons, encodeReasons, frameReasons, sizeReason}
 use Rattle.frame.specs.Encode.{encodeTests, dataBelow}
 use Rattle.frame.specs.Frame.{cell, WellFormed, frameTests}
@@ -131,23 +131,18 @@ frame-says s f = (
 
 -- ---- where the tests pass
 
--- a flag whose negation is false
-flag : (b : Bool) → not b ≡ false → b ≡ true
-flag true e = refl
-flag false e = absurd (false≢true (sym e))
-
 pub shape-passes : (n : ℕ) (checks : List ℕ) → Pass (shapeTests n checks) → isShape (shapeOf n checks) ≡ true
 unfolding shapeTests isShape shapeOf checksInRange inRange
 shape-passes n checks (r, (c, (k, u))) =
-    ap₂ _&&_ (flag (rowsInRange (length checks)) r)
-    (ap₂ _&&_ (flag (columnsInRange n) c)
-    (every-ext (length checks) _ (λ h. inRange n (getD checks h 0)) (λ h l. ap (inRange n) (List·getD-append checks _ 0 h l)) ∙ flag _ k))
+    ap₂ _&&_ (no-fail (rowsInRange (length checks)) r)
+    (ap₂ _&&_ (no-fail (columnsInRange n) c)
+    (every-ext (length checks) _ (λ h. inRange n (getD checks h 0)) (λ h l. ap (inRange n) (List·getD-append checks _ 0 h l)) ∙ no-fail _ k))
 
 pub frame-passes : (s : Shape) (f : List ℕ) → Pass (frameTests s f) → WellFormed s f
 unfolding frameTests
 frame-passes s f (l, (b, u)) = record {
-  size = eqb-true _ _ (flag _ l);
-  symbols = λ k h. ltb-true _ _ (every-at (length f) _ (flag _ b) k h);
+  size = eqb-true _ _ (no-fail _ l);
+  symbols = λ k h. ltb-true _ _ (every-at (length f) _ (no-fail _ b) k h);
 }
 
 pub well-formed-passes : (s : Shape) (f : List ℕ) → WellFormed s f → Pass (frameTests s f)

@@ -79,13 +79,17 @@ locateCall j f =
 unfoldable pub sameSums : (a b : List ℕ) → Bool
 sameSums a b = every 512 (λ k. eqb (getD a k 0) (getD b k 0))
 
+unfoldable pub repairTests : Job → (f : List ℕ) → List Test
+repairTests j f =
+    let s = j .shape in
+    emptyTest j ∷ record { number = 22; fails = not (isLocatedPhase (j .phase)) } ∷
+    (frameTests s f ++ (record { number = 23; fails = not (sameSums (heldSums s f) (j .findings .sums)) } ∷ []))
+
 unfoldable pub repairCall : Job → (f : List ℕ) → Outcome
 repairCall j f =
     let s = j .shape in
     let J : Columns = j .findings .columns in
-    firstOf (refusing j f)
-    (emptyTest j ∷ record { number = 22; fails = not (isLocatedPhase (j .phase)) } ∷
-    (frameTests s f ++ (record { number = 23; fails = not (sameSums (heldSums s f) (j .findings .sums)) } ∷ [])))
+    firstOf (refusing j f) (repairTests j f)
     (record { answer = columns (lengthOf (j .phase)); marks = J; job = shapedJob s; frame = repaired s J f })
 
 unfoldable pub step : Job → Call → Outcome

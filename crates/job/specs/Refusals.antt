@@ -5,6 +5,7 @@ use mathlib.Core.Logic.{_⊎_, _↔_}
 use mathlib.Core.Bool.{false}
 use mathlib.Core.List.{List, [], _∷_, _++_}
 use Prim.Native.Nat.{ℕ, _<_}
+use lib.ListN.{getD}
 use Rattle.frame.specs.Demands.{shapeReasons, encodeReasons, frameReasons}
 use Rattle.frame.specs.Frame.{Legal, sequences, heldSums, distance}
 use Rattle.frame.specs.Shape.{checksOf}
@@ -44,6 +45,10 @@ registerReasons s f =
     { number = 26; holds = (c : ℕ) × (σ : List ℕ) × Shortest 257 c (sequences s f) σ × (LegalAt s f c → ⊥) } ∷
     []
 
+-- some of the 512 held sums are not those located
+abbrev pub SumsDiffer : (a b : List ℕ) → Type 0
+SumsDiffer a b = (k : ℕ) × (k < 512) × (getD a k 0 ≡ getD b k 0 → ⊥)
+
 -- the refusals of a call in their order
 abbrev pub reasons : Job → Call → List Reason
 reasons j (shape n checks) = shapeReasons n checks
@@ -52,7 +57,7 @@ reasons j (locate f) = emptyReason j ∷ (frameReasons (j .shape) f ++ registerR
 reasons j (repair f) =
     emptyReason j ∷ record { number = 22; holds = isLocatedPhase (j .phase) ≡ false } ∷
     (frameReasons (j .shape) f ++
-    (record { number = 23; holds = heldSums (j .shape) f ≡ j .findings .sums → ⊥ } ∷ []))
+    (record { number = 23; holds = SumsDiffer (heldSums (j .shape) f) (j .findings .sums) } ∷ []))
 
 -- the frame that is lent to a call
 abbrev pub lent : Call → List ℕ

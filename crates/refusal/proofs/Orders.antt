@@ -3,7 +3,7 @@
 -- Assumes nothing.
 use mathlib.Core.Path.{_≡_, refl, sym, subst, _∙_}
 use mathlib.Core.Logic.{_⊎_, inl, inr, _↔_, _≢_}
-use mathlib.Core.Bool.{Bool, true, false, not, false≢true}
+use mathlib.Core.Bool.{Bool, true, false, cond, not, false≢true}
 use mathlib.Core.List.{List, [], _∷_, _++_, append-nil}
 use Prim.Native.Nat.{ℕ}
 use native.Mathlib.Omega.{arith}
@@ -20,6 +20,11 @@ abbrev pub Pass : List Test → Type 0
 Pass [] = Unit {0}
 Pass (t ∷ ts) = (t .fails ≡ false) × Pass ts
 
+-- a test of a negation that does not fail
+pub no-fail : (b : Bool) → not b ≡ false → b ≡ true
+no-fail true e = refl
+no-fail false e = absurd (false≢true (sym e))
+
 module _ {A : Type 0} (refuse : ℕ → A) (otherwise : A) where
   pub by-tests : (P : A → Type 0) (ts : List Test) → ((k : ℕ) → Among k ts → P (refuse k)) → (Pass ts → P otherwise)
       → P (firstOf refuse ts otherwise)
@@ -33,6 +38,17 @@ module _ {A : Type 0} (refuse : ℕ → A) (otherwise : A) where
   pub pass-otherwise : (ts : List Test) → Pass ts → firstOf refuse ts otherwise ≡ otherwise
   pass-otherwise [] p = refl
   pass-otherwise (t ∷ ts) p = rw (p .0) (pass-otherwise ts (p .1))
+
+pub firstOf-map : {A B : Type 0} (h : A → B) (refuse : ℕ → A) (ts : List Test) (otherwise : A)
+    → h (firstOf refuse ts otherwise) ≡ firstOf (λ k. h (refuse k)) ts (h otherwise)
+firstOf-map h refuse [] otherwise = refl
+firstOf-map h refuse (t ∷ ts) otherwise = pick (t .fails) (firstOf-map h refuse ts otherwise)
+  where
+    pick : (b : Bool) → h (firstOf refuse ts otherwise) ≡ firstOf (λ k. h (refuse k)) ts (h otherwise)
+        → h (cond b (refuse (t .number)) (firstOf refuse ts otherwise))
+        ≡ cond b (h (refuse (t .number))) (firstOf (λ k. h (refuse k)) ts (h otherwise))
+    pick true ih = refl
+    pick false ih = ih
 
 -- ---- tests and reasons
 
