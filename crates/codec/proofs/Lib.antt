@@ -1,2 +1,4 @@
 pub mod Accumulation
+pub mod Held
 pub mod PowerTable
+pub mod RowPlace

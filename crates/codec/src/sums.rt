@@ -5,7 +5,9 @@ ghost use mathlib.Core.Path.{_≡_};
 ghost use Prim.Native.Nat.{_*_, _≤_, _<_};
 ghost use lib.ListN.{length};
 ghost use Rattle.codec.specs.Table.{table};
-ghost use Rattle.frame.specs.Frame.{checkSum, checkSums};
+ghost use mathlib.Core.Bool.{true};
+ghost use Rattle.frame.specs.Frame.{checkSum, checkSums, heldSums};
+ghost use Rattle.frame.specs.Shape.{isShape};
 
 fn times(a: u16, b: u16) -> u32
     ensures { λ r. ⌜ r ≡ a * b ⌝ }
@@ -41,4 +43,26 @@ fn row_sums(powers: &[u16; 256], x: &[u16], sums: &mut [u16])
         sums[j] = check_sum(powers, x, j + 1);
         j += 1;
     }
+}
+
+// The check sums of the rows of a frame, row after row, and zeros after them.
+pub fn frame_sums(s: Shape, frame: &[u16]) -> [u16; 512]
+    requires { ⌜ (isShape s ≡ true) × (length (now frame) ≡ s .rows * s .columns) ⌝ }
+    ensures { λ r. ⌜ r ≡ heldSums s (now (frame .entry)) ⌝ }
+{
+    let powers = powers();
+    let rows = s.rows;
+    let columns = s.columns;
+    let mut sums = [0u16; 512];
+    let mut at: usize = 0;
+    let mut h = 0;
+    while h < rows {
+        let a = h * columns;
+        let e = a + columns;
+        let to = at + s.checks[h] as usize;
+        row_sums(&powers, &frame[a..e], &mut sums[at..to]);
+        at = to;
+        h += 1;
+    }
+    sums
 }

@@ -1,7 +1,7 @@
--- Lists one after the other: how long they are together, what all their entries share, and that lists of equal lengths are told by what they join to.
+-- Lists one after the other: one more, how long they are together, what all their entries share, and that lists of equal lengths are told by what they join to.
 -- Assumes nothing.
 use mathlib.Core.Path.{_≡_, refl, sym, ap, ap₂, _∙_}
-use mathlib.Core.List.{List, [], _∷_, _++_}
+use mathlib.Core.List.{List, [], _∷_, _++_, append-assoc, append-nil}
 use Prim.Native.Nat.{ℕ, zero, suc, _+_, _*_, _≤_, _<_}
 use native.Mathlib.Omega.{arith}
 use lib.ListN.{length, getD, take, drop, replicate, length-append}
@@ -17,6 +17,15 @@ module _ {ℓ} {A : Type ℓ} where
   pub joined-suc : (n : ℕ) (f : ℕ → List A) → joined (tabulate (suc n) f) ≡ f 0 ++ joined (tabulate n (λ h. f (suc h)))
   unfolding joined
   joined-suc n f = ap joined (tabulate-suc n f)
+
+  -- one list more stands at the end
+  pub joined-more : (n : ℕ) (f : ℕ → List A) → joined (tabulate (suc n) f) ≡ joined (tabulate n f) ++ f n
+  joined-more zero f =
+      joined-suc 0 f ∙ ap (λ l. f 0 ++ l) (joined-zero (λ h. f (suc h))) ∙ append-nil (f 0) ∙ ap (λ l. l ++ f 0) (sym (joined-zero f))
+  joined-more (suc n) f =
+      joined-suc (suc n) f ∙ ap (λ l. f 0 ++ l) (joined-more n (λ h. f (suc h)))
+      ∙ sym (append-assoc (f 0) (joined (tabulate n (λ h. f (suc h)))) (f (suc n)))
+      ∙ ap (λ l. l ++ f (suc n)) (sym (joined-suc n f))
 
   pub length-joined : (b n : ℕ) (f : ℕ → List A) → ((h : ℕ) → h < n → length (f h) ≤ b) → length (joined (tabulate n f)) ≤ n * b
   length-joined b zero f short = let e = ap length (joined-zero f) in omega arith

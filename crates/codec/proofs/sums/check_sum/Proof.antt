@@ -44,7 +44,7 @@ grown c =
     (c .before .before .before .loop-test .taken) (start .pre .0) (c .times .ensures)
 
 add-total : tie.Need-add-total Inv-loop μ-loop
-add-total c = 
+add-total c =
     let start = c .before .before .before .before .before in
     fits _ _ _ _ _ (grown c) (start .before .pre .1) (start .shared-slice-known .given)
 
@@ -64,7 +64,7 @@ cast-result : tie.Need-cast-result Inv-loop μ-loop
 cast-result c = omega arith
 
 returns : tie.Need-returns Inv-loop μ-loop
-returns c = 
+returns c =
     let start = c .before .before .before in
     finished (start .args .x .now) (start .args .j) _ _ _ (c .before .loop .inv) (c .loop-test .left)
 

@@ -38,7 +38,7 @@ loop-less : tie.Need-loop-less Inv-loop μ-loop
 loop-less c = omega arith
 
 loop-again : tie.Need-loop-again Inv-loop μ-loop
-loop-again c = 
+loop-again c =
     let at = c .before .before in
     let x = at .before .before .before .args .x .now in
     filled-more (λ k. checkSum (length x) x (suc k)) _ (at .loop .j) (c .check-sum .result) (at .loop .sums) (at .loop .inv)

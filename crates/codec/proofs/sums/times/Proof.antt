@@ -7,7 +7,7 @@ use Rattle.codec.proofs.sums.times.Statement.{statement}
 use Rattle.codec.proofs.sums.times.Tie as tie
 
 mul-result : tie.Need-mul-result
-mul-result c = 
+mul-result c =
     let a : c .args .a ≤ 65535 = omega arith in
     let b : c .args .b ≤ 65535 = omega arith in
     omega (arith, mul-le-mul a b)
