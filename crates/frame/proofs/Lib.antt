@@ -7,4 +7,5 @@ pub mod Locators
 pub mod Members
 pub mod Others
 pub mod Reasons
+pub mod Rows
 pub mod Shapes
