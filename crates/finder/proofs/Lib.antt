@@ -1,3 +1,5 @@
 pub mod Blocks
+pub mod Change
 pub mod Discrepancies
 pub mod Reduction
+pub mod Steps

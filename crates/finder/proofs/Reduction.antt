@@ -33,13 +33,24 @@ minus-scaled p a q b pos h =
     let apart : a + (p - q) * b + p ≡ a + (p - r) + (b - t) * p = scaled-apart p a (p - q) q b (b - t) t r (omega arith) (omega arith) (div-add-mod' (q * b) p) (omega (arith, mod-lt (q * b) pos)) in
     sym (add-mod-right (a + (p - q) * b) p) ∙ ap (λ (x : ℕ). x % p) apart ∙ add-mul-mod-self-right (a + (p - r)) (b - t) p
 
-minus-zero : (p a q : ℕ) → a < p → minus p a (times p q 0) ≡ a
+pub minus-zero : (p a q : ℕ) → a < p → minus p a (times p q 0) ≡ a
 minus-zero p a q h = rw (mul-zero, zero-mod, sub-zero, add-mod-right) (mod-eq-of-lt h)
 
 -- c·y and x + c·y fit 32 bits where c is at most the largest modulus and x and y are residues
 pub tap-fits : {p c x y : ℕ} → p ≤ 65521 → c ≤ p → x < p → y < p → x + c * y < 4294967296
 tap-fits {p} {c} {x} {y} hp hc hx hy =
     omega (arith, mul-le-mul (let e : c ≤ 65521 = omega arith in e) (let e : y ≤ 65520 = omega arith in e))
+
+-- x^e·τ has no coefficient past its last
+pub shifted-past : (e : ℕ) (τ : List ℕ) (k : ℕ) → e + length τ ≤ k → shifted e τ k ≡ 0
+shifted-past e τ k h = shifted-above e τ k (omega arith) ∙ List·getD-eq-default τ 0 (let b : length τ ≤ k - e = omega arith in b)
+
+shifted-none : (e k : ℕ) → shifted e [] k ≡ 0
+shifted-none e k = pick (decLt k e)
+  where
+    pick : Dec (k < e) → shifted e [] k ≡ 0
+    pick (yes h) = shifted-below e [] k h
+    pick (no h) = shifted-above e [] k (omega arith)
 
 module _ (p l : ℕ) (σ : List ℕ) (q e : ℕ) where
   -- tap i of σ − q·x^e·τ
@@ -52,21 +63,10 @@ module _ (p l : ℕ) (σ : List ℕ) (q e : ℕ) where
   tap-kept : (τ : List ℕ) (i : ℕ) → shifted e τ i ≡ 0 → getD σ i 0 < p → tap τ i ≡ getD σ i 0
   tap-kept τ i h less = ap (λ (x : ℕ). minus p (getD σ i 0) (times p q x)) h ∙ minus-zero p (getD σ i 0) q less
 
-  -- where τ has no entries from i on, nothing is taken off the taps from e + i on; nor is it before e
-  shifted-past : (τ : List ℕ) (i k : ℕ) → length τ ≤ i → e + i ≤ k → shifted e τ k ≡ 0
-  shifted-past τ i k h le = shifted-above e τ k (omega arith) ∙ List·getD-eq-default τ 0 (let b : length τ ≤ k - e = omega arith in b)
-
-  shifted-none : (k : ℕ) → shifted e [] k ≡ 0
-  shifted-none k = pick (decLt k e)
-    where
-      pick : Dec (k < e) → shifted e [] k ≡ 0
-      pick (yes h) = shifted-below e [] k h
-      pick (no h) = shifted-above e [] k (omega arith)
-
   pub reduced-none : length σ ≡ suc l → ((i : ℕ) → getD σ i 0 < p) → σ ≡ reduced p l σ q e []
   reduced-none len less =
       ext-getD 0 σ (reduced p l σ q e []) (len ∙ sym (length-reduced p l σ q e []))
-      (λ i h. sym (getD-reduced p l σ q e [] i (omega arith) ∙ tap-kept [] i (shifted-none i) (less i)))
+      (λ i h. sym (getD-reduced p l σ q e [] i (omega arith) ∙ tap-kept [] i (shifted-none e i) (less i)))
 
   pub reduced-all : (τ : List ℕ) (i n : ℕ) {now : List ℕ} → now ≡ reduced p l σ q e (take i (take n τ)) → n ≤ i → now ≡ reduced p l σ q e (take n τ)
   reduced-all τ i n eq h = eq ∙ ap (λ (ρ : List ℕ). reduced p l σ q e ρ) (take-all i (take n τ) (omega (arith, length-take n τ)))
@@ -75,7 +75,7 @@ module _ (p l : ℕ) (σ : List ℕ) (q e : ℕ) where
   pub next-tap : (τ : List ℕ) (i : ℕ) {now : List ℕ} → now ≡ reduced p l σ q e (take i τ) → e + i < suc l → getD σ (e + i) 0 < p → getD now (e + i) 0 ≡ getD σ (e + i) 0
   next-tap τ i eq h less =
       ap (λ (s : List ℕ). getD s (e + i) 0) eq ∙ getD-reduced p l σ q e (take i τ) (e + i) (omega arith)
-      ∙ tap-kept (take i τ) (e + i) (shifted-past (take i τ) i (e + i) (omega (arith, length-take i τ)) (omega arith)) less
+      ∙ tap-kept (take i τ) (e + i) (shifted-past e (take i τ) (e + i) (omega (arith, length-take i τ))) less
 
   pub reduced-more :
       (τ : List ℕ) (i : ℕ) {now : List ℕ} → now ≡ reduced p l σ q e (take i τ) → e + i < suc l → 0 < p → q < p → getD σ (e + i) 0 < p →

@@ -25,9 +25,11 @@ stateOf g taps saved =
           };
     }
 
--- the entries of the array past the register are 0, so that a longer one grows into zeros
-abbrev pub Ended : Progress → (taps : List ℕ) → Type 0
-Ended g taps = (i : ℕ) → g .length < i → getD taps i 0 ≡ 0
+-- the arrays are whole, and the entries of the taps past the register are 0, so that a longer one grows into zeros
+pub record Ended (g : Progress) (taps saved : List ℕ) : Type 0 where
+  pub width : length taps ≡ 129
+  pub saved-width : length saved ≡ 1032
+  pub zeros : (i : ℕ) → g .length < i → getD taps i 0 ≡ 0
 
 -- what holds of the state whenever a step (n, h) is made: nothing overflows and no index is out of range
 pub record Ready (p N : ℕ) (s : List ℕ) (n h : ℕ) (st : State) : Type 0 where
@@ -39,6 +41,20 @@ pub record Ready (p N : ℕ) (s : List ℕ) (n h : ℕ) (st : State) : Type 0 wh
   pub sequence : h < 8
   pub size : st .size ≤ n
   pub place : st .saved h .place ≤ max n (N - length s)
+  pub saved-size : st .saved h .size ≤ st .saved h .place
+  pub residues : (i : ℕ) → getD (st .taps) i 0 < p
+  pub disc : st .saved h .disc < p
+  pub saved-residues : (i : ℕ) → getD (st .saved h .taps) i 0 < p
+
+-- what holds of the state when it is changed by a discrepancy d at (n, h)
+pub record Changeable (p n h d : ℕ) (st : State) : Type 0 where
+  pub two-or-more : 2 ≤ p
+  pub modulus : p ≤ 65521
+  pub round : n ≤ 128
+  pub sequence : h < 8
+  pub discrepancy : d < p
+  pub size : st .size ≤ n
+  pub place : st .saved h .place ≤ n
   pub saved-size : st .saved h .size ≤ st .saved h .place
   pub residues : (i : ℕ) → getD (st .taps) i 0 < p
   pub disc : st .saved h .disc < p
@@ -58,4 +74,4 @@ pub record Reducible (p : ℕ) (taps : List ℕ) (q e m : ℕ) (saved : List ℕ
 -- what one step leaves: the state of the definition, and zeros past the register
 pub record Stepped (st : State) (g : Progress) (taps saved : List ℕ) : Type 0 where
   pub state : stateOf g taps saved ≡ st
-  pub ended : Ended g taps
+  pub ended : Ended g taps saved

@@ -3,6 +3,7 @@ mod discrepancy;
 mod find;
 mod reduce;
 mod sort;
+mod step;
 
 use refusal::Refusal;
 

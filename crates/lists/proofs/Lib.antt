@@ -2,4 +2,5 @@ pub mod Copy
 pub mod Entries
 pub mod Filling
 pub mod Joined
+pub mod Put
 pub mod Tabulated

@@ -1,0 +1,161 @@
+-- `change` makes the change of Algorithm 4 on the arrays. Assumes nothing.
+use mathlib.Core.Path.{ap, _∙_}
+use borrow.Author.Needs.{needs}
+use Rattle.field.specs.Residue.{times}
+use Rattle.finder.specs.Progress.{stateOf}
+use Rattle.finder.proofs.Change.{reducible, stays, grows}
+use Rattle.finder.proofs.step.change.Statement.{statement}
+use Rattle.finder.proofs.step.change.Tie as tie
+
+mul-place : tie.Need-mul-place
+mul-place c = search needs
+
+element-copy-out-place : tie.Need-element-copy-out-place
+element-copy-out-place c = search needs
+
+cast-place : tie.Need-cast-place
+cast-place c = search needs
+
+mul-size : tie.Need-mul-size
+mul-size c = search needs
+
+element-copy-out-size : tie.Need-element-copy-out-size
+element-copy-out-size c = search needs
+
+cast-size : tie.Need-cast-size
+cast-size c = search needs
+
+mul-disc : tie.Need-mul-disc
+mul-disc c = search needs
+
+element-copy-out-disc : tie.Need-element-copy-out-disc
+element-copy-out-disc c = search needs
+
+cast-disc : tie.Need-cast-disc
+cast-disc c = search needs
+
+inverse-requires : tie.Need-inverse-requires
+unfolding stateOf
+inverse-requires c κs = search needs
+
+product-requires : tie.Need-product-requires
+unfolding stateOf
+product-requires c κs = search needs
+
+sub-e : tie.Need-sub-e
+unfolding stateOf
+sub-e c = search needs
+
+add-if1 : tie.Need-add-if1
+unfolding stateOf
+add-if1 c = search needs
+
+add-if1-2 : tie.Need-add-if1-2
+unfolding stateOf
+add-if1-2 c = search needs
+
+reduce-requires : tie.Need-reduce-requires
+unfolding stateOf
+reduce-requires c κs =
+    let at = c .before .before .before .before .before .before .before .before in
+    reducible (at .args .p) (at .args .n) (at .args .h) (at .args .d) (at .args .t5) (at .args .taps .now) (at .args .saved .now) (at .pre .0) (at .pre .1) (c .before .before .before .product .ensures .1)
+
+returns : tie.Need-returns
+unfolding stateOf
+returns c =
+    let at = c .before .before .before .before .before .before .before .before .before in
+    stays (at .args .p) (at .args .n) (at .args .h) (at .args .d) (at .args .t5) (at .args .taps .now) (at .args .saved .now) (at .pre .0) (at .pre .1) _ _ (c .before .before .before .before .product .ensures .0 ∙ ap (times (at .args .p) (at .args .d)) (c .before .before .before .before .before .inverse .ensures .0)) (c .reduce .ensures) (c .before .before .before .if1 .taken)
+
+reduce-requires-2 : tie.Need-reduce-requires-2
+unfolding stateOf
+reduce-requires-2 c κs =
+    let at = c .before .before .before .before .before .before .before .before .before in
+    reducible (at .args .p) (at .args .n) (at .args .h) (at .args .d) (at .args .t5) (at .args .taps .now) (at .args .saved .now) (at .pre .0) (at .pre .1) (c .before .before .before .before .product .ensures .1)
+
+slice-aggregate-keep : tie.Need-slice-aggregate-keep
+unfolding stateOf
+slice-aggregate-keep c = search needs
+
+keep-requires : tie.Need-keep-requires
+unfolding stateOf
+keep-requires c κs = search needs
+
+add-next : tie.Need-add-next
+unfolding stateOf
+add-next c = search needs
+
+sub-next : tie.Need-sub-next
+unfolding stateOf
+sub-next c = search needs
+
+cast-next : tie.Need-cast-next
+unfolding stateOf
+cast-next c = search needs
+
+mul-next : tie.Need-mul-next
+mul-next c = search needs
+
+element-write-next : tie.Need-element-write-next
+element-write-next c = search needs
+
+cast-next-2 : tie.Need-cast-next-2
+unfolding stateOf
+cast-next-2 c = search needs
+
+mul-next-2 : tie.Need-mul-next-2
+mul-next-2 c = search needs
+
+element-write-next-2 : tie.Need-element-write-next-2
+element-write-next-2 c = search needs
+
+cast-next-3 : tie.Need-cast-next-3
+unfolding stateOf
+cast-next-3 c = search needs
+
+mul-next-3 : tie.Need-mul-next-3
+mul-next-3 c = search needs
+
+element-write-next-3 : tie.Need-element-write-next-3
+element-write-next-3 c = search needs
+
+returns-2 : tie.Need-returns-2
+unfolding stateOf
+returns-2 c =
+    let at = c .before .before .before .before .before .before .before .before .before .before .before .before .before in
+    grows (at .args .p) (at .args .n) (at .args .h) (at .args .d) (at .args .t5) (at .args .taps .now) (at .args .saved .now) (at .pre .0) (at .pre .1) _ _ (c .before .before .before .before .before .before .before .before .product .ensures .0 ∙ ap (times (at .args .p) (at .args .d)) (c .before .before .before .before .before .before .before .before .before .inverse .ensures .0)) (c .before .before .before .reduce2 .ensures) (search needs, search needs, search needs) _ (c .keep .ensures) (c .before .before .before .before .before .before .before .if1 .left)
+
+pub change-spec : {M : Type 1} → statement M
+change-spec =
+    tie.close
+    (tie.spec
+    mul-place
+    element-copy-out-place
+    cast-place
+    mul-size
+    element-copy-out-size
+    cast-size
+    mul-disc
+    element-copy-out-disc
+    cast-disc
+    inverse-requires
+    product-requires
+    sub-e
+    add-if1
+    add-if1-2
+    reduce-requires
+    returns
+    reduce-requires-2
+    slice-aggregate-keep
+    keep-requires
+    add-next
+    sub-next
+    cast-next
+    mul-next
+    element-write-next
+    cast-next-2
+    mul-next-2
+    element-write-next-2
+    cast-next-3
+    mul-next-3
+    element-write-next-3
+    returns-2)
