@@ -1,5 +1,8 @@
 pub mod CheckSums
+pub mod CompletedFrames
 pub mod CompletionLaws
+pub mod Demands
+pub mod Encoding
 pub mod Field257
 pub mod HeldSums
 pub mod LocatorPolynomial

@@ -1,7 +1,7 @@
 -- The rows and cells of a frame: what a frame with another row in the place of one holds, and one with every row changed; frames with the same cells are
 -- the same.
 -- Assumes nothing.
-use mathlib.Core.Path.{_≡_, refl, sym, ap, ap₂, _∙_}
+use mathlib.Core.Path.{_≡_, refl, sym, ap, subst, _∙_}
 use mathlib.Core.Logic.{_≢_}
 use mathlib.Core.List.{List, [], _∷_, _++_}
 use Prim.Native.Nat.{ℕ, zero, suc, _+_, _-_, _*_, _/_, _%_, _≤_, _<_}
@@ -166,3 +166,10 @@ same-frames n rows f g lf lg e =
     ext-getD 0 f g (lf ∙ sym lg) (λ k l.
     let (r, c) = place-row n rows k (omega arith) in
     ap (λ (m : ℕ). getD f m 0) (sym (div-add-mod' k n)) ∙ e (k / n) (k % n) r c ∙ ap (λ (m : ℕ). getD g m 0) (div-add-mod' k n))
+
+-- what holds of all cells holds of all symbols
+pub each-symbol : (P : ℕ → Type 0) (n rows : ℕ) (f : List ℕ) → length f ≡ rows * n
+    → ((h i : ℕ) → h < rows → i < n → P (cell n f h i)) → (k : ℕ) → k < length f → P (getD f k 0)
+each-symbol P n rows f lf e k l =
+    let (r, c) = place-row n rows k (omega arith) in
+    subst (λ (m : ℕ). P (getD f m 0)) (div-add-mod' k n) (e (k / n) (k % n) r c)
