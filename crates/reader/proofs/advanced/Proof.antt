@@ -1,5 +1,5 @@
 -- `reader::advanced` meets its contract: a walk of its MIR, by hand. A struct is made anew of the slice that the one passed holds, and a later place.
--- The struct is Copy: what it owns is had twice, one copy is kept whole for the exit, and the other, with the facts of the new place in those of the old, is what the result owns.
+-- The struct is Copy: what it owns is had twice, one copy is kept whole for the exit, and the other, with the facts of the new place instead of the old one's, is what the result owns.
 -- Assumes nothing.
 use mathlib.Core.Path.{refl}
 use Prim.Native.Nat.{ℕ, _+_, _*_, _<_, _^_}
