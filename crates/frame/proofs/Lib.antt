@@ -2,6 +2,7 @@ pub mod CheckSums
 pub mod CompletedFrames
 pub mod CompletionLaws
 pub mod Demands
+pub mod Distances
 pub mod Encoding
 pub mod Field257
 pub mod HeldSums
