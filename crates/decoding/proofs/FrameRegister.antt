@@ -1,0 +1,74 @@
+-- The register of a frame is a shortest one of its sequences, and the mark says whether it is alone. Its length is that of every shortest register, and where
+-- it is not alone there is another one. All this depends on the check sums only.
+-- Assumes nothing.
+use mathlib.Core.Path.{_≡_, refl, sym, ap, ap₂, subst, _∙_}
+use mathlib.Core.Bool.{Bool, true, false, false≢true}
+use mathlib.Core.Logic.{_↔_}
+use mathlib.Core.List.{List, [], _∷_}
+use Prim.Native.Nat.{ℕ, zero, suc, _+_, _-_, _*_, _≤_, _<_}
+use native.Mathlib.Nat.{sub-self, sub-zero, le-refl}
+use native.Mathlib.Decide.{decLt}
+use native.Mathlib.Omega.{arith}
+use lib.ListN.{length, getD, take}
+use lib.Seq.{take-length}
+use Rattle.decoding.specs.Locating.{sizeOf, tapsOf, aloneOf}
+use Rattle.decoding.proofs.FrameSums.{sequence-at, sequence-length, sequence-symbol}
+use Rattle.field.proofs.Prime257.{prime-257}
+use Rattle.frame.specs.Frame.{checkSum, sequences}
+use Rattle.frame.specs.Shape.{isShape, checksOf}
+use Rattle.frame.specs.declared.Shape.{Shape}
+use Rattle.frame.proofs.CheckSums.{checkSum-below}
+use Rattle.frame.proofs.Shapes.{shape-ranges}
+use Rattle.lists.proofs.Tabulated.{length-tabulate}
+use Rattle.register.specs.Algorithm4.{found, foundAlone}
+use Rattle.register.specs.EachRound.{IsShortest}
+use Rattle.register.specs.Register.{Generator, Shortest, Least}
+use Rattle.register.specs.Sequences.{Below, longest, shortened}
+use Rattle.register.proofs.EachRound.{each-round, found-other}
+
+shortened-none : (ss : List (List ℕ)) → shortened 0 ss ≡ ss
+unfolding shortened
+shortened-none [] = refl
+shortened-none (s ∷ ss) = ap₂ _∷_ (ap (λ k. take k s) (sub-zero (length s)) ∙ take-length s) (shortened-none ss)
+
+all-of-it : (ss : List (List ℕ)) → shortened (longest ss - longest ss) ss ≡ ss
+all-of-it ss = ap (λ k. shortened k ss) (sub-self (longest ss)) ∙ shortened-none ss
+
+pub length-sequences : (s : Shape) (f : List ℕ) → length (sequences s f) ≡ s .rows
+unfolding sequences
+length-sequences s f = length-tabulate (s .rows) _
+
+sequences-below : (s : Shape) (f : List ℕ) → Below 257 (sequences s f)
+sequences-below s f h inside i short =
+    let below : h < s .rows = (let e = length-sequences s f in omega arith) in
+    let within : suc i ≤ checksOf s h = (let e = sequence-length s f h below in omega arith) in
+    rw (ap (λ k. getD (getD (sequences s f) h []) k 0) (let e : i ≡ suc i - 1 = omega arith in e), sequence-symbol s f h below (suc i) (omega arith) within)
+    (checkSum-below (s .columns) _ (suc i))
+
+-- two shortest registers are equally long
+pub same-size : (p c l : ℕ) (ss : List (List ℕ)) (σ τ : List ℕ) → Shortest p c ss σ → Shortest p l ss τ → l ≡ c
+same-size p c l ss σ τ a b = pick (decLt l c) (decLt c l)
+  where
+    pick : Dec (l < c) → Dec (c < l) → l ≡ c
+    pick (yes less) d = absurd (a .least l less τ (b .generator))
+    pick (no more) (yes less) = absurd (b .least c less σ (a .generator))
+    pick (no more) (no less) = omega arith
+
+module _ (s : Shape) (f : List ℕ) (shape : isShape s ≡ true) where
+  pub register-of-frame : IsShortest 257 (sizeOf s f) (sequences s f) (tapsOf s f) (aloneOf s f)
+  unfolding sizeOf tapsOf aloneOf
+  register-of-frame =
+      subst (λ ss. IsShortest 257 (sizeOf s f) ss (tapsOf s f) (aloneOf s f)) (all-of-it (sequences s f))
+      (each-round 257 (sequences s f) (longest (sequences s f)) prime-257 (let e = length-sequences s f in omega (arith, shape-ranges s shape .rows-least)) (sequences-below s f) (le-refl _))
+
+  pub not-alone : (aloneOf s f ≡ false) ↔ ((τ : List ℕ) × Generator 257 (sizeOf s f) (sequences s f) τ × (τ ≡ tapsOf s f → ⊥))
+  unfolding sizeOf tapsOf aloneOf
+  not-alone = (
+    λ e. subst (λ ss. (τ : List ℕ) × Generator 257 (sizeOf s f) ss τ × (τ ≡ tapsOf s f → ⊥)) (all-of-it (sequences s f))
+        (found-other 257 (sequences s f) (longest (sequences s f)) prime-257 (le-refl _) e),
+    λ (τ, g, differ). pick (aloneOf s f) refl (λ e. differ (register-of-frame .alone e τ g)),
+  )
+    where
+      pick : (b : Bool) → aloneOf s f ≡ b → (aloneOf s f ≡ true → ⊥) → aloneOf s f ≡ false
+      pick true e no-mark = absurd (no-mark e)
+      pick false e no-mark = e

@@ -1,0 +1,88 @@
+-- The columns that taps name are the roots of their polynomial at the inverses of the locators: never more than the register is long.
+-- Assumes nothing.
+use mathlib.Core.Path.{_≡_, refl, sym, ap, ap₂, _∙_}
+use mathlib.Core.Bool.{Bool, true, false, not, _&&_, and-eq-true-iff}
+use mathlib.Core.List.{List}
+use mathlib.Core.Logic.{_↔_}
+use Prim.Native.Nat.{ℕ, suc, _+_, _%_, _≤_, _<_}
+use native.Mathlib.Nat.{mod-lt}
+use native.Mathlib.Omega.{arith}
+use lib.Dec.{ltb, eqb, lit<}
+use lib.ListN.{length, getD}
+use borrow.Author.Tests.{ltb-true, ltb-false, lt-ltb, le-ltb, eqb-true, eq-eqb, not-true}
+use Rattle.algebra.specs.Ring.{CRing, Field}
+use Rattle.algebra.specs.Polynomial.{eval}
+use Rattle.columns.specs.Columns.{has, members}
+use Rattle.columns.specs.Listed.{count}
+use Rattle.columns.proofs.Listing.{count-skip, length-listed}
+use Rattle.columns.proofs.Marks.{has-columnsOf, has-past, columnsOf-sound, members-columnsOf}
+use Rattle.decoding.specs.Locating.{named, namedColumns, namesAll}
+use Rattle.decoding.proofs.DamageRegister.{columns-distinct, columns-nonzero}
+use Rattle.decoding.proofs.Support.{Roots, roots-at-most}
+use Rattle.field.specs.Coefficients.{value}
+use Rattle.field.specs.Residue.{inverse}
+use Rattle.field.proofs.Bridge.{res-zero, res-one, res-inverse}
+use Rattle.field.proofs.Prime257.{prime-257}
+use Rattle.frame.specs.Powers.{locatorOf}
+use Rattle.frame.specs.Shape.{isShape}
+use Rattle.frame.specs.declared.Shape.{Shape}
+use Rattle.frame.proofs.Field257.{F257, R257, res257, res-tells-zero}
+use Rattle.frame.proofs.LocatorPolynomial.{res-value}
+use Rattle.frame.proofs.Locators.{locatorAt, res-locator}
+use Rattle.frame.proofs.Shapes.{shape-ranges}
+use Rattle.register.specs.Register.{Register}
+use Rattle.register.proofs.Polynomials.{poly, poly-degree}
+open Field F257 using (inv)
+open CRing R257 using (zero as 𝟘)
+
+module _ (s : Shape) (c : ℕ) (σ : List ℕ) (register : Register 257 c σ) where
+  taps : length σ ≡ suc c
+  taps = omega (arith, register .taps)
+
+  -- the value of the polynomial at the inverse of a locator
+  res-root : (i : ℕ) → res257 (value 257 σ (inverse 257 (locatorOf i))) ≡ eval R257 c (poly 257 prime-257 σ) (inv (locatorAt i))
+  res-root i =
+      res-value c σ (inverse 257 (locatorOf i)) taps
+      ∙ ap (eval R257 c (poly 257 prime-257 σ)) (res-inverse 257 prime-257 (locatorOf i) ∙ ap inv (res-locator i))
+
+  pub named-roots : Roots F257 (s .columns) locatorAt (named s σ) c (poly 257 prime-257 σ)
+  unfolding named
+  named-roots i below e =
+      let (inside, root) = and-eq-true-iff (ltb i (s .columns)) _ .0 e in
+      sym (res-root i) ∙ ap res257 (eqb-true _ 0 root) ∙ res-zero 257 prime-257
+
+  pub root-named : (i : ℕ) → i < s .columns → eval R257 c (poly 257 prime-257 σ) (inv (locatorAt i)) ≡ 𝟘 → named s σ i ≡ true
+  unfolding named value
+  root-named i below e =
+      and-eq-true-iff (ltb i (s .columns)) _ .1
+      (lt-ltb i (s .columns) below, eq-eqb _ 0 (res-tells-zero _ (mod-lt _ (lit< tt)) (res-root i ∙ e)))
+
+  pub names-at-most : isShape s ≡ true → count (s .columns) (named s σ) ≤ c
+  names-at-most shape =
+      roots-at-most F257 (s .columns) locatorAt (columns-distinct s shape) (columns-nonzero s shape) (named s σ) c (poly 257 prime-257 σ)
+      (poly-degree 257 prime-257 c σ taps) (ap res257 (register .first) ∙ res-one 257 prime-257) named-roots
+
+  pub names-all : isShape s ≡ true → (namesAll s σ c ≡ true) ↔ (count (s .columns) (named s σ) ≡ c)
+  unfolding namesAll
+  names-all shape = (
+    λ e. (let least = ltb-false _ c (not-true _ e) in omega (arith, names-at-most shape)),
+    λ e. ap not (le-ltb _ c (omega arith)),
+  )
+
+-- ---- the set
+
+module _ (s : Shape) (σ : List ℕ) where
+  pub named-past : (i : ℕ) → s .columns ≤ i → named s σ i ≡ false
+  unfolding named
+  named-past i past = ap (λ (b : Bool). b && eqb (value 257 σ (inverse 257 (locatorOf i))) 0) (le-ltb i (s .columns) past)
+
+  pub has-named : (i : ℕ) → i < 256 → has (namedColumns s σ) i ≡ named s σ i
+  unfolding namedColumns
+  has-named i h = has-columnsOf (named s σ) i h
+
+  pub size-named : isShape s ≡ true → length (members (namedColumns s σ)) ≡ count (s .columns) (named s σ)
+  unfolding namedColumns
+  size-named shape =
+      let few = shape-ranges s shape .columns-most in
+      ap length (members-columnsOf (named s σ)) ∙ length-listed 256 (named s σ)
+      ∙ count-skip (s .columns) 256 (named s σ) few (λ i past _. named-past i past)
