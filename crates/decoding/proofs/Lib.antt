@@ -4,4 +4,6 @@ pub mod FrameRegister
 pub mod FrameSums
 pub mod NamedColumns
 pub mod Recurrence
+pub mod RepairedFrame
+pub mod SoleNearest
 pub mod Support
