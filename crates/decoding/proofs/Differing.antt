@@ -1,20 +1,21 @@
--- What it says that two frames differ in a column or not, and frames with the same cells are the same.
+-- What it says that two frames differ in a column, and that they do not; the cells of a well-formed frame.
 -- Assumes nothing.
-use mathlib.Core.Path.{_≡_, refl, sym, ap, _∙_}
-use mathlib.Core.Bool.{Bool, true, false, not}
+use mathlib.Core.Path.{_≡_, ap}
+use mathlib.Core.Bool.{true, false, not}
 use mathlib.Core.List.{List}
-use Prim.Native.Nat.{ℕ, _+_, _*_, _/_, _%_, _≤_, _<_}
-use lib.Dec.{eqb}
-use lib.ListN.{length, getD}
+use Prim.Native.Nat.{ℕ, _+_, _*_, _<_}
+use native.Mathlib.Omega.{arith}
 use borrow.Author.Tests.{eqb-true, eqb-false, eq-eqb, not-true, not-false}
-use Rattle.frame.specs.Frame.{cell, differs}
+use Rattle.frame.specs.Frame.{cell, WellFormed, differs}
 use Rattle.frame.specs.declared.Shape.{Shape}
+use Rattle.frame.proofs.Rows.{cell-place}
 use Rattle.lists.proofs.Tabulated.{every-at, every-of, every-witness}
 
-module _ (s : Shape) (f g : List ℕ) (i : ℕ) where
-  same : ℕ → Bool
-  same h = eqb (cell (s .columns) f h i) (cell (s .columns) g h i)
+pub cell-below : (s : Shape) (f : List ℕ) → WellFormed s f → (h i : ℕ) → h < s .rows → i < s .columns → cell (s .columns) f h i < 257
+cell-below s f well-formed h i below inside =
+    well-formed .symbols (h * s .columns + i) (omega (arith, cell-place (s .columns) (s .rows) h i below inside, well-formed .size))
 
+module _ (s : Shape) (f g : List ℕ) (i : ℕ) where
   pub agree : differs s f g i ≡ false → (h : ℕ) → h < s .rows → cell (s .columns) f h i ≡ cell (s .columns) g h i
   unfolding differs
   agree e h below = eqb-true _ _ (every-at (s .rows) _ (not-false _ e) h below)

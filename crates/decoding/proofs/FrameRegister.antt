@@ -22,7 +22,7 @@ use Rattle.frame.proofs.Shapes.{shape-ranges}
 use Rattle.lists.proofs.Tabulated.{length-tabulate}
 use Rattle.register.specs.Algorithm4.{found, foundAlone}
 use Rattle.register.specs.EachRound.{IsShortest}
-use Rattle.register.specs.Register.{Generator, Shortest, Least}
+use Rattle.register.specs.Register.{Generator, Shortest, Alone}
 use Rattle.register.specs.Sequences.{Below, longest, shortened}
 use Rattle.register.proofs.EachRound.{each-round, found-other}
 
@@ -45,21 +45,33 @@ sequences-below s f h inside i short =
     rw (ap (λ k. getD (getD (sequences s f) h []) k 0) (let e : i ≡ suc i - 1 = omega arith in e), sequence-symbol s f h below (suc i) (omega arith) within)
     (checkSum-below (s .columns) _ (suc i))
 
--- two shortest registers are equally long
-pub same-size : (p c l : ℕ) (ss : List (List ℕ)) (σ τ : List ℕ) → Shortest p c ss σ → Shortest p l ss τ → l ≡ c
-same-size p c l ss σ τ a b = pick (decLt l c) (decLt c l)
-  where
-    pick : Dec (l < c) → Dec (c < l) → l ≡ c
-    pick (yes less) d = absurd (a .least l less τ (b .generator))
-    pick (no more) (yes less) = absurd (b .least c less σ (a .generator))
-    pick (no more) (no less) = omega arith
-
 module _ (s : Shape) (f : List ℕ) (shape : isShape s ≡ true) where
   pub register-of-frame : IsShortest 257 (sizeOf s f) (sequences s f) (tapsOf s f) (aloneOf s f)
   unfolding sizeOf tapsOf aloneOf
   register-of-frame =
       subst (λ ss. IsShortest 257 (sizeOf s f) ss (tapsOf s f) (aloneOf s f)) (all-of-it (sequences s f))
       (each-round 257 (sequences s f) (longest (sequences s f)) prime-257 (let e = length-sequences s f in omega (arith, shape-ranges s shape .rows-least)) (sequences-below s f) (le-refl _))
+
+  pub frame-generator : Generator 257 (sizeOf s f) (sequences s f) (tapsOf s f)
+  frame-generator = register-of-frame .shortest .generator
+
+  pub frame-taps : length (tapsOf s f) ≡ suc (sizeOf s f)
+  frame-taps = omega (arith, frame-generator .register .taps)
+
+  -- it is as long as every shortest register
+  pub same-size : (l : ℕ) (τ : List ℕ) → Shortest 257 l (sequences s f) τ → l ≡ sizeOf s f
+  same-size l τ b = pick (decLt l (sizeOf s f)) (decLt (sizeOf s f) l)
+    where
+      pick : Dec (l < sizeOf s f) → Dec (sizeOf s f < l) → l ≡ sizeOf s f
+      pick (yes less) d = absurd (register-of-frame .shortest .least l less τ (b .generator))
+      pick (no more) (yes less) = absurd (b .least (sizeOf s f) less (tapsOf s f) frame-generator)
+      pick (no more) (no less) = omega arith
+
+  pub alone-marked : (l : ℕ) (τ : List ℕ) → Shortest 257 l (sequences s f) τ → Alone 257 l (sequences s f) τ → aloneOf s f ≡ true
+  alone-marked l τ b alone = register-of-frame .marked (λ υ g. by-size υ g ∙ sym (by-size (tapsOf s f) frame-generator))
+    where
+      by-size : (υ : List ℕ) → Generator 257 (sizeOf s f) (sequences s f) υ → υ ≡ τ
+      by-size υ g = alone υ (subst (λ m. Generator 257 m (sequences s f) υ) (sym (same-size l τ b)) g)
 
   pub not-alone : (aloneOf s f ≡ false) ↔ ((τ : List ℕ) × Generator 257 (sizeOf s f) (sequences s f) τ × (τ ≡ tapsOf s f → ⊥))
   unfolding sizeOf tapsOf aloneOf

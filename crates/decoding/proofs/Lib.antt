@@ -2,7 +2,9 @@ pub mod DamageRegister
 pub mod Differing
 pub mod FrameRegister
 pub mod FrameSums
+pub mod MendedFrame
 pub mod NamedColumns
+pub mod Recovery
 pub mod Recurrence
 pub mod RepairedFrame
 pub mod SoleNearest

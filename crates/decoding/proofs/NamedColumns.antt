@@ -1,11 +1,12 @@
 -- The columns that taps name are the roots of their polynomial at the inverses of the locators: never more than the register is long.
 -- Assumes nothing.
 use mathlib.Core.Path.{_≡_, refl, sym, ap, ap₂, _∙_}
-use mathlib.Core.Bool.{Bool, true, false, not, _&&_, and-eq-true-iff}
+use mathlib.Core.Bool.{Bool, true, false, not, _&&_, and-eq-true-iff, false≢true}
 use mathlib.Core.List.{List}
 use mathlib.Core.Logic.{_↔_}
 use Prim.Native.Nat.{ℕ, suc, _+_, _%_, _≤_, _<_}
 use native.Mathlib.Nat.{mod-lt}
+use native.Mathlib.Decide.{decLt}
 use native.Mathlib.Omega.{arith}
 use lib.Dec.{ltb, eqb, lit<}
 use lib.ListN.{length, getD}
@@ -29,6 +30,7 @@ use Rattle.frame.specs.declared.Shape.{Shape}
 use Rattle.frame.proofs.Field257.{F257, R257, res257, res-tells-zero}
 use Rattle.frame.proofs.LocatorPolynomial.{res-value}
 use Rattle.frame.proofs.Locators.{locatorAt, res-locator}
+use Rattle.frame.proofs.Members.{Below}
 use Rattle.frame.proofs.Shapes.{shape-ranges}
 use Rattle.register.specs.Register.{Register}
 use Rattle.register.proofs.Polynomials.{poly, poly-degree}
@@ -86,3 +88,14 @@ module _ (s : Shape) (σ : List ℕ) where
       let few = shape-ranges s shape .columns-most in
       ap length (members-columnsOf (named s σ)) ∙ length-listed 256 (named s σ)
       ∙ count-skip (s .columns) 256 (named s σ) few (λ i past _. named-past i past)
+
+  pub named-below : Below (s .columns) (namedColumns s σ)
+  unfolding namedColumns
+  named-below i e = elim (decLt i (s .columns)) [
+    | yes below ↦ below
+    | no past ↦ absurd (false≢true (sym (outside i (omega arith) (decLt i 256)) ∙ e))
+  ]
+    where
+      outside : (i : ℕ) → s .columns ≤ i → Dec (i < 256) → has (namedColumns s σ) i ≡ false
+      outside i past (yes h) = has-named i h ∙ named-past i past
+      outside i past (no h) = has-past (namedColumns s σ) (columnsOf-sound (named s σ)) i (omega arith)

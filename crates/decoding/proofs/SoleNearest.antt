@@ -1,54 +1,38 @@
--- Where the register of a frame names as many columns as it is long, the frame repaired at these columns is a codeword at that distance. Where it is alone,
--- a codeword at that distance differs in the columns that it names; and where no row has fewer checks, only the repaired frame is one.
+-- Where the register of a frame is alone, a codeword at the distance of its length differs in the columns that it names. So one lies there exactly where as
+-- many columns are named, and where no row has fewer checks it is the repaired frame alone: every other legal frame lies farther.
 -- Assumes nothing.
-use mathlib.Core.Path.{_≡_, refl, sym, ap, ap₂, subst, _∙_}
-use mathlib.Core.Bool.{Bool, true, false, _&&_, false≢true}
-use mathlib.Core.List.{List, [], _∷_}
-use mathlib.Core.Logic.{_⊎_, inl, inr, _↔_}
-use Prim.Native.Nat.{ℕ, zero, suc, _+_, _*_, _≤_, _<_}
+use mathlib.Core.Path.{_≡_, sym, ap₂, subst, _∙_}
+use mathlib.Core.Bool.{true}
+use mathlib.Core.List.{List}
+use mathlib.Core.Logic.{_↔_}
+use Prim.Native.Nat.{ℕ, suc, _≤_, _<_}
 use native.Mathlib.Decide.{decLt}
 use native.Mathlib.Omega.{arith}
-use lib.Dec.{ltb, lit<}
-use lib.ListN.{length, getD}
-use borrow.Author.Tests.{leb-true, lt-ltb, le-ltb}
-use Rattle.algebra.specs.Ring.{CRing, Field}
-use Rattle.algebra.specs.Sum.{sum, pow}
-use Rattle.algebra.specs.Polynomial.{Degree, conv, eval}
-use Rattle.algebra.proofs.Convolution.{conv-ext, conv-add-right}
-use Rattle.algebra.proofs.Solver.{:1, :neg, _:+_, _:-_, _:=_, _:×_:≡_:⇒_, solve}
-use Rattle.columns.specs.Columns.{has, columnsOf, members}
+use borrow.Author.Tests.{leb-true}
+use Rattle.algebra.specs.Ring.{Field}
+use Rattle.algebra.specs.Polynomial.{eval}
 use Rattle.columns.specs.Listed.{count}
 use Rattle.columns.specs.declared.Columns.{Columns}
-use Rattle.columns.proofs.Listing.{by-test}
-use Rattle.columns.proofs.Marks.{columnsOf-ext}
 use Rattle.columns.proofs.Subset.{Within, within-le, within-same}
 use Rattle.decoding.specs.Locating.{sizeOf, tapsOf, aloneOf, rowsReach, named, namedColumns, namesAll, repaired}
-use Rattle.decoding.proofs.DamageRegister.{columns-distinct, columns-nonzero, damage-taps, damage-register, damage-roots, no-nearer}
-use Rattle.decoding.proofs.Differing.{agree, agreeing}
-use Rattle.decoding.proofs.FrameRegister.{length-sequences, register-of-frame}
-use Rattle.decoding.proofs.FrameSums.{sums, error, error-sums, same-cell-error, codeword-sums, sums-codeword, generates-sums, res-sums}
-use Rattle.decoding.proofs.NamedColumns.{named-roots, root-named, names-at-most, names-all, named-past, has-named, size-named}
-use Rattle.decoding.proofs.Recurrence.{roots-generate, zeros-go-on}
-use Rattle.decoding.proofs.RepairedFrame.{Completes}
-use Rattle.decoding.proofs.Support.{Outside}
-use Rattle.field.proofs.Bridge.{res-zero, res-one}
+use Rattle.decoding.proofs.DamageRegister.{damage-taps, damage-register, damage-roots, no-nearer}
+use Rattle.decoding.proofs.Differing.{agree}
+use Rattle.decoding.proofs.FrameRegister.{register-of-frame, frame-generator}
+use Rattle.decoding.proofs.MendedFrame.{completes-codeword, completes-distance, completes-differing}
+use Rattle.decoding.proofs.NamedColumns.{root-named, names-at-most, names-all, has-named, named-below, size-named}
+use Rattle.decoding.proofs.RepairedFrame.{Completes, repaired-completes, repaired-only}
 use Rattle.field.proofs.Prime257.{prime-257}
 use Rattle.frame.specs.Frame.{sequences, WellFormed, Codeword, Legal, differs, distance, differing}
 use Rattle.frame.specs.Shape.{isShape, checksOf}
 use Rattle.frame.specs.declared.Shape.{Shape}
-use Rattle.frame.proofs.Field257.{F257, R257, res257}
+use Rattle.frame.proofs.Field257.{F257, R257}
 use Rattle.frame.proofs.Locators.{locatorAt}
-use Rattle.frame.proofs.Members.{size, Below}
 use Rattle.frame.proofs.Shapes.{shape-ranges}
 use Rattle.lists.proofs.Tabulated.{every-at}
-use Rattle.register.specs.EachRound.{IsShortest}
-use Rattle.register.specs.Register.{Generator, Register}
-use Rattle.register.proofs.Polynomials.{poly, poly-degree}
+use Rattle.register.specs.Register.{Generator}
+use Rattle.register.proofs.Polynomials.{poly}
 open Field F257 using (inv)
-open CRing R257 using (car, zero as 𝟘, add as _⊕_, mul as _⊗_, neg, add-zero)
 
-infixl 60 _⊕_
-infixl 70 _⊗_
 pub reach : (s : Shape) (c : ℕ) → rowsReach s c ≡ true → (h : ℕ) → h < s .rows → c ≤ checksOf s h
 unfolding rowsReach
 reach s c e h below = leb-true c (checksOf s h) (every-at (s .rows) _ e h below)
@@ -66,83 +50,6 @@ module _ (s : Shape) (shape : isShape s ≡ true) (f : List ℕ) where
   abbrev J : Columns
   J = namedColumns s σ
 
-  generator : Generator 257 c (sequences s f) σ
-  generator = register-of-frame s f shape .shortest .generator
-
-  taps : length σ ≡ suc c
-  taps = omega (arith, generator .register .taps)
-
-  degree : Degree R257 c (poly 257 prime-257 σ)
-  degree = poly-degree 257 prime-257 c σ taps
-
-  unmarked : (i : ℕ) → i < n → named s σ i ≡ false → has J i ≡ false
-  unmarked i below e = let few = shape-ranges s shape .columns-most in has-named s σ i (omega arith) ∙ e
-
-  module _ (all : count n (named s σ) ≡ c) (e : List ℕ) (completes : Completes s J f e) where
-    size-c : size J ≡ c
-    size-c = size-named s σ shape ∙ all
-
-    errors : ℕ → ℕ → car
-    errors h j = sum R257 n (λ i. error n f e h i ⊗ pow R257 (locatorAt i) j)
-
-    errors-generated : (h j : ℕ) → h < s .rows → c < j → conv R257 (poly 257 prime-257 σ) (errors h) j ≡ 𝟘
-    unfolding errors
-    errors-generated h j below after =
-        roots-generate F257 n locatorAt (columns-distinct s shape) (columns-nonzero s shape) (named s σ) (error n f e h) (errors h)
-        (λ i inside out. same-cell-error n f e h i (sym (completes .kept h i below inside (unmarked i inside out))))
-        j (λ k _ _. refl) c (poly 257 prime-257 σ) degree (named-roots s c σ (generator .register)) j after (omega arith)
-
-    pub completes-codeword : Codeword s e
-    unfolding errors
-    completes-codeword = sums-codeword s e (λ h j below.
-        zeros-go-on R257 c (checksOf s h) (poly 257 prime-257 σ) (sums n e h) degree (ap res257 (generator .register .first) ∙ res-one 257 prime-257)
-        (start h below) (products h below) j)
-      where
-        start : (h : ℕ) → h < s .rows → (j : ℕ) → 1 ≤ j → j ≤ c → sums n e h j ≡ 𝟘
-        start h below zero one few = absurd (let z : ⊥ = omega arith in z)
-        start h below (suc j) one few =
-            sym (res-sums n e h (suc j) one) ∙ ap res257 (completes .zeros h j below (let q = size-c in omega arith)) ∙ res-zero 257 prime-257
-
-        whole : (h k : ℕ) → sums n e h k ⊕ errors h k ≡ sums n f h k
-        whole h k =
-            solve R257 (sums n f h k ∷ sums n e h k ∷ errors h k ∷ []) (λ a b d. :neg :1 :× a :- b :≡ d :⇒ b :+ d := a) tt (error-sums n f e h k)
-
-        products : (h : ℕ) → h < s .rows → (j : ℕ) → c < j → j ≤ checksOf s h → conv R257 (poly 257 prime-257 σ) (sums n e h) j ≡ 𝟘
-        products h below j after within =
-            sym (add-zero _) ∙ ap (λ x. conv R257 (poly 257 prime-257 σ) (sums n e h) j ⊕ x) (sym (errors-generated h j below after))
-            ∙ sym (conv-add-right R257 (poly 257 prime-257 σ) (sums n e h) (errors h) j)
-            ∙ conv-ext R257 (poly 257 prime-257 σ) (poly 257 prime-257 σ) (λ k. sums n e h k ⊕ errors h k) (sums n f h) j (λ _ _. refl) (λ k _. whole h k)
-            ∙ generates-sums s f h below c σ taps (generator .generates h (let q = length-sequences s f in omega arith)) j after within
-
-    differs-named : Within n (differs s e f) (named s σ)
-    differs-named i below differ = pick (by-test (named s σ i))
-      where
-        pick : (named s σ i ≡ true) ⊎ (named s σ i ≡ false) → named s σ i ≡ true
-        pick (inl in-set) = in-set
-        pick (inr out) =
-            absurd (false≢true (sym (agreeing s e f i (λ h row. completes .kept h i row below (unmarked i below out))) ∙ differ))
-
-    pub completes-distance : distance s e f ≡ c
-    unfolding distance
-    completes-distance =
-        let least : c ≤ distance s e f = no-nearer s shape e f completes-codeword in
-        omega (arith, within-le n (differs s e f) (named s σ) differs-named)
-
-    -- it differs from f in all columns that are named, and in no other
-    pub completes-differs : (i : ℕ) → i < n → differs s e f i ≡ named s σ i
-    unfolding distance
-    completes-differs = within-same n (differs s e f) (named s σ) differs-named (completes-distance ∙ sym all)
-
-    pub completes-differing : differing s e f ≡ J
-    unfolding differing namedColumns
-    completes-differing = columnsOf-ext _ (named s σ) (λ i _. pick i (decLt i n))
-      where
-        pick : (i : ℕ) → Dec (i < n) → (ltb i n && differs s e f i) ≡ named s σ i
-        pick i (yes inside) = ap (λ (b : Bool). b && differs s e f i) (lt-ltb i n inside) ∙ completes-differs i inside
-        pick i (no past) = ap (λ (b : Bool). b && differs s e f i) (le-ltb i n (omega arith)) ∙ sym (named-past s σ i (omega arith))
-
-  -- ---- where the register is alone
-
   module _ (alone : aloneOf s f ≡ true) (e : List ℕ) (code : Codeword s e) (near : distance s e f ≤ c) where
     at-c : distance s e f ≡ c
     at-c = omega (arith, no-nearer s shape e f code)
@@ -153,13 +60,13 @@ module _ (s : Shape) (shape : isShape s ≡ true) (f : List ℕ) where
         (subst (λ d. Generator 257 d (sequences s f) (damage-taps s shape e f)) at-c (damage-register s shape e f code))
 
     nearest-named : Within n (differs s e f) (named s σ)
-    nearest-named i below differ = root-named s c σ (generator .register) i below
+    nearest-named i below differ = root-named s c σ (frame-generator s f shape .register) i below
         (ap₂ (λ d τ. eval R257 d (poly 257 prime-257 τ) (inv (locatorAt i))) (sym at-c) (sym same-taps) ∙ damage-roots s shape e f i below differ)
 
     pub nearest-names-all : count n (named s σ) ≡ c
     unfolding distance
     nearest-names-all =
-        omega (arith, within-le n (differs s e f) (named s σ) nearest-named, names-at-most s c σ (generator .register) shape, at-c)
+        omega (arith, within-le n (differs s e f) (named s σ) nearest-named, names-at-most s c σ (frame-generator s f shape .register) shape, at-c)
 
     nearest-differs : (i : ℕ) → i < n → differs s e f i ≡ named s σ i
     unfolding distance
@@ -175,3 +82,41 @@ module _ (s : Shape) (shape : isShape s ≡ true) (f : List ℕ) where
           zeros = λ h j below few. code h (suc j) below (omega arith)
               (omega (arith, reach s c reaches h below, size-named s σ shape, nearest-names-all));
         }
+
+  -- ---- the repaired frame
+
+  module _ (well-formed : WellFormed s f) where
+    completes : Completes s J f (repaired s J f)
+    completes = repaired-completes s J f well-formed shape (named-below s σ)
+
+    module _ (all : namesAll s σ c ≡ true) where
+      pub names-count : count n (named s σ) ≡ c
+      names-count = names-all s c σ (frame-generator s f shape .register) shape .0 all
+
+      pub mended-legal : Legal s (repaired s J f)
+      mended-legal =
+          record { well-formed = completes .well-formed; codeword = completes-codeword s shape f names-count (repaired s J f) completes }
+
+      pub mended-distance : distance s (repaired s J f) f ≡ c
+      mended-distance = completes-distance s shape f names-count (repaired s J f) completes
+
+      pub mended-differing : differing s (repaired s J f) f ≡ J
+      mended-differing = completes-differing s shape f names-count (repaired s J f) completes
+
+    module _ (alone : aloneOf s f ≡ true) where
+      -- document 01: a legal frame lies at distance c
+      pub legal-at-size : (namesAll s σ c ≡ true) ↔ ((g : List ℕ) × Legal s g × (distance s g f ≡ c))
+      legal-at-size = (
+        λ all. (repaired s J f, mended-legal all, mended-distance all),
+        λ (g, legal, at). names-all s c σ (frame-generator s f shape .register) shape .1
+            (nearest-names-all alone g (legal .codeword) (let d : distance s g f ≤ c = omega arith in d)),
+      )
+
+      module _ (reaches : rowsReach s c ≡ true) (e : List ℕ) (legal : Legal s e) where
+        pub nearest-only : distance s e f ≤ c → e ≡ repaired s J f
+        nearest-only near =
+            repaired-only s J f well-formed shape (named-below s σ) e
+            (nearest-completes alone e (legal .codeword) near (legal .well-formed) reaches)
+
+        pub sole-nearest : (e ≡ repaired s J f → ⊥) → c < distance s e f
+        sole-nearest other = elim (decLt c (distance s e f)) [ yes farther ↦ farther | no near ↦ absurd (other (nearest-only (omega arith))) ]

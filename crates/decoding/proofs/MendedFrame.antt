@@ -1,0 +1,126 @@
+-- A frame that completes the frame f at the columns that its register names, where these are as many as the register is long, is a codeword at that distance
+-- from f and differs from it in exactly these columns.
+-- Assumes nothing.
+use mathlib.Core.Path.{_≡_, refl, sym, ap, _∙_}
+use mathlib.Core.Bool.{Bool, true, false, _&&_, false≢true}
+use mathlib.Core.List.{List, [], _∷_}
+use mathlib.Core.Logic.{_⊎_, inl, inr}
+use Prim.Native.Nat.{ℕ, zero, suc, _≤_, _<_}
+use native.Mathlib.Decide.{decLt}
+use native.Mathlib.Omega.{arith}
+use lib.Dec.{ltb}
+use borrow.Author.Tests.{lt-ltb, le-ltb}
+use Rattle.algebra.specs.Ring.{CRing}
+use Rattle.algebra.specs.Sum.{sum, pow}
+use Rattle.algebra.specs.Polynomial.{Degree, conv}
+use Rattle.algebra.proofs.Convolution.{conv-ext, conv-add-right}
+use Rattle.algebra.proofs.Solver.{:1, :neg, _:+_, _:-_, _:=_, _:×_:≡_:⇒_, solve}
+use Rattle.columns.specs.Columns.{has}
+use Rattle.columns.specs.Listed.{count}
+use Rattle.columns.specs.declared.Columns.{Columns}
+use Rattle.columns.proofs.Listing.{by-test}
+use Rattle.columns.proofs.Marks.{columnsOf-ext}
+use Rattle.columns.proofs.Subset.{Within, within-le, within-same}
+use Rattle.decoding.specs.Locating.{sizeOf, tapsOf, named, namedColumns}
+use Rattle.decoding.proofs.DamageRegister.{columns-distinct, columns-nonzero, no-nearer}
+use Rattle.decoding.proofs.Differing.{agreeing}
+use Rattle.decoding.proofs.FrameRegister.{length-sequences, frame-generator, frame-taps}
+use Rattle.decoding.proofs.FrameSums.{sums, error, error-sums, same-cell-error, sums-codeword, generates-sums, res-sums}
+use Rattle.decoding.proofs.NamedColumns.{named-roots, named-past, has-named, size-named}
+use Rattle.decoding.proofs.Recurrence.{roots-generate, zeros-go-on}
+use Rattle.decoding.proofs.RepairedFrame.{Completes}
+use Rattle.field.proofs.Bridge.{res-zero, res-one}
+use Rattle.field.proofs.Prime257.{prime-257}
+use Rattle.frame.specs.Frame.{Codeword, differs, distance, differing}
+use Rattle.frame.specs.Shape.{isShape, checksOf}
+use Rattle.frame.specs.declared.Shape.{Shape}
+use Rattle.frame.proofs.Field257.{F257, R257, res257}
+use Rattle.frame.proofs.Locators.{locatorAt}
+use Rattle.frame.proofs.Members.{size}
+use Rattle.frame.proofs.Shapes.{shape-ranges}
+use Rattle.register.proofs.Polynomials.{poly, poly-degree}
+open CRing R257 using (car, zero as 𝟘, add as _⊕_, mul as _⊗_, neg, add-zero)
+
+infixl 60 _⊕_
+infixl 70 _⊗_
+module _ (s : Shape) (shape : isShape s ≡ true) (f : List ℕ) where
+  abbrev n : ℕ
+  n = s .columns
+
+  abbrev c : ℕ
+  c = sizeOf s f
+
+  abbrev σ : List ℕ
+  σ = tapsOf s f
+
+  abbrev J : Columns
+  J = namedColumns s σ
+
+  degree : Degree R257 c (poly 257 prime-257 σ)
+  degree = poly-degree 257 prime-257 c σ (frame-taps s f shape)
+
+  unmarked : (i : ℕ) → i < n → named s σ i ≡ false → has J i ≡ false
+  unmarked i below e = let few = shape-ranges s shape .columns-most in has-named s σ i (omega arith) ∙ e
+
+  module _ (all : count n (named s σ) ≡ c) (e : List ℕ) (completes : Completes s J f e) where
+    size-c : size J ≡ c
+    size-c = size-named s σ shape ∙ all
+
+    errors : ℕ → ℕ → car
+    errors h j = sum R257 n (λ i. error n f e h i ⊗ pow R257 (locatorAt i) j)
+
+    errors-generated : (h j : ℕ) → h < s .rows → c < j → conv R257 (poly 257 prime-257 σ) (errors h) j ≡ 𝟘
+    unfolding errors
+    errors-generated h j below after =
+        roots-generate F257 n locatorAt (columns-distinct s shape) (columns-nonzero s shape) (named s σ) (error n f e h) (errors h)
+        (λ i inside out. same-cell-error n f e h i (sym (completes .kept h i below inside (unmarked i inside out))))
+        j (λ k _ _. refl) c (poly 257 prime-257 σ) degree (named-roots s c σ (frame-generator s f shape .register)) j after (omega arith)
+
+    pub completes-codeword : Codeword s e
+    unfolding errors
+    completes-codeword = sums-codeword s e (λ h j below.
+        zeros-go-on R257 c (checksOf s h) (poly 257 prime-257 σ) (sums n e h) degree (ap res257 (frame-generator s f shape .register .first) ∙ res-one 257 prime-257)
+        (start h below) (products h below) j)
+      where
+        start : (h : ℕ) → h < s .rows → (j : ℕ) → 1 ≤ j → j ≤ c → sums n e h j ≡ 𝟘
+        start h below zero one few = absurd (let z : ⊥ = omega arith in z)
+        start h below (suc j) one few =
+            sym (res-sums n e h (suc j) one) ∙ ap res257 (completes .zeros h j below (let q = size-c in omega arith)) ∙ res-zero 257 prime-257
+
+        whole : (h k : ℕ) → sums n e h k ⊕ errors h k ≡ sums n f h k
+        whole h k =
+            solve R257 (sums n f h k ∷ sums n e h k ∷ errors h k ∷ []) (λ a b d. :neg :1 :× a :- b :≡ d :⇒ b :+ d := a) tt (error-sums n f e h k)
+
+        products : (h : ℕ) → h < s .rows → (j : ℕ) → c < j → j ≤ checksOf s h → conv R257 (poly 257 prime-257 σ) (sums n e h) j ≡ 𝟘
+        products h below j after within =
+            sym (add-zero _) ∙ ap (λ x. conv R257 (poly 257 prime-257 σ) (sums n e h) j ⊕ x) (sym (errors-generated h j below after))
+            ∙ sym (conv-add-right R257 (poly 257 prime-257 σ) (sums n e h) (errors h) j)
+            ∙ conv-ext R257 (poly 257 prime-257 σ) (poly 257 prime-257 σ) (λ k. sums n e h k ⊕ errors h k) (sums n f h) j (λ _ _. refl) (λ k _. whole h k)
+            ∙ generates-sums s f h below c σ (frame-taps s f shape) (frame-generator s f shape .generates h (let q = length-sequences s f in omega arith)) j after within
+
+    differs-named : Within n (differs s e f) (named s σ)
+    differs-named i below differ = pick (by-test (named s σ i))
+      where
+        pick : (named s σ i ≡ true) ⊎ (named s σ i ≡ false) → named s σ i ≡ true
+        pick (inl in-set) = in-set
+        pick (inr out) =
+            absurd (false≢true (sym (agreeing s e f i (λ h row. completes .kept h i row below (unmarked i below out))) ∙ differ))
+
+    pub completes-distance : distance s e f ≡ c
+    unfolding distance
+    completes-distance =
+        let least : c ≤ distance s e f = no-nearer s shape e f completes-codeword in
+        omega (arith, within-le n (differs s e f) (named s σ) differs-named)
+
+    -- it differs from f in all columns that are named, and in no other
+    pub completes-differs : (i : ℕ) → i < n → differs s e f i ≡ named s σ i
+    unfolding distance
+    completes-differs = within-same n (differs s e f) (named s σ) differs-named (completes-distance ∙ sym all)
+
+    pub completes-differing : differing s e f ≡ J
+    unfolding differing namedColumns
+    completes-differing = columnsOf-ext _ (named s σ) (λ i _. pick i (decLt i n))
+      where
+        pick : (i : ℕ) → Dec (i < n) → (ltb i n && differs s e f i) ≡ named s σ i
+        pick i (yes inside) = ap (λ (b : Bool). b && differs s e f i) (lt-ltb i n inside) ∙ completes-differs i inside
+        pick i (no past) = ap (λ (b : Bool). b && differs s e f i) (le-ltb i n (omega arith)) ∙ sym (named-past s σ i (omega arith))
