@@ -15,7 +15,7 @@ use Rattle.algebra.specs.Polynomial.{Degree, conv, eval}
 use Rattle.algebra.specs.Locator.{Distinct, Nonzero}
 use Rattle.algebra.proofs.RingLaws.{neg-zero}
 use Rattle.decoding.specs.Locating.{sizeOf}
-use Rattle.decoding.proofs.Differing.{agree}
+use Rattle.frame.proofs.Distances.{agree}
 use Rattle.decoding.proofs.FrameRegister.{length-sequences, register-of-frame}
 use Rattle.decoding.proofs.FrameSums.{sums, error, error-sums, same-cell-error, codeword-sums, sums-generate}
 use Rattle.decoding.proofs.Recurrence.{roots-generate}

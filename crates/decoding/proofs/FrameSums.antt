@@ -6,8 +6,7 @@ use mathlib.Core.Logic.{_≢_}
 use mathlib.Core.List.{List, [], _∷_}
 use Prim.Native.Nat.{ℕ, zero, suc, _+_, _-_, _*_, _≤_, _<_}
 use native.Mathlib.Omega.{arith}
-use lib.ListN.{length, getD, drop}
-use lib.Seq.{getD-take, getD-drop}
+use lib.ListN.{length, getD}
 use Rattle.algebra.specs.Ring.{CRing, Field}
 use Rattle.algebra.specs.Sum.{sum, pow}
 use Rattle.algebra.specs.Polynomial.{conv}
@@ -25,6 +24,7 @@ use Rattle.frame.specs.declared.Shape.{Shape}
 use Rattle.frame.proofs.Field257.{F257, R257, res257, res-tells, res-tells-zero}
 use Rattle.frame.proofs.CheckSums.{checkSum-below, res-checkSum}
 use Rattle.frame.proofs.Locators.{locatorAt, locator-nonzero, firstExponent}
+use Rattle.frame.proofs.Rows.{row-cell}
 use Rattle.lists.proofs.Tabulated.{length-tabulate, getD-tabulate}
 use Rattle.register.specs.Register.{discrepancy, Generates}
 use Rattle.register.specs.Sequences.{symbol}
@@ -51,9 +51,6 @@ word n f h i = res257 (cell n f h i) ⊗ scale i
 
 pub sums : (n : ℕ) (f : List ℕ) (h j : ℕ) → car
 sums n f h j = sum R257 n (λ i. word n f h i ⊗ pow R257 (locatorAt i) j)
-
-row-cell : (n : ℕ) (f : List ℕ) (h i : ℕ) → i < n → getD (row n f h) i 0 ≡ cell n f h i
-row-cell n f h i l = getD-take n (drop (h * n) f) i 0 l ∙ getD-drop (h * n) f i 0
 
 pub res-sums : (n : ℕ) (f : List ℕ) (h j : ℕ) → 1 ≤ j → res257 (checkSum n (row n f h) j) ≡ sums n f h j
 unfolding word sums scale

@@ -1,5 +1,4 @@
 pub mod DamageRegister
-pub mod Differing
 pub mod FrameRegister
 pub mod FrameSums
 pub mod MendedFrame

@@ -23,7 +23,7 @@ use Rattle.columns.proofs.Marks.{columnsOf-ext}
 use Rattle.columns.proofs.Subset.{Within, within-le, within-same}
 use Rattle.decoding.specs.Locating.{sizeOf, tapsOf, named, namedColumns}
 use Rattle.decoding.proofs.DamageRegister.{columns-distinct, columns-nonzero, no-nearer}
-use Rattle.decoding.proofs.Differing.{agreeing}
+use Rattle.frame.proofs.Distances.{agreeing}
 use Rattle.decoding.proofs.FrameRegister.{length-sequences, frame-generator, frame-taps}
 use Rattle.decoding.proofs.FrameSums.{sums, error, error-sums, same-cell-error, sums-codeword, generates-sums, res-sums}
 use Rattle.decoding.proofs.NamedColumns.{named-roots, named-past, has-named, size-named}

@@ -14,7 +14,8 @@ use Rattle.algebra.specs.Polynomial.{eval}
 use Rattle.algebra.proofs.FieldLaws.{no-zero-divisors}
 use Rattle.decoding.specs.Locating.{sizeOf, tapsOf, aloneOf, rowsReach, namedColumns, namesAll, repaired}
 use Rattle.decoding.proofs.DamageRegister.{columns-distinct, columns-nonzero, error-outside, damage-sums, no-nearer}
-use Rattle.decoding.proofs.Differing.{row-of-difference, cell-below}
+use Rattle.decoding.proofs.RepairedFrame.{cell-below}
+use Rattle.frame.proofs.Distances.{row-of-difference}
 use Rattle.decoding.proofs.FrameRegister.{length-sequences, register-of-frame, frame-generator}
 use Rattle.decoding.proofs.FrameSums.{sums, error, error-same-cell, generates-sums}
 use Rattle.decoding.proofs.Recurrence.{generates-roots}

@@ -16,7 +16,7 @@ use Rattle.columns.specs.declared.Columns.{Columns}
 use Rattle.columns.proofs.Subset.{Within, within-le, within-same}
 use Rattle.decoding.specs.Locating.{sizeOf, tapsOf, aloneOf, rowsReach, named, namedColumns, namesAll, repaired}
 use Rattle.decoding.proofs.DamageRegister.{damage-taps, damage-register, damage-roots, no-nearer}
-use Rattle.decoding.proofs.Differing.{agree}
+use Rattle.frame.proofs.Distances.{agree}
 use Rattle.decoding.proofs.FrameRegister.{register-of-frame, frame-generator}
 use Rattle.decoding.proofs.MendedFrame.{completes-codeword, completes-distance, completes-differing}
 use Rattle.decoding.proofs.NamedColumns.{root-named, names-at-most, names-all, has-named, named-below, size-named}
