@@ -25,25 +25,33 @@ LegalAt s f c = (g : List ℕ) × Legal s g × (distance s g f ≡ c)
 abbrev pub emptyReason : Job → Reason
 emptyReason j = record { number = 21; holds = (j .phase ≡ Empty) ⊎ (sound j ≡ false) }
 
--- Of a well-formed frame: another register of the shortest length exists; it is alone, and some row has fewer checks than its length c; no legal
--- frame lies at distance c.
-abbrev pub registerReasons : Shape → (f : List ℕ) → List Reason
-registerReasons s f =
+-- Of a well-formed frame: another register of the shortest length exists;
+abbrev pub notAloneReason : Shape → (f : List ℕ) → Reason
+notAloneReason s f =
     record {
       number = 24;
       holds =
           (c : ℕ) × (σ : List ℕ) × (τ : List ℕ) × Shortest 257 c (sequences s f) σ × Generator 257 c (sequences s f) τ ×
           (τ ≡ σ → ⊥);
-    } ∷
+    }
+
+-- it is alone, and some row has fewer checks than its length c;
+abbrev pub shortRowReason : Shape → (f : List ℕ) → Reason
+shortRowReason s f =
     record {
       number = 25;
       holds =
           (c : ℕ) × (σ : List ℕ) × (h : ℕ) × Shortest 257 c (sequences s f) σ × Alone 257 c (sequences s f) σ × (h < s .rows) ×
           (checksOf s h < c);
-    } ∷
-    record
-    { number = 26; holds = (c : ℕ) × (σ : List ℕ) × Shortest 257 c (sequences s f) σ × (LegalAt s f c → ⊥) } ∷
-    []
+    }
+
+-- no legal frame lies at distance c.
+abbrev pub noFrameReason : Shape → (f : List ℕ) → Reason
+noFrameReason s f =
+    record { number = 26; holds = (c : ℕ) × (σ : List ℕ) × Shortest 257 c (sequences s f) σ × (LegalAt s f c → ⊥) }
+
+abbrev pub registerReasons : Shape → (f : List ℕ) → List Reason
+registerReasons s f = notAloneReason s f ∷ shortRowReason s f ∷ noFrameReason s f ∷ []
 
 -- some of the 512 held sums are not those located
 abbrev pub SumsDiffer : (a b : List ℕ) → Type 0

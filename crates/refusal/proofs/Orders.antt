@@ -64,6 +64,13 @@ SayAll [] (r ∷ rs) = ⊥
 SayAll (t ∷ ts) [] = ⊥
 SayAll (t ∷ ts) (r ∷ rs) = Says t r × SayAll ts rs
 
+-- one order after another
+pub say-append : (ts us : List Test) (rs qs : List Reason) → SayAll ts rs → SayAll us qs → SayAll (ts ++ us) (rs ++ qs)
+say-append [] us [] qs s q = q
+say-append [] us (r ∷ rs) qs s q = absurd s
+say-append (t ∷ ts) us [] qs s q = absurd s
+say-append (t ∷ ts) us (r ∷ rs) qs s q = (s .0, say-append ts us rs qs (s .1) q)
+
 -- a test that fails where b is false
 pub says-not : (n : ℕ) (b : Bool) (P : Type 0) → (b ≡ true → P → ⊥) → (b ≡ false → P)
     → Says (record { number = n; fails = not b }) (record { number = n; holds = P })
@@ -73,7 +80,7 @@ says-not n false P never holds = record { number = refl; reason = λ e. holds re
 passes : (t : Test) (r : Reason) → Says t r → t .fails ≡ false → r .holds → ⊥
 passes t r s e h = false≢true (sym e ∙ s .fails h)
 
-fails-not : (t : Test) (r : Reason) → Says t r → (r .holds → ⊥) → t .fails ≡ false
+pub fails-not : (t : Test) (r : Reason) → Says t r → (r .holds → ⊥) → t .fails ≡ false
 fails-not t r s n = pick (t .fails) refl
   where
     pick : (b : Bool) → t .fails ≡ b → b ≡ false
@@ -92,33 +99,38 @@ none-pass [] (r ∷ rs) s n = absurd s
 none-pass (t ∷ ts) [] s n = absurd s
 none-pass (t ∷ ts) (r ∷ rs) s n = (fails-not t r (s .0) (n .0), none-pass ts rs (s .1) (n .1))
 
--- Gives a says that a is the refusal k. Where no reason of this order holds, the answer `otherwise` goes on with the order of `rest`.
-module _ {A : Type 0} (Gives : A → Type 0) (k : ℕ) (refuse : ℕ → A) (otherwise : A) (tells : (m : ℕ) → Gives (refuse m) ↔ (k ≡ m)) where
-  pub gives-first : (ts : List Test) (rs rest : List Reason) → SayAll ts rs → (None rs → Gives otherwise ↔ First k rest)
-      → Gives (firstOf refuse ts otherwise) ↔ First k (rs ++ rest)
-  gives-first [] [] rest s later = later tt
-  gives-first [] (r ∷ rs) rest s later = absurd s
-  gives-first (t ∷ ts) [] rest s later = absurd s
-  gives-first (t ∷ ts) (r ∷ rs) rest s later = pick (t .fails) refl (λ n. gives-first ts rs rest (s .1) (λ m. later (n, m)))
+-- Gives a says that a is the refusal k. Where no reason of an order holds, what is given goes on with the order `rest`.
+module _ {A : Type 0} (Gives : A → Type 0) (k : ℕ) (refuse : ℕ → A) (tells : (m : ℕ) → Gives (refuse m) ↔ (k ≡ m)) where
+  pub gives-next : (t : Test) (r : Reason) (otherwise : A) (rest : List Reason) → Says t r → ((r .holds → ⊥) → Gives otherwise ↔ First k rest)
+      → Gives (firstOf refuse (t ∷ []) otherwise) ↔ First k (r ∷ rest)
+  gives-next t r otherwise rest s later = pick (t .fails) refl
     where
-      pick : (b : Bool) → t .fails ≡ b → ((r .holds → ⊥) → Gives (firstOf refuse ts otherwise) ↔ First k (rs ++ rest))
-          → Gives (firstOf refuse (t ∷ ts) otherwise) ↔ First k (r ∷ (rs ++ rest))
-      pick true e ih = rw e (
-        λ g. inl (s .0 .reason e, tells (t .number) .0 g ∙ s .0 .number),
-        λ f. tells (t .number) .1 (head f ∙ sym (s .0 .number)),
+      pick : (b : Bool) → t .fails ≡ b → Gives (firstOf refuse (t ∷ []) otherwise) ↔ First k (r ∷ rest)
+      pick true e = rw e (
+        λ g. inl (s .reason e, tells (t .number) .0 g ∙ s .number),
+        λ f. tells (t .number) .1 (head f ∙ sym (s .number)),
       )
         where
-          head : First k (r ∷ (rs ++ rest)) → k ≡ r .number
+          head : First k (r ∷ rest) → k ≡ r .number
           head (inl f) = f .1
-          head (inr f) = absurd (f .0 (s .0 .reason e))
-      pick false e ih = rw e (λ g. inr (no-reason, ih no-reason .0 g), λ f. ih no-reason .1 (tail f))
+          head (inr f) = absurd (f .0 (s .reason e))
+      pick false e = rw e (λ g. inr (no-reason, later no-reason .0 g), λ f. later no-reason .1 (tail f))
         where
           no-reason : r .holds → ⊥
-          no-reason = passes t r (s .0) e
+          no-reason = passes t r s e
 
-          tail : First k (r ∷ (rs ++ rest)) → First k (rs ++ rest)
+          tail : First k (r ∷ rest) → First k rest
           tail (inl f) = absurd (no-reason (f .0))
           tail (inr f) = f .1
+
+  pub gives-first : (ts : List Test) (rs : List Reason) (otherwise : A) (rest : List Reason) → SayAll ts rs
+      → (None rs → Gives otherwise ↔ First k rest) → Gives (firstOf refuse ts otherwise) ↔ First k (rs ++ rest)
+  gives-first [] [] otherwise rest s later = later tt
+  gives-first [] (r ∷ rs) otherwise rest s later = absurd s
+  gives-first (t ∷ ts) [] otherwise rest s later = absurd s
+  gives-first (t ∷ ts) (r ∷ rs) otherwise rest s later =
+      gives-next t r (firstOf refuse ts otherwise) (rs ++ rest) (s .0) (λ n.
+      gives-first ts rs otherwise rest (s .1) (λ m. later (n, m)))
 
 -- ---- the outcome of tests
 
@@ -133,7 +145,7 @@ module _ (ts : List Test) (rs : List Reason) (say : SayAll ts rs) where
   pub outcome-refused : (k : ℕ) → (outcome ts ≡ refused k) ↔ First k rs
   outcome-refused k =
       subst (λ (l : List Reason). (outcome ts ≡ refused k) ↔ First k l) (append-nil rs)
-      (gives-first (λ o. o ≡ refused k) k refused passed (λ m. (refused-tells k m, λ e. cc)) ts rs [] say
+      (gives-first (λ o. o ≡ refused k) k refused (λ m. (refused-tells k m, λ e. cc)) ts rs passed [] say
       (λ n. (passed-differs k, λ e. absurd e)))
 
   -- and none where no reason holds

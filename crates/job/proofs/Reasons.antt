@@ -1,0 +1,103 @@
+-- The tests of the calls on a job say their reasons: each fails exactly where its reason holds; those of the register in turn, where the tests before
+-- them pass.
+-- Assumes nothing.
+use mathlib.Core.Path.{_≡_, refl, sym, subst, _∙_}
+use mathlib.Core.Logic.{_⊎_, inl, inr}
+use mathlib.Core.Bool.{Bool, true, false, not, _||_, or-true, false≢true}
+use mathlib.Core.List.{List}
+use Prim.Native.Nat.{ℕ, _≤_}
+use native.Mathlib.Omega.{arith}
+use lib.Dec.{leb}
+use borrow.Author.Tests.{leb-true, leb-false, eqb-true, eqb-false}
+use Rattle.decoding.specs.Locating.{sizeOf, tapsOf, aloneOf, rowsReach, namesAll}
+use Rattle.frame.specs.Demands.{frameReasons}
+use Rattle.frame.specs.Frame.{WellFormed, sequences, heldSums, frameTests}
+use Rattle.frame.specs.Shape.{checksOf, isShape}
+use Rattle.frame.specs.declared.Shape.{Shape}
+use Rattle.frame.proofs.Reasons.{frame-says}
+use Rattle.lists.proofs.Tabulated.{every-at, every-witness}
+use Rattle.refusal.proofs.Orders.{Says, SayAll, says-not, say-append}
+use Rattle.register.specs.EachRound.{IsShortest}
+use Rattle.register.specs.Register.{Generator, Shortest}
+use Rattle.job.specs.Calls.{shape, repair, emptyTest, repairTests, sameSums}
+use Rattle.job.specs.Job.{sound, isEmpty, isEmptyPhase, isLocatedPhase}
+use Rattle.job.specs.Refusals.{emptyReason, notAloneReason, shortRowReason, noFrameReason, SumsDiffer, reasons}
+use Rattle.job.specs.declared.Job.{Job}
+use Rattle.job.specs.declared.Phase.{Phase}
+use Rattle.job.specs.declared.Phase.the-variants.{Empty, Shaped, Located}
+use Rattle.job.proofs.Decoding.{Decodes}
+
+pub empty-says : (j : Job) → Says (emptyTest j) (emptyReason j)
+unfolding isEmpty
+empty-says j = record { number = refl; reason = reason (j .phase) (sound j); fails = fails (j .phase) (sound j) }
+  where
+    reason : (p : Phase) (b : Bool) → (isEmptyPhase p || not b) ≡ true → (p ≡ Empty) ⊎ (b ≡ false)
+    reason Empty b e = inl refl
+    reason Shaped true e = absurd (false≢true e)
+    reason Shaped false e = inr refl
+    reason (Located c a) true e = absurd (false≢true e)
+    reason (Located c a) false e = inr refl
+
+    fails : (p : Phase) (b : Bool) → (p ≡ Empty) ⊎ (b ≡ false) → (isEmptyPhase p || not b) ≡ true
+    fails p b (inl e) = rw e refl
+    fails p b (inr e) = rw e (or-true (isEmptyPhase p))
+
+not-located-says : (p : Phase)
+    → Says (record { number = 22; fails = not (isLocatedPhase p) }) (record { number = 22; holds = isLocatedPhase p ≡ false })
+not-located-says p = says-not 22 (isLocatedPhase p) _ (λ t f. false≢true (sym f ∙ t)) (λ f. f)
+
+sums-say : (a b : List ℕ) → Says (record { number = 23; fails = not (sameSums a b) }) (record { number = 23; holds = SumsDiffer a b })
+unfolding sameSums
+sums-say a b =
+    says-not 23 (sameSums a b) (SumsDiffer a b) (λ e (k, h, n). n (eqb-true _ _ (every-at 512 _ e k h)))
+    (λ e. let (k, h, n) = every-witness 512 _ e in (k, h, eqb-false _ _ n))
+
+pub repair-says : (j : Job) (f : List ℕ) → SayAll (repairTests j f) (reasons j (repair f))
+unfolding repairTests
+repair-says j f = (
+  empty-says j,
+  (
+    not-located-says (j .phase),
+    say-append (frameTests (j .shape) f) _ (frameReasons (j .shape) f) _ (frame-says (j .shape) f)
+        (sums-say (heldSums (j .shape) f) (j .findings .sums), tt),
+  ),
+)
+
+module _ (D : Decodes) (s : Shape) (f : List ℕ) (t : isShape s ≡ true) where
+  register : IsShortest 257 (sizeOf s f) (sequences s f) (tapsOf s f) (aloneOf s f)
+  register = D .register s f t
+
+  same-length : (c : ℕ) (σ : List ℕ) → Shortest 257 c (sequences s f) σ → c ≡ sizeOf s f
+  same-length c σ h = D .same-size 257 (sizeOf s f) c (sequences s f) (tapsOf s f) σ (register .shortest) h
+
+  -- where it is alone, a register of the shortest length is the one found
+  the-one : aloneOf s f ≡ true → (c : ℕ) (τ : List ℕ) → c ≡ sizeOf s f → Generator 257 c (sequences s f) τ → τ ≡ tapsOf s f
+  the-one e c τ q g = register .alone e τ (subst (λ (l : ℕ). Generator 257 l (sequences s f) τ) q g)
+
+  pub not-alone-says : Says (record { number = 24; fails = not (aloneOf s f) }) (notAloneReason s f)
+  not-alone-says =
+      says-not 24 (aloneOf s f) _
+      (λ e (c, σ, τ, h, g, n). let q = same-length c σ h in n (the-one e c τ q g ∙ sym (the-one e c σ q (h .generator))))
+      (λ e. let (τ, g, n) = D .other s f t e in (sizeOf s f, tapsOf s f, τ, register .shortest, g, n))
+
+  pub short-row-says : aloneOf s f ≡ true
+      → Says (record { number = 25; fails = not (rowsReach s (sizeOf s f)) }) (shortRowReason s f)
+  unfolding rowsReach
+  short-row-says e =
+      says-not 25 (rowsReach s (sizeOf s f)) _
+      (λ r (c, σ, h, m, a, b, l).
+      let q = same-length c σ m in
+      let d : sizeOf s f ≤ checksOf s h = leb-true _ _ (every-at (s .rows) _ r h b) in
+      omega (arith, l))
+      (λ r.
+      let (h, b, l) = every-witness (s .rows) (λ h. leb (sizeOf s f) (checksOf s h)) r in
+      (sizeOf s f, tapsOf s f, h, register .shortest, register .alone e, b, leb-false _ _ l))
+
+  pub no-frame-says : WellFormed s f → aloneOf s f ≡ true → rowsReach s (sizeOf s f) ≡ true
+      → Says (record { number = 26; fails = not (namesAll s (tapsOf s f) (sizeOf s f)) }) (noFrameReason s f)
+  no-frame-says w e r =
+      says-not 26 (namesAll s (tapsOf s f) (sizeOf s f)) _
+      (λ a (c, σ, m, n).
+      let d = D .nearest s f t (record { well-formed = w; alone = e; reach = r; names = a }) in
+      n (_, d .legal, d .count ∙ sym (same-length c σ m)))
+      (λ a. (sizeOf s f, tapsOf s f, register .shortest, λ (g, l, d). false≢true (sym a ∙ D .names s f g t w e r l d)))

@@ -1,0 +1,74 @@
+-- Demand 1 for the calls on a job: each number is given exactly where its reason is the first of the call's order that holds, and what a refusal leaves.
+-- Assumes nothing.
+use mathlib.Core.Path.{_≡_, sym}
+use mathlib.Core.Logic.{_↔_}
+use mathlib.Core.Bool.{true, not}
+use mathlib.Core.List.{List, [], _∷_}
+use Prim.Native.Nat.{ℕ}
+use Rattle.decoding.specs.Locating.{sizeOf, aloneOf, rowsReach}
+use Rattle.frame.specs.Demands.{shapeReasons, encodeReasons, frameReasons}
+use Rattle.frame.specs.Encode.{encodeTests}
+use Rattle.frame.specs.Frame.{WellFormed}
+use Rattle.frame.specs.Shape.{isShape, shapeTests}
+use Rattle.frame.specs.declared.Shape.{Shape}
+use Rattle.frame.proofs.Reasons.{shape-says, encode-says, frame-says, frame-passes}
+use Rattle.refusal.specs.Order.{First, firstOf}
+use Rattle.refusal.proofs.Orders.{Says, fails-not, none-pass, no-fail, gives-next, gives-first}
+use Rattle.job.specs.Calls.{Call, shape, encode, locate, repair, refused, Outcome, refusing, step, shapeCall, encodeCall, locateCall, repairCall, emptyTest, registerTests, repairTests}
+use Rattle.job.specs.Job.{shapedJob}
+use Rattle.job.specs.Refusals.{emptyReason, notAloneReason, shortRowReason, noFrameReason, registerReasons, reasons, Demand1}
+use Rattle.job.specs.declared.Job.{Job}
+use Rattle.job.proofs.Cases.{shapes, encodes, locates, repairs, earlyTests}
+use Rattle.job.proofs.Decoding.{Decodes}
+use Rattle.job.proofs.Forms.{has-shape}
+use Rattle.job.proofs.AfterRefusal.{same-number, never-done, never-columns, left}
+use Rattle.job.proofs.Reasons.{empty-says, repair-says, not-alone-says, short-row-says, no-frame-says}
+
+module _ (D : Decodes) (j : Job) (k : ℕ) where
+  abbrev Gives : Outcome → Type 0
+  Gives o = o .answer ≡ refused k
+
+  tells : (i : Job) (f : List ℕ) (m : ℕ) → Gives (refusing i f m) ↔ (k ≡ m)
+  tells i f m = (λ e. sym (same-number j k m e), λ e. cc)
+
+  registers : (f : List ℕ) → isShape (j .shape) ≡ true → WellFormed (j .shape) f
+      → Gives (firstOf (refusing (shapedJob (j .shape)) f) (registerTests j f) (locates (j .shape) f))
+      ↔ First k (registerReasons (j .shape) f)
+  unfolding registerTests
+  registers f t w =
+      gives-next Gives k refuse (tells (shapedJob s) f) _ (notAloneReason s f) _ (shortRowReason s f ∷ noFrameReason s f ∷ []) says-24 (λ n.
+      let a : aloneOf s f ≡ true = no-fail (aloneOf s f) (fails-not _ _ says-24 n) in
+      let says-25 = short-row-says D s f t a in
+      gives-next Gives k refuse (tells (shapedJob s) f) _ (shortRowReason s f) _ (noFrameReason s f ∷ []) says-25 (λ n.
+      let r : rowsReach s (sizeOf s f) ≡ true = no-fail (rowsReach s (sizeOf s f)) (fails-not _ _ says-25 n) in
+      gives-next Gives k refuse (tells (shapedJob s) f) _ (noFrameReason s f) _ [] (no-frame-says D s f t w a r) (λ n.
+      (never-columns j k _, λ e. absurd e))))
+    where
+      s : Shape
+      s = j .shape
+
+      refuse : ℕ → Outcome
+      refuse = refusing (shapedJob s) f
+
+      says-24 : Says (record { number = 24; fails = not (aloneOf s f) }) (notAloneReason s f)
+      says-24 = not-alone-says D s f t
+
+  exact : (c : Call) → Gives (step j c) ↔ First k (reasons j c)
+  unfolding step shapeCall encodeCall locateCall repairCall
+  exact (shape n checks) =
+      gives-first Gives k (refusing j []) (tells j []) (shapeTests n checks) (shapeReasons n checks) (shapes n checks) []
+      (shape-says n checks) (λ n. (never-done j k, λ e. absurd e))
+  exact (encode f) =
+      gives-first Gives k (refusing j f) (tells j f) (emptyTest j ∷ encodeTests (j .shape) f) (emptyReason j ∷ encodeReasons (j .shape) f)
+      (encodes j f) [] (empty-says j, encode-says (j .shape) f) (λ n. (never-done j k, λ e. absurd e))
+  exact (locate f) =
+      gives-first Gives k (refusing j f) (tells j f) (earlyTests j f) (emptyReason j ∷ frameReasons (j .shape) f) _
+      (registerReasons (j .shape) f) (empty-says j, frame-says (j .shape) f) (λ n.
+      let (e, p) = none-pass (earlyTests j f) (emptyReason j ∷ frameReasons (j .shape) f) (empty-says j, frame-says (j .shape) f) n in
+      registers f (has-shape j e) (frame-passes (j .shape) f p))
+  exact (repair f) =
+      gives-first Gives k (refusing j f) (tells j f) (repairTests j f) (reasons j (repair f)) (repairs j f) []
+      (repair-says j f) (λ n. (never-columns j k _, λ e. absurd e))
+
+pub demand-1 : Decodes → Demand1
+demand-1 D = record { exact = λ j c k. exact D j k c; left = λ j c k. left j k c }

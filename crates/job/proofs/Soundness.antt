@@ -1,0 +1,121 @@
+-- Every job that calls leave is sound, holds the shape of the last shape call that is not refused, and zeros where it is not located.
+-- Assumes nothing.
+use mathlib.Core.Path.{_≡_, refl, sym, ap, ap₂, _∙_}
+use mathlib.Core.Bool.{Bool, true, false, not, _&&_, _||_, or-true, false≢true}
+use mathlib.Core.List.{List, [], _∷_}
+use mathlib.Core.Option.{Option, none, some}
+use Prim.Native.Nat.{ℕ, _<_}
+use native.Mathlib.Nat.{mod-lt}
+use native.Mathlib.Omega.{arith}
+use lib.Dec.{ltb, eqb}
+use lib.ListN.{length, getD}
+use borrow.Author.Tests.{lt-ltb, eq-eqb}
+use Rattle.columns.specs.Columns.{has, members}
+use Rattle.columns.proofs.Marks.{has-columnsOf}
+use Rattle.decoding.specs.Locating.{sizeOf, tapsOf, named, namedColumns}
+use Rattle.frame.specs.Frame.{heldSums}
+use Rattle.frame.specs.Shape.{isShape, shapeOf, shapeTests}
+use Rattle.frame.specs.declared.Shape.{Shape}
+use Rattle.frame.proofs.HeldSums.{held-below}
+use Rattle.lists.proofs.Tabulated.{every-of}
+use Rattle.refusal.specs.Order.{firstOf}
+use Rattle.refusal.proofs.Orders.{firstOf-map}
+use Rattle.job.specs.Calls.{Call, shape, encode, locate, repair, Outcome, refusing, step, shapeCall, repairTests}
+use Rattle.job.specs.Demands.{run, runFrom, lastShape, lastShapeFrom, heldShape, Reached}
+use Rattle.job.specs.Job.{emptyJob, shapedJob, locatedJob, nothing, sound, phaseSound, findingsSound, isEmpty, isEmptyPhase, isLocatedPhase}
+use Rattle.job.specs.declared.Job.{Job}
+use Rattle.job.specs.declared.Phase.{Phase}
+use Rattle.job.specs.declared.Phase.the-variants.{Empty, Shaped, Located}
+use Rattle.job.proofs.Cases.{shapes, locatedBy, by-encode, by-locate, by-repair}
+use Rattle.job.proofs.Decoding.{Decodes}
+use Rattle.job.proofs.Forms.{Locates, Form, empty, shaped, located, run-form}
+
+-- ---- the shape
+
+abbrev shapeHeld : Job → Option Shape
+shapeHeld j = heldShape (j .phase) (j .shape)
+
+pub not-empty-held : (j : Job) → isEmpty j ≡ false → shapeHeld j ≡ some (j .shape)
+unfolding isEmpty
+not-empty-held j e = of-phase (j .phase) (not (sound j)) e
+  where
+    of-phase : (p : Phase) (b : Bool) → (isEmptyPhase p || b) ≡ false → heldShape p (j .shape) ≡ some (j .shape)
+    of-phase Empty b e = absurd (false≢true (sym e))
+    of-phase Shaped b e = refl
+    of-phase (Located c a) b e = refl
+
+shape-step : (j : Job) (n : ℕ) (checks : List ℕ)
+    → shapeHeld (step j (shape n checks) .job) ≡ firstOf (λ k. shapeHeld j) (shapeTests n checks) (some (shapeOf n checks))
+unfolding step shapeCall shapedJob
+shape-step j n checks = firstOf-map (λ o. shapeHeld (o .job)) (refusing j []) (shapeTests n checks) (shapes n checks)
+
+-- a call that is no shape call leaves the shape
+module _ (j : Job) (f : List ℕ) where
+  abbrev Leaves : Outcome → Type 0
+  Leaves o = shapeHeld (o .job) ≡ shapeHeld j
+
+  encode-step : Leaves (step j (encode f))
+  encode-step = by-encode Leaves j f (λ k a. refl) (λ p. refl)
+
+  locate-step : Leaves (step j (locate f))
+  unfolding shapedJob locatedJob
+  locate-step =
+      by-locate Leaves j f (λ k a. refl) (λ k (e, p) a. sym (not-empty-held j e)) (λ (e, p) q. sym (not-empty-held j e))
+
+  repair-step : Leaves (step j (repair f))
+  unfolding shapedJob repairTests
+  repair-step = by-repair Leaves j f (λ k a. refl) (λ (e, p). sym (not-empty-held j e))
+
+run-shape : (j : Job) (calls : List Call) → shapeHeld (runFrom j calls) ≡ lastShapeFrom (shapeHeld j) calls
+unfolding runFrom lastShapeFrom
+run-shape j [] = refl
+run-shape j (shape n checks ∷ cs) =
+    run-shape (step j (shape n checks) .job) cs ∙ ap (λ s. lastShapeFrom s cs) (shape-step j n checks)
+run-shape j (encode f ∷ cs) = run-shape (step j (encode f) .job) cs ∙ ap (λ s. lastShapeFrom s cs) (encode-step j f)
+run-shape j (locate f ∷ cs) = run-shape (step j (locate f) .job) cs ∙ ap (λ s. lastShapeFrom s cs) (locate-step j f)
+run-shape j (repair f ∷ cs) = run-shape (step j (repair f) .job) cs ∙ ap (λ s. lastShapeFrom s cs) (repair-step j f)
+
+pub holds-last-shape : (calls : List Call) → shapeHeld (run calls) ≡ lastShape calls
+unfolding emptyJob
+holds-last-shape calls = run-shape emptyJob calls
+
+-- ---- what is not located
+
+zeros : (j : Job) → Form j → isLocatedPhase (j .phase) ≡ false → j .findings ≡ nothing
+unfolding emptyJob shapedJob locatedJob
+zeros _ empty e = refl
+zeros _ (shaped s t) e = refl
+zeros _ (located s f t l) e = absurd (false≢true (sym e))
+
+-- ---- soundness
+
+module _ (D : Decodes) where
+  -- no column outside the shape is marked
+  marked-inside : (s : Shape) (σ : List ℕ) (i : ℕ) → i < 256 → (not (has (namedColumns s σ) i) || ltb i (s .columns)) ≡ true
+  unfolding namedColumns named
+  marked-inside s σ i h = rw (has-columnsOf (named s σ) i h) (inside (ltb i (s .columns)) _)
+    where
+      inside : (a b : Bool) → (not (a && b) || a) ≡ true
+      inside true b = or-true (not b)
+      inside false b = refl
+
+  located-sound : (s : Shape) (f : List ℕ) → isShape s ≡ true → Locates s f
+      → findingsSound s (locatedBy s f .findings) (sizeOf s f) true ≡ true
+  unfolding findingsSound locatedJob
+  located-sound s f t l =
+      ap₂ _&&_ (every-of 256 _ (marked-inside s (tapsOf s f)))
+      (ap₂ _&&_ (eq-eqb _ _ (D .size-named s f t l))
+      (ap₂ _&&_ (l .reach) (every-of 512 _ (λ k h. lt-ltb _ 257 (held-below s f k)))))
+
+  form-sound : (j : Job) → Form j → sound j ≡ true
+  unfolding emptyJob shapedJob locatedJob sound phaseSound
+  form-sound _ empty = refl
+  form-sound _ (shaped s t) = t
+  form-sound _ (located s f t l) = ap₂ _&&_ t (located-sound s f t l)
+
+  pub reached : (calls : List Call) → Reached calls
+  reached calls = record {
+    sound = form-sound (run calls) (run-form calls);
+    shape = holds-last-shape calls;
+    zeros = zeros (run calls) (run-form calls);
+  }
