@@ -72,11 +72,12 @@ module _ (p : ℕ) (ss : List (List ℕ)) (n : ℕ) (prime : Prime p) (round : n
   other-taps o =
       let τ : List ℕ = coefficients p prime (st .size) (o .taps) in
       let same = poly-coefficients p prime (st .size) (o .taps) (o .generates .degree) in
-      let taps : length τ ≡ suc (st .size) = length-tabulate (suc (st .size)) _ in
-      (τ,
-      poly-generator p prime ss n round (st .size) τ taps (coefficients-less p prime (st .size) (o .taps))
-      (subst (λ f. GeneratesUpTo (residues p prime) Q f (st .size) n) (sym (fun-ext same)) (o .generates)),
-      λ equal. o .differs (sym (same (o .index)) ∙ ap (λ l. poly p prime l (o .index)) equal))
+      let taps : length τ ≡ suc (st .size) = length-tabulate (suc (st .size)) _ in (
+        τ,
+        poly-generator p prime ss n round (st .size) τ taps (coefficients-less p prime (st .size) (o .taps))
+            (subst (λ f. GeneratesUpTo (residues p prime) Q f (st .size) n) (sym (fun-ext same)) (o .generates)),
+        λ equal. o .differs (sym (same (o .index)) ∙ ap (λ l. poly p prime l (o .index)) equal),
+      )
 
   -- where the mark is missing there is another register of this length
   pub found-other : foundAlone p ss n ≡ false → (τ : List ℕ) × Generator p (st .size) (shortened (longest ss - n) ss) τ × (τ ≡ st .taps → ⊥)

@@ -1,0 +1,33 @@
+-- What the bytes of a record say (document 01, "Records and lines"): a little-endian 16-bit length that counts the bytes after it, a kind, and a body of
+-- 16-bit fields.
+use mathlib.Core.Bool.{Bool, cond, _&&_}
+use mathlib.Core.List.{List}
+use Prim.Native.Nat.{ℕ, _+_, _%_}
+use lib.Dec.{leb, eqb}
+use lib.ListN.{length, getD, take, drop}
+use Rattle.reader.specs.Fields.{fieldOf, fieldsOf}
+
+pub data Record : Type 0 where
+  bad : Record
+  sequences : (p : ℕ) (lengths symbols : List ℕ) → Record
+  frame : (columns : ℕ) (checks symbols : List ℕ) → Record
+
+-- The bytes got are all that the length claims, and it is two or more and even. The input may end inside a record, before its length or after.
+unfoldable pub isWhole : List ℕ → Bool
+isWhole bytes =
+    leb 2 (length bytes) &&
+    (eqb (length bytes) (2 + fieldOf bytes 0) && (leb 2 (fieldOf bytes 0) && eqb (fieldOf bytes 0 % 2) 0))
+
+-- The fields from the kind on. Kind 1: p, count, lengths, symbols. Kind 2: rows, columns, check counts, symbols. The fields before the symbols are there.
+unfoldable pub bodyOf : List ℕ → Record
+bodyOf xs =
+    let kind : ℕ = getD xs 0 0 in
+    let holds : ℕ → Bool = λ count. leb (3 + count) (length xs) in
+    cond (eqb kind 1 && holds (getD xs 2 0))
+    (sequences (getD xs 1 0) (take (getD xs 2 0) (drop 3 xs)) (drop (3 + getD xs 2 0) xs))
+    (cond (eqb kind 2 && holds (getD xs 1 0))
+    (frame (getD xs 2 0) (take (getD xs 1 0) (drop 3 xs)) (drop (3 + getD xs 1 0) xs))
+    bad)
+
+unfoldable pub recordOf : List ℕ → Record
+recordOf bytes = cond (isWhole bytes) (bodyOf (fieldsOf (drop 2 bytes))) bad

@@ -1,0 +1,1 @@
+// The line that the program writes for a record.
