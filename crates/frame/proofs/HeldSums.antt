@@ -13,7 +13,7 @@ use Rattle.lists.proofs.Tabulated.{length-tabulate}
 use Rattle.frame.specs.Frame.{row, checkSum, checkSums, sequences, heldSums}
 use Rattle.frame.specs.Shape.{checksOf, isShape}
 use Rattle.frame.specs.declared.Shape.{Shape}
-use Rattle.frame.proofs.Shapes.{Ranges, shape-ranges}
+use Rattle.frame.proofs.Shapes.{shape-ranges}
 
 -- sequence h of a frame
 sequenceOf : (s : Shape) (f : List ℕ) (h : ℕ) → List ℕ

@@ -13,7 +13,6 @@ use lib.ListN.{length, getD, List·getD-append}
 use borrow.Author.Tests.{ltb-true, ltb-false, leb-true, eqb-true, eqb-false, lt-ltb, le-ltb, le-leb, eq-eqb}
 use Rattle.lists.specs.Tabulate.{every}
 use Rattle.lists.proofs.Tabulated.{every-at, every-of, every-witness, every-ext}
-use Rattle.refusal.specs.Order.{Reason, Test}
 use Rattle.refusal.proofs.Orders.{Pass, no-fail, Says, SayAll, says-not}
 use Rattle.frame.specs.Demands.{BadChecks, shapeReasons, encodeReasons, frameReasons, sizeReason}
 use Rattle.frame.specs.Encode.{encodeTests, dataBelow}

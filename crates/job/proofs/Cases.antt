@@ -10,7 +10,7 @@ use Rattle.frame.specs.Shape.{shapeOf, shapeTests}
 use Rattle.frame.specs.declared.Shape.{Shape}
 use Rattle.refusal.specs.Order.{Test}
 use Rattle.refusal.proofs.Orders.{Among, Pass, by-tests, pass-otherwise}
-use Rattle.job.specs.Calls.{Call, shape, encode, locate, repair, Outcome, done, columns, refusing, step, shapeCall, encodeCall, locateCall, repairCall, emptyTest, registerTests, repairTests}
+use Rattle.job.specs.Calls.{shape, encode, locate, repair, Outcome, done, columns, refusing, step, shapeCall, encodeCall, locateCall, repairCall, emptyTest, registerTests, repairTests}
 use Rattle.job.specs.Job.{noColumns, shapedJob, locatedJob, lengthOf}
 use Rattle.job.specs.declared.Job.{Job}
 

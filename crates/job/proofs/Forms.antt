@@ -1,20 +1,19 @@
 -- The forms of a job that calls leave: empty, shaped, or located by a well-formed frame whose register is alone, reached by every row and names its columns.
 -- Every call keeps to them.
 -- Assumes nothing.
-use mathlib.Core.Path.{_≡_, refl, sym, _∙_}
-use mathlib.Core.Bool.{Bool, true, false, not, _&&_, _||_, and-eq-true-iff, false≢true}
+use mathlib.Core.Path.{_≡_, refl, sym}
+use mathlib.Core.Bool.{true, false, not, _||_, and-eq-true-iff, false≢true}
 use mathlib.Core.List.{List, [], _∷_, _++_}
 use Prim.Native.Nat.{ℕ}
-use Rattle.decoding.specs.Locating.{sizeOf, tapsOf, aloneOf, rowsReach, namesAll, namedColumns}
-use Rattle.frame.specs.Frame.{WellFormed, heldSums, frameTests}
-use Rattle.frame.specs.Shape.{isShape, shapeOf, shapeTests}
+use Rattle.decoding.specs.Locating.{sizeOf, tapsOf, aloneOf, rowsReach, namesAll}
+use Rattle.frame.specs.Frame.{WellFormed}
+use Rattle.frame.specs.Shape.{isShape, shapeOf}
 use Rattle.frame.specs.declared.Shape.{Shape}
 use Rattle.frame.proofs.Reasons.{shape-passes, frame-passes}
 use Rattle.refusal.proofs.Orders.{Pass, no-fail}
 use Rattle.job.specs.Calls.{Call, shape, encode, locate, repair, Outcome, step, registerTests, repairTests}
 use Rattle.job.specs.Demands.{run, runFrom}
-use Rattle.job.specs.Job.{emptyJob, shapedJob, locatedJob, sound, phaseSound, findingsSound, isEmpty, isEmptyPhase}
-use Rattle.job.specs.declared.Findings.{Findings}
+use Rattle.job.specs.Job.{emptyJob, shapedJob, sound, phaseSound, findingsSound, isEmpty, isEmptyPhase}
 use Rattle.job.specs.declared.Job.{Job}
 use Rattle.job.specs.declared.Phase.{Phase}
 use Rattle.job.specs.declared.Phase.the-variants.{Empty, Shaped, Located}

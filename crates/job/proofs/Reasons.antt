@@ -10,6 +10,8 @@ use native.Mathlib.Omega.{arith}
 use lib.Dec.{leb}
 use borrow.Author.Tests.{leb-true, leb-false, eqb-true, eqb-false}
 use Rattle.decoding.specs.Locating.{sizeOf, tapsOf, aloneOf, rowsReach, namesAll}
+use Rattle.decoding.proofs.FrameRegister.{register-of-frame, same-size, not-alone}
+use Rattle.decoding.proofs.SoleNearest.{legal-at-size}
 use Rattle.frame.specs.Demands.{frameReasons}
 use Rattle.frame.specs.Frame.{WellFormed, sequences, heldSums, frameTests}
 use Rattle.frame.specs.Shape.{checksOf, isShape}
@@ -18,14 +20,13 @@ use Rattle.frame.proofs.Reasons.{frame-says}
 use Rattle.lists.proofs.Tabulated.{every-at, every-witness}
 use Rattle.refusal.proofs.Orders.{Says, SayAll, says-not, say-append}
 use Rattle.register.specs.EachRound.{IsShortest}
-use Rattle.register.specs.Register.{Generator, Shortest}
+use Rattle.register.specs.Register.{Generator}
 use Rattle.job.specs.Calls.{shape, repair, emptyTest, repairTests, sameSums}
 use Rattle.job.specs.Job.{sound, isEmpty, isEmptyPhase, isLocatedPhase}
-use Rattle.job.specs.Refusals.{emptyReason, notAloneReason, shortRowReason, noFrameReason, SumsDiffer, reasons}
+use Rattle.job.specs.Refusals.{LegalAt, emptyReason, notAloneReason, shortRowReason, noFrameReason, SumsDiffer, reasons}
 use Rattle.job.specs.declared.Job.{Job}
 use Rattle.job.specs.declared.Phase.{Phase}
 use Rattle.job.specs.declared.Phase.the-variants.{Empty, Shaped, Located}
-use Rattle.job.proofs.Decoding.{Decodes}
 
 pub empty-says : (j : Job) → Says (emptyTest j) (emptyReason j)
 unfolding isEmpty
@@ -63,12 +64,9 @@ repair-says j f = (
   ),
 )
 
-module _ (D : Decodes) (s : Shape) (f : List ℕ) (t : isShape s ≡ true) where
+module _ (s : Shape) (f : List ℕ) (t : isShape s ≡ true) where
   register : IsShortest 257 (sizeOf s f) (sequences s f) (tapsOf s f) (aloneOf s f)
-  register = D .register s f t
-
-  same-length : (c : ℕ) (σ : List ℕ) → Shortest 257 c (sequences s f) σ → c ≡ sizeOf s f
-  same-length c σ h = D .same-size 257 (sizeOf s f) c (sequences s f) (tapsOf s f) σ (register .shortest) h
+  register = register-of-frame s f t
 
   -- where it is alone, a register of the shortest length is the one found
   the-one : aloneOf s f ≡ true → (c : ℕ) (τ : List ℕ) → c ≡ sizeOf s f → Generator 257 c (sequences s f) τ → τ ≡ tapsOf s f
@@ -77,8 +75,8 @@ module _ (D : Decodes) (s : Shape) (f : List ℕ) (t : isShape s ≡ true) where
   pub not-alone-says : Says (record { number = 24; fails = not (aloneOf s f) }) (notAloneReason s f)
   not-alone-says =
       says-not 24 (aloneOf s f) _
-      (λ e (c, σ, τ, h, g, n). let q = same-length c σ h in n (the-one e c τ q g ∙ sym (the-one e c σ q (h .generator))))
-      (λ e. let (τ, g, n) = D .other s f t e in (sizeOf s f, tapsOf s f, τ, register .shortest, g, n))
+      (λ e (c, σ, τ, h, g, n). let q = same-size s f t c σ h in n (the-one e c τ q g ∙ sym (the-one e c σ q (h .generator))))
+      (λ e. let (τ, g, n) = not-alone s f t .0 e in (sizeOf s f, tapsOf s f, τ, register .shortest, g, n))
 
   pub short-row-says : aloneOf s f ≡ true
       → Says (record { number = 25; fails = not (rowsReach s (sizeOf s f)) }) (shortRowReason s f)
@@ -86,18 +84,17 @@ module _ (D : Decodes) (s : Shape) (f : List ℕ) (t : isShape s ≡ true) where
   short-row-says e =
       says-not 25 (rowsReach s (sizeOf s f)) _
       (λ r (c, σ, h, m, a, b, l).
-      let q = same-length c σ m in
+      let q = same-size s f t c σ m in
       let d : sizeOf s f ≤ checksOf s h = leb-true _ _ (every-at (s .rows) _ r h b) in
       omega (arith, l))
       (λ r.
       let (h, b, l) = every-witness (s .rows) (λ h. leb (sizeOf s f) (checksOf s h)) r in
       (sizeOf s f, tapsOf s f, h, register .shortest, register .alone e, b, leb-false _ _ l))
 
-  pub no-frame-says : WellFormed s f → aloneOf s f ≡ true → rowsReach s (sizeOf s f) ≡ true
+  pub no-frame-says : WellFormed s f → aloneOf s f ≡ true
       → Says (record { number = 26; fails = not (namesAll s (tapsOf s f) (sizeOf s f)) }) (noFrameReason s f)
-  no-frame-says w e r =
+  no-frame-says w e =
+      let exact = legal-at-size s t f w e in
       says-not 26 (namesAll s (tapsOf s f) (sizeOf s f)) _
-      (λ a (c, σ, m, n).
-      let d = D .nearest s f t (record { well-formed = w; alone = e; reach = r; names = a }) in
-      n (_, d .legal, d .count ∙ sym (same-length c σ m)))
-      (λ a. (sizeOf s f, tapsOf s f, register .shortest, λ (g, l, d). false≢true (sym a ∙ D .names s f g t w e r l d)))
+      (λ a (c, σ, m, n). n (subst (LegalAt s f) (sym (same-size s f t c σ m)) (exact .0 a)))
+      (λ a. (sizeOf s f, tapsOf s f, register .shortest, λ l. false≢true (sym a ∙ exact .1 l)))

@@ -5,7 +5,7 @@ use mathlib.Core.Logic.{_↔_}
 use mathlib.Core.Bool.{true, not}
 use mathlib.Core.List.{List, [], _∷_}
 use Prim.Native.Nat.{ℕ}
-use Rattle.decoding.specs.Locating.{sizeOf, aloneOf, rowsReach}
+use Rattle.decoding.specs.Locating.{aloneOf}
 use Rattle.frame.specs.Demands.{shapeReasons, encodeReasons, frameReasons}
 use Rattle.frame.specs.Encode.{encodeTests}
 use Rattle.frame.specs.Frame.{WellFormed}
@@ -19,12 +19,11 @@ use Rattle.job.specs.Job.{shapedJob}
 use Rattle.job.specs.Refusals.{emptyReason, notAloneReason, shortRowReason, noFrameReason, registerReasons, reasons, Demand1}
 use Rattle.job.specs.declared.Job.{Job}
 use Rattle.job.proofs.Cases.{shapes, encodes, locates, repairs, earlyTests}
-use Rattle.job.proofs.Decoding.{Decodes}
 use Rattle.job.proofs.Forms.{has-shape}
 use Rattle.job.proofs.AfterRefusal.{same-number, never-done, never-columns, left}
 use Rattle.job.proofs.Reasons.{empty-says, repair-says, not-alone-says, short-row-says, no-frame-says}
 
-module _ (D : Decodes) (j : Job) (k : ℕ) where
+module _ (j : Job) (k : ℕ) where
   abbrev Gives : Outcome → Type 0
   Gives o = o .answer ≡ refused k
 
@@ -38,10 +37,9 @@ module _ (D : Decodes) (j : Job) (k : ℕ) where
   registers f t w =
       gives-next Gives k refuse (tells (shapedJob s) f) _ (notAloneReason s f) _ (shortRowReason s f ∷ noFrameReason s f ∷ []) says-24 (λ n.
       let a : aloneOf s f ≡ true = no-fail (aloneOf s f) (fails-not _ _ says-24 n) in
-      let says-25 = short-row-says D s f t a in
+      let says-25 = short-row-says s f t a in
       gives-next Gives k refuse (tells (shapedJob s) f) _ (shortRowReason s f) _ (noFrameReason s f ∷ []) says-25 (λ n.
-      let r : rowsReach s (sizeOf s f) ≡ true = no-fail (rowsReach s (sizeOf s f)) (fails-not _ _ says-25 n) in
-      gives-next Gives k refuse (tells (shapedJob s) f) _ (noFrameReason s f) _ [] (no-frame-says D s f t w a r) (λ n.
+      gives-next Gives k refuse (tells (shapedJob s) f) _ (noFrameReason s f) _ [] (no-frame-says s f t w a) (λ n.
       (never-columns j k _, λ e. absurd e))))
     where
       s : Shape
@@ -51,7 +49,7 @@ module _ (D : Decodes) (j : Job) (k : ℕ) where
       refuse = refusing (shapedJob s) f
 
       says-24 : Says (record { number = 24; fails = not (aloneOf s f) }) (notAloneReason s f)
-      says-24 = not-alone-says D s f t
+      says-24 = not-alone-says s f t
 
   exact : (c : Call) → Gives (step j c) ↔ First k (reasons j c)
   unfolding step shapeCall encodeCall locateCall repairCall
@@ -70,5 +68,5 @@ module _ (D : Decodes) (j : Job) (k : ℕ) where
       gives-first Gives k (refusing j f) (tells j f) (repairTests j f) (reasons j (repair f)) (repairs j f) []
       (repair-says j f) (λ n. (never-columns j k _, λ e. absurd e))
 
-pub demand-1 : Decodes → Demand1
-demand-1 D = record { exact = λ j c k. exact D j k c; left = λ j c k. left j k c }
+pub demand-1 : Demand1
+demand-1 = record { exact = λ j c k. exact j k c; left = λ j c k. left j k c }

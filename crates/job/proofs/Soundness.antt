@@ -3,17 +3,14 @@
 use mathlib.Core.Path.{_≡_, refl, sym, ap, ap₂, _∙_}
 use mathlib.Core.Bool.{Bool, true, false, not, _&&_, _||_, or-true, false≢true}
 use mathlib.Core.List.{List, [], _∷_}
-use mathlib.Core.Option.{Option, none, some}
+use mathlib.Core.Option.{Option, some}
 use Prim.Native.Nat.{ℕ, _<_}
-use native.Mathlib.Nat.{mod-lt}
-use native.Mathlib.Omega.{arith}
-use lib.Dec.{ltb, eqb}
-use lib.ListN.{length, getD}
+use lib.Dec.{ltb}
 use borrow.Author.Tests.{lt-ltb, eq-eqb}
-use Rattle.columns.specs.Columns.{has, members}
-use Rattle.columns.proofs.Marks.{has-columnsOf}
+use Rattle.columns.specs.Columns.{has}
 use Rattle.decoding.specs.Locating.{sizeOf, tapsOf, named, namedColumns}
-use Rattle.frame.specs.Frame.{heldSums}
+use Rattle.decoding.proofs.NamedColumns.{has-named, size-named}
+use Rattle.decoding.proofs.SoleNearest.{names-count}
 use Rattle.frame.specs.Shape.{isShape, shapeOf, shapeTests}
 use Rattle.frame.specs.declared.Shape.{Shape}
 use Rattle.frame.proofs.HeldSums.{held-below}
@@ -27,7 +24,6 @@ use Rattle.job.specs.declared.Job.{Job}
 use Rattle.job.specs.declared.Phase.{Phase}
 use Rattle.job.specs.declared.Phase.the-variants.{Empty, Shaped, Located}
 use Rattle.job.proofs.Cases.{shapes, locatedBy, by-encode, by-locate, by-repair}
-use Rattle.job.proofs.Decoding.{Decodes}
 use Rattle.job.proofs.Forms.{Locates, Form, empty, shaped, located, run-form}
 
 -- ---- the shape
@@ -89,33 +85,32 @@ zeros _ (located s f t l) e = absurd (false≢true (sym e))
 
 -- ---- soundness
 
-module _ (D : Decodes) where
-  -- no column outside the shape is marked
-  marked-inside : (s : Shape) (σ : List ℕ) (i : ℕ) → i < 256 → (not (has (namedColumns s σ) i) || ltb i (s .columns)) ≡ true
-  unfolding namedColumns named
-  marked-inside s σ i h = rw (has-columnsOf (named s σ) i h) (inside (ltb i (s .columns)) _)
-    where
-      inside : (a b : Bool) → (not (a && b) || a) ≡ true
-      inside true b = or-true (not b)
-      inside false b = refl
+-- no column outside the shape is marked
+marked-inside : (s : Shape) (σ : List ℕ) (i : ℕ) → i < 256 → (not (has (namedColumns s σ) i) || ltb i (s .columns)) ≡ true
+unfolding named
+marked-inside s σ i h = rw (has-named s σ i h) (inside (ltb i (s .columns)) _)
+  where
+    inside : (a b : Bool) → (not (a && b) || a) ≡ true
+    inside true b = or-true (not b)
+    inside false b = refl
 
-  located-sound : (s : Shape) (f : List ℕ) → isShape s ≡ true → Locates s f
-      → findingsSound s (locatedBy s f .findings) (sizeOf s f) true ≡ true
-  unfolding findingsSound locatedJob
-  located-sound s f t l =
-      ap₂ _&&_ (every-of 256 _ (marked-inside s (tapsOf s f)))
-      (ap₂ _&&_ (eq-eqb _ _ (D .size-named s f t l))
-      (ap₂ _&&_ (l .reach) (every-of 512 _ (λ k h. lt-ltb _ 257 (held-below s f k)))))
+located-sound : (s : Shape) (f : List ℕ) → isShape s ≡ true → Locates s f
+    → findingsSound s (locatedBy s f .findings) (sizeOf s f) true ≡ true
+unfolding findingsSound locatedJob
+located-sound s f t l =
+    ap₂ _&&_ (every-of 256 _ (marked-inside s (tapsOf s f)))
+    (ap₂ _&&_ (eq-eqb _ _ (size-named s (tapsOf s f) t ∙ names-count s t f (l .well-formed) (l .names)))
+    (ap₂ _&&_ (l .reach) (every-of 512 _ (λ k h. lt-ltb _ 257 (held-below s f k)))))
 
-  form-sound : (j : Job) → Form j → sound j ≡ true
-  unfolding emptyJob shapedJob locatedJob sound phaseSound
-  form-sound _ empty = refl
-  form-sound _ (shaped s t) = t
-  form-sound _ (located s f t l) = ap₂ _&&_ t (located-sound s f t l)
+form-sound : (j : Job) → Form j → sound j ≡ true
+unfolding emptyJob shapedJob locatedJob sound phaseSound
+form-sound _ empty = refl
+form-sound _ (shaped s t) = t
+form-sound _ (located s f t l) = ap₂ _&&_ t (located-sound s f t l)
 
-  pub reached : (calls : List Call) → Reached calls
-  reached calls = record {
-    sound = form-sound (run calls) (run-form calls);
-    shape = holds-last-shape calls;
-    zeros = zeros (run calls) (run-form calls);
-  }
+pub reached : (calls : List Call) → Reached calls
+reached calls = record {
+  sound = form-sound (run calls) (run-form calls);
+  shape = holds-last-shape calls;
+  zeros = zeros (run calls) (run-form calls);
+}

@@ -8,7 +8,7 @@ use mathlib.Core.List.{List, [], _∷_, _++_, append-nil}
 use Prim.Native.Nat.{ℕ}
 use native.Mathlib.Omega.{arith}
 use Rattle.refusal.specs.Order.{Reason, First, None, Test, firstOf}
-use Rattle.refusal.specs.Outcome.{Outcome, passed, refused, outcome}
+use Rattle.refusal.specs.Outcome.{passed, refused, outcome}
 
 -- k is a number of the order
 abbrev pub Among : ℕ → List Test → Type 0
