@@ -2,10 +2,10 @@
 -- that is 0 outside a set of columns it is a sum over the set. So a row that is 0 outside a set and whose first check sums, as many as the set has columns,
 -- are 0 is 0 (Vandermonde): two rows that agree outside the set and in these sums are equal.
 -- Assumes nothing.
-use mathlib.Core.Path.{_≡_, refl, sym, ap, ap₂, _∙_}
+use mathlib.Core.Path.{_≡_, sym, ap, _∙_}
 use mathlib.Core.Logic.{_⊎_, inl, inr}
-use mathlib.Core.Bool.{Bool, true, false}
-use mathlib.Core.List.{List, [], _∷_}
+use mathlib.Core.Bool.{true, false}
+use mathlib.Core.List.{List}
 use Prim.Native.Nat.{ℕ, suc, _+_, _*_, _%_, _≤_, _<_}
 use native.Mathlib.Nat.{mod-lt}
 use native.Mathlib.Decide.{decLt}
@@ -13,7 +13,7 @@ use native.Mathlib.Omega.{arith}
 use lib.Dec.{lit<}
 use lib.ListN.{length, getD, List·getD-eq-default}
 use lib.Seq.{ext-getD}
-use Rattle.algebra.specs.Ring.{CRing, Field}
+use Rattle.algebra.specs.Ring.{CRing}
 use Rattle.algebra.specs.Sum.{sum, pow}
 use Rattle.algebra.proofs.RingLaws.{add-mul, neg-mul, zero-mul, eq-of-sub-zero}
 use Rattle.algebra.proofs.Sums.{sum-ext, sum-add, sum-neg}

@@ -3,9 +3,9 @@
 -- Assumes nothing.
 use mathlib.Core.Path.{_≡_, refl, sym, ap, ap₂, fun-ext, _∙_}
 use mathlib.Core.Logic.{_⊎_, inl, inr}
-use mathlib.Core.Bool.{Bool, true, false, cond}
+use mathlib.Core.Bool.{true, false}
 use mathlib.Core.List.{List, [], _∷_, map}
-use Prim.Native.Nat.{ℕ, zero, suc, _+_, _-_, _*_, _%_, _≤_, _<_}
+use Prim.Native.Nat.{ℕ, zero, suc, _-_, _*_, _%_, _≤_, _<_}
 use native.Mathlib.Nat.{mod-lt, le-of-lt}
 use native.Mathlib.Decide.{decLt}
 use native.Mathlib.Omega.{arith}
@@ -14,13 +14,13 @@ use lib.ListN.{length, getD}
 use Rattle.algebra.specs.Locator.{locator}
 use Rattle.algebra.specs.Polynomial.{conv, eval}
 use Rattle.algebra.specs.Ring.{CRing, Field}
-use Rattle.algebra.specs.Sum.{sum, pow}
+use Rattle.algebra.specs.Sum.{sum}
 use Rattle.algebra.proofs.Completion.{scale, weight-of, completion-solves}
 use Rattle.algebra.proofs.Convolution.{conv-sum}
 use Rattle.algebra.proofs.RingLaws.{zero-add, neg-mul}
 use Rattle.algebra.proofs.Sums.{sum-ext, sum-neg}
 use Rattle.algebra.proofs.Solver.{:0, :1, _:-_, :neg, _:=_, _:×_:≡_:⇒_, solve}
-use Rattle.columns.specs.Columns.{has, members}
+use Rattle.columns.specs.Columns.{has}
 use Rattle.columns.specs.declared.Columns.{Columns}
 use Rattle.columns.proofs.Listing.{by-test}
 use Rattle.field.specs.Coefficients.{value}

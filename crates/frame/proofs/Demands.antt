@@ -1,9 +1,6 @@
 -- What is owed of shapes, frames and the encoder.
 -- Assumes nothing.
-use mathlib.Core.Path.{_≡_}
-use mathlib.Core.Bool.{true}
-use mathlib.Core.List.{List}
-use Prim.Native.Nat.{ℕ, _*_, _≤_, _<_}
+use Prim.Native.Nat.{_*_}
 use native.Mathlib.Decide.{decLt, ℕ-discrete}
 use native.Mathlib.Omega.{arith}
 use lib.ListN.{length}
@@ -14,7 +11,7 @@ use Rattle.frame.proofs.Shapes.{shape-ranges}
 use Rattle.frame.specs.Demands.{Demand1, Demand2, shapeReasons, encodeReasons, frameReasons}
 use Rattle.frame.specs.Encode.{encodeTests}
 use Rattle.frame.specs.Frame.{cell, frameTests}
-use Rattle.frame.specs.Shape.{checksOf, shapeTests}
+use Rattle.frame.specs.Shape.{shapeTests}
 
 pub demand-1 : Demand1
 demand-1 = record {

@@ -1,24 +1,24 @@
 -- The encoder: each row completed at its check columns 0 .. N_h − 1 is legal, keeps the data, and is the only such frame.
 -- Assumes nothing.
-use mathlib.Core.Path.{_≡_, refl, sym, ap, _∙_}
-use mathlib.Core.Bool.{Bool, true, false, false≢true}
+use mathlib.Core.Path.{_≡_, sym, ap, _∙_}
+use mathlib.Core.Bool.{true, false, false≢true}
 use mathlib.Core.List.{List}
 use Prim.Native.Nat.{ℕ, suc, _+_, _-_, _*_, _≤_, _<_}
 use native.Mathlib.Decide.{decLt}
 use native.Mathlib.Omega.{arith}
 use borrow.Author.Tests.{ltb-true, ltb-false, le-ltb}
 use lib.Dec.{ltb}
-use lib.ListN.{length, getD}
-use Rattle.columns.specs.Columns.{has, columnsOf, members}
+use lib.ListN.{length}
+use Rattle.columns.specs.Columns.{has, columnsOf}
 use Rattle.columns.specs.declared.Columns.{Columns}
 use Rattle.columns.proofs.Listing.{length-listed, count-below}
 use Rattle.columns.proofs.Marks.{has-columnsOf, has-past, columnsOf-sound, members-columnsOf}
-use Rattle.frame.proofs.CompletedFrames.{completedFrame, length-completedFrame, completedFrame-kept, completedFrame-below, completedFrame-sums, completedFrame-only}
+use Rattle.frame.proofs.CompletedFrames.{length-completedFrame, completedFrame-kept, completedFrame-below, completedFrame-sums, completedFrame-only}
 use Rattle.frame.proofs.Members.{size, Below}
 use Rattle.frame.proofs.Rows.{cell-place, each-symbol}
-use Rattle.frame.proofs.Shapes.{Ranges, RowRanges}
-use Rattle.frame.specs.Encode.{encoded, SameData, OnlyLegal}
-use Rattle.frame.specs.Frame.{row, cell, checkSum, WellFormed, Legal}
+use Rattle.frame.proofs.Shapes.{Ranges}
+use Rattle.frame.specs.Encode.{encoded, OnlyLegal}
+use Rattle.frame.specs.Frame.{row, cell, checkSum}
 use Rattle.frame.specs.Shape.{checksOf}
 use Rattle.frame.specs.declared.Shape.{Shape}
 

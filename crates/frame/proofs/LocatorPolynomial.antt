@@ -1,9 +1,8 @@
 -- The locator polynomial of columns, a list of coefficients, is in the field that of their locators; its value is the polynomial's value there.
 -- Assumes nothing.
 use mathlib.Core.Path.{_≡_, refl, sym, ap, fun-ext, _∙_}
-use mathlib.Core.Bool.{Bool, true, false, cond}
 use mathlib.Core.List.{List, [], _∷_, map}
-use Prim.Native.Nat.{ℕ, zero, suc, _-_, _*_, _^_, _≤_, _<_}
+use Prim.Native.Nat.{ℕ, zero, suc, _-_, _*_, _^_, _<_}
 use native.Mathlib.Nat.{mod-lt, le-of-lt}
 use native.Mathlib.Decide.{decLt}
 use native.Mathlib.Omega.{arith}
@@ -13,7 +12,7 @@ use lib.ListN.{length, getD, length-map, List·getD-eq-default}
 use Rattle.algebra.specs.Locator.{unit, factor, locator}
 use Rattle.algebra.specs.Polynomial.{eval}
 use Rattle.algebra.specs.Ring.{CRing}
-use Rattle.algebra.specs.Sum.{sum, pow}
+use Rattle.algebra.specs.Sum.{sum}
 use Rattle.algebra.proofs.Evaluation.{eval-sum}
 use Rattle.algebra.proofs.LocatorLaws.{locator-degree}
 use Rattle.algebra.proofs.Solver.{:0, _:-_, _:·_, _:=_, solve}
@@ -28,7 +27,7 @@ use Rattle.frame.proofs.Field257.{R257, res257}
 use Rattle.frame.proofs.Locators.{locatorAt, res-locator}
 use Rattle.frame.specs.Completion.{locatorPolynomial}
 use Rattle.frame.specs.Powers.{locatorOf}
-open CRing R257 using (car, zero as 𝟘, add as _⊕_, mul as _⊗_, neg, add-zero)
+open CRing R257 using (add as _⊕_, mul as _⊗_, neg)
 
 infixl 60 _⊕_
 infixl 70 _⊗_

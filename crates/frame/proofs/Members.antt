@@ -1,13 +1,12 @@
 -- The columns of a set as a family: column k of the set is its k-th member. Their locators are distinct and nonzero, and a sum over all columns whose
 -- terms are 0 outside the set is the sum over its members.
 -- Assumes nothing.
-use mathlib.Core.Path.{_≡_, refl, sym, ap, ap₂, _∙_}
-use mathlib.Core.Logic.{_≢_, _⊎_, inl, inr}
-use mathlib.Core.Bool.{Bool, true, false, false≢true}
-use mathlib.Core.List.{List, [], _∷_, _++_}
+use mathlib.Core.Path.{_≡_, sym, ap, ap₂, _∙_}
+use mathlib.Core.Logic.{_⊎_, inl, inr}
+use mathlib.Core.Bool.{Bool, true, false}
+use mathlib.Core.List.{[], _∷_, _++_}
 use Prim.Native.Nat.{ℕ, zero, suc, _+_, _-_, _≤_, _<_}
 use native.Mathlib.Nat.{le-step, lt-suc-self}
-use native.Mathlib.Decide.{decLt}
 use native.Mathlib.Omega.{arith}
 use lib.ListN.{length, getD, List·getD-append}
 use lib.Seq.{getD-at}
@@ -18,8 +17,8 @@ use Rattle.algebra.proofs.Sums.{sum-zero, sum-suc, sum-ext, sum-front}
 use Rattle.columns.specs.Columns.{has, members}
 use Rattle.columns.specs.Listed.{count, listed}
 use Rattle.columns.specs.declared.Columns.{Columns}
-use Rattle.columns.proofs.Listing.{count-zero, count-pass, count-fail, listed-pass, listed-fail, by-test, length-listed, listed-at, listed-rises, Entry, entry, count-lt}
-use Rattle.frame.proofs.Field257.{F257, R257}
+use Rattle.columns.proofs.Listing.{count-zero, count-pass, count-fail, listed-pass, listed-fail, by-test, length-listed, listed-at, Entry, entry, count-lt}
+use Rattle.frame.proofs.Field257.{R257}
 use Rattle.frame.proofs.Locators.{locatorAt, locators-distinct, locator-nonzero}
 
 abbrev pub size : Columns → ℕ
