@@ -4,7 +4,6 @@ pub mod Bounds
 pub mod Cases
 pub mod Coefficients
 pub mod EachRound
-pub mod Examples
 pub mod FieldStep
 pub mod Generators
 pub mod Ordering

@@ -1,0 +1,80 @@
+-- The marked examples A to K of document 01 as one table, with everything that it says of them. An entry holds what is given and what comes of it;
+-- `computed` makes anew what comes of it, by the definitions of the finder and of the calls. The theorem, in proofs/Examples.antt, is that the table stays as it is.
+use mathlib.Core.Bool.{Bool, true, false}
+use mathlib.Core.List.{List, [], _∷_, map}
+use Prim.Native.Nat.{ℕ, suc, _+_}
+use lib.ListN.{length, replicate, take}
+use Rattle.columns.specs.Columns.{members}
+use Rattle.decoding.specs.Locating.{sizeOf, tapsOf, aloneOf}
+use Rattle.examples.specs.Enumeration.{registers}
+use Rattle.finder.specs.Finder as Finder
+use Rattle.finder.specs.Finder.{answer, tapsLeft}
+use Rattle.frame.specs.Frame.{sequences}
+use Rattle.frame.specs.Shape.{shapeOf}
+use Rattle.frame.specs.declared.Shape.{Shape}
+use Rattle.job.specs.Calls as Calls
+use Rattle.job.specs.Calls.{Outcome, step}
+use Rattle.job.specs.Job.{emptyJob}
+use Rattle.lists.specs.Tabulate.{tabulate, joined}
+use Rattle.register.specs.Sequences.{longest}
+
+pub data Example : Type 0 where
+  -- modulus and sequences; the finder's answer and taps; all registers of each length up to that one, so that none is shorter
+  register : (p : ℕ) (ss : List (List ℕ)) (found : Finder.Answer) (taps : List ℕ) (all : List (List (List ℕ))) → Example
+  -- columns, check counts and frame; the check sums, the register's length, taps and alone mark; what locate answers, and the columns
+  frame : (n : ℕ) (checks f : List ℕ) (sums : List (List ℕ)) (c : ℕ) (taps : List ℕ) (alone : Bool) (said : Calls.Answer) (marked : List ℕ) → Example
+  -- columns, check counts and frame; the frame that encode leaves
+  encoded : (n : ℕ) (checks f left : List ℕ) → Example
+
+unfoldable pub lengthOf : Finder.Answer → ℕ
+lengthOf (Finder.register l a) = l
+lengthOf (Finder.refused k) = 0
+
+unfoldable pub computed : Example → Example
+computed (register p ss found taps all) =
+    let lengths : List ℕ = map length ss in
+    let said : Finder.Answer = answer p lengths (joined ss) (suc (longest ss)) in
+    register p ss said (take (suc (lengthOf said)) (tapsLeft p lengths (joined ss) (replicate (suc (longest ss)) 0)))
+    (tabulate (suc (lengthOf said)) (λ l. registers p l ss))
+computed (frame n checks f sums c taps alone said marked) =
+    let s : Shape = shapeOf n checks in
+    let o : Outcome = step (step emptyJob (Calls.shape n checks) .job) (Calls.locate f) in
+    frame n checks f (sequences s f) (sizeOf s f) (tapsOf s f) (aloneOf s f) (o .answer) (members (o .marks))
+computed (encoded n checks f left) =
+    encoded n checks f (step (step emptyJob (Calls.shape n checks) .job) (Calls.encode f) .frame)
+
+unfoldable pub table : List Example
+table =
+    -- A
+    register 5 ((1 ∷ 2 ∷ 4 ∷ 3 ∷ []) ∷ []) (Finder.register 1 true) (1 ∷ 3 ∷ [])
+    ([] ∷ ((1 ∷ 3 ∷ []) ∷ []) ∷ []) ∷
+    -- B, with its five registers
+    register 5 ((1 ∷ 2 ∷ 4 ∷ 3 ∷ []) ∷ (1 ∷ 1 ∷ []) ∷ []) (Finder.register 2 false) (1 ∷ 3 ∷ 0 ∷ [])
+    ([] ∷ [] ∷ ((1 ∷ 0 ∷ 1 ∷ []) ∷ (1 ∷ 1 ∷ 4 ∷ []) ∷ (1 ∷ 2 ∷ 2 ∷ []) ∷ (1 ∷ 3 ∷ 0 ∷ []) ∷ (1 ∷ 4 ∷ 3 ∷ []) ∷ []) ∷ []) ∷
+    -- C
+    register 2 ((0 ∷ 0 ∷ 1 ∷ []) ∷ []) (Finder.register 3 false) (1 ∷ 0 ∷ 0 ∷ 0 ∷ [])
+    ([] ∷ [] ∷ [] ∷ ((1 ∷ 0 ∷ 0 ∷ 0 ∷ []) ∷ (1 ∷ 0 ∷ 0 ∷ 1 ∷ []) ∷ (1 ∷ 0 ∷ 1 ∷ 0 ∷ []) ∷ (1 ∷ 0 ∷ 1 ∷ 1 ∷ []) ∷ (1 ∷ 1 ∷ 0 ∷ 0 ∷ []) ∷ (1 ∷ 1 ∷ 0 ∷ 1 ∷ []) ∷ (1 ∷ 1 ∷ 1 ∷ 0 ∷ []) ∷ (1 ∷ 1 ∷ 1 ∷ 1 ∷ []) ∷ []) ∷ []) ∷
+    -- D
+    register 7 ((0 ∷ 0 ∷ 0 ∷ []) ∷ [] ∷ []) (Finder.register 0 true) (1 ∷ [])
+    (((1 ∷ []) ∷ []) ∷ []) ∷
+    -- E
+    register 5 ((3 ∷ []) ∷ []) (Finder.register 1 false) (1 ∷ 0 ∷ [])
+    ([] ∷ ((1 ∷ 0 ∷ []) ∷ (1 ∷ 1 ∷ []) ∷ (1 ∷ 2 ∷ []) ∷ (1 ∷ 3 ∷ []) ∷ (1 ∷ 4 ∷ []) ∷ []) ∷ []) ∷
+    -- F
+    register 2 ((1 ∷ 0 ∷ 1 ∷ 1 ∷ 0 ∷ 1 ∷ []) ∷ (0 ∷ 1 ∷ 1 ∷ 0 ∷ []) ∷ []) (Finder.register 2 true) (1 ∷ 1 ∷ 1 ∷ [])
+    ([] ∷ [] ∷ ((1 ∷ 1 ∷ 1 ∷ []) ∷ []) ∷ []) ∷
+    -- G
+    frame 4 (3 ∷ 2 ∷ []) (0 ∷ 0 ∷ 5 ∷ 0 ∷ 0 ∷ 0 ∷ 7 ∷ 0 ∷ []) ((45 ∷ 148 ∷ 47 ∷ []) ∷ (63 ∷ 53 ∷ []) ∷ []) 1
+    (1 ∷ 248 ∷ []) true (Calls.columns 1) (2 ∷ []) ∷
+    -- H
+    frame 4 (2 ∷ 2 ∷ []) (1 ∷ 1 ∷ 0 ∷ 0 ∷ 0 ∷ 0 ∷ 0 ∷ 0 ∷ []) ((4 ∷ 10 ∷ []) ∷ (0 ∷ 0 ∷ []) ∷ []) 1
+    (1 ∷ 126 ∷ []) true (Calls.refused 26) [] ∷
+    -- I
+    frame 4 (1 ∷ 1 ∷ []) (5 ∷ 0 ∷ 0 ∷ 0 ∷ 0 ∷ 0 ∷ 0 ∷ 0 ∷ []) ((5 ∷ []) ∷ (0 ∷ []) ∷ []) 1
+    (1 ∷ 0 ∷ []) false (Calls.refused 24) [] ∷
+    -- J
+    frame 6 (4 ∷ 1 ∷ []) (1 ∷ 1 ∷ 0 ∷ 0 ∷ 0 ∷ 0 ∷ 0 ∷ 0 ∷ 0 ∷ 0 ∷ 0 ∷ 0 ∷ []) ((4 ∷ 10 ∷ 28 ∷ 82 ∷ []) ∷ (0 ∷ []) ∷ []) 2
+    (1 ∷ 253 ∷ 3 ∷ []) true (Calls.refused 25) [] ∷
+    -- K
+    encoded 3 (1 ∷ []) (0 ∷ 1 ∷ 1 ∷ []) (245 ∷ 1 ∷ 1 ∷ []) ∷
+    []
