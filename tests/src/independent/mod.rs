@@ -1,0 +1,259 @@
+//! The calls of the library from their definitions in document 01, by elimination and direct
+//! sums. It shares no method with the library, but for the taps of a register that is not alone,
+//! which document 01 defines by Algorithm 4.
+
+pub mod elimination;
+pub mod frames;
+pub mod registers;
+
+use std::sync::LazyLock;
+
+use common::interface::{Answer, Calls, Job, LOCATED, Register, SHAPED, Shaped};
+
+use frames::{Shape, columns_of, marks_of};
+
+pub struct Independent;
+
+/// The number of the first reason that holds, or 0.
+fn first(reasons: &[(u32, &dyn Fn() -> bool)]) -> u32 {
+    reasons
+        .iter()
+        .find(|(_, holds)| holds())
+        .map_or(0, |(number, _)| *number)
+}
+
+/// The primes up to the largest that is taken, by the sieve of Eratosthenes.
+fn is_prime(p: u32) -> bool {
+    static PRIME: LazyLock<Vec<bool>> = LazyLock::new(|| {
+        let mut prime = vec![true; 65522];
+        prime[..2].fill(false);
+        for d in 2..256 {
+            prime
+                .iter_mut()
+                .skip(2 * d)
+                .step_by(d)
+                .for_each(|multiple| *multiple = false);
+        }
+        prime
+    });
+    PRIME[p as usize]
+}
+
+fn find_refusal(p: u32, lengths: &[u16], symbols: &[u16], taps: usize) -> u32 {
+    let longest = || lengths.iter().copied().max().map_or(0, usize::from);
+    let total = || {
+        lengths
+            .iter()
+            .map(|&length| usize::from(length))
+            .sum::<usize>()
+    };
+    first(&[
+        (1, &|| p > 65521 || !is_prime(p)),
+        (2, &|| lengths.is_empty() || lengths.len() > 8),
+        (3, &|| longest() > 128 || total() != symbols.len()),
+        (8, &|| taps < longest() + 1),
+        (4, &|| symbols.iter().any(|&symbol| u32::from(symbol) >= p)),
+    ])
+}
+
+fn is_bad_count(columns: usize, count: u16) -> bool {
+    !(1..=64).contains(&count) || usize::from(count) >= columns
+}
+
+fn shape_refusal(columns: usize, checks: &[u16]) -> u32 {
+    first(&[
+        (2, &|| checks.is_empty() || checks.len() > 8),
+        (5, &|| !(2..=256).contains(&columns)),
+        (6, &|| {
+            checks.iter().any(|&count| is_bad_count(columns, count))
+        }),
+    ])
+}
+
+/// The shape of a job that does not count as empty. A value that no call can return is taken for
+/// what it says where its numbers are in their ranges, and counts as empty elsewhere.
+pub fn shape_of(job: &Job) -> Option<Shape> {
+    let rows = usize::try_from(job.rows).ok()?;
+    let columns = usize::try_from(job.columns).ok()?;
+    let shape = Shape {
+        columns,
+        checks: job.checks.get(..rows)?.to_vec(),
+    };
+    let shaped = shape_refusal(columns, &shape.checks) == 0;
+    let marked = columns_of(&job.marks);
+    let found = job.alone == 1
+        && marked.len() as u64 == job.length
+        && marked.iter().all(|&i| i < columns)
+        && shape.least_checks() >= marked.len()
+        && job.sums.iter().all(|&sum| sum < 257);
+    (shaped && (job.phase == SHAPED || job.phase == LOCATED && found)).then_some(shape)
+}
+
+fn held_sums(shape: &Shape, frame: &[u16]) -> [u16; 512] {
+    let mut held = [0; 512];
+    let sums = frames::check_sums(shape, frame);
+    held[..sums.len()].copy_from_slice(&sums);
+    held
+}
+
+/// Each row completed at the columns, which as many check sums determine.
+fn mended(shape: &Shape, frame: &[u16], columns: &[usize]) -> Vec<u16> {
+    let complete =
+        |row| frames::completed(row, columns, columns.len()).expect("as many sums as columns");
+    frame.chunks(shape.columns).flat_map(complete).collect()
+}
+
+/// The register of a frame's check sums, if it is alone.
+pub fn register_of(shape: &Shape, frame: &[u16]) -> Option<Vec<u64>> {
+    let sequences = registers::split(&shape.checks, &frames::check_sums(shape, frame));
+    registers::shortest(257, &sequences).1
+}
+
+/// The columns i for which the taps have the root 3^(−i).
+fn named(columns: usize, taps: &[u64]) -> Vec<usize> {
+    let locators = std::iter::successors(Some(1), |x| Some(x * 3 % 257)).take(columns);
+    let inverses = locators.map(|x: u64| (1..257).find(|y| x * y % 257 == 1).expect("not 0"));
+    let values = inverses.map(|y| {
+        taps.iter()
+            .rev()
+            .fold(0, |value, tap| (value * y + tap) % 257)
+    });
+    values
+        .enumerate()
+        .filter(|(_, value)| *value == 0)
+        .map(|(i, _)| i)
+        .collect()
+}
+
+fn frame_refusal(shape: &Shape, frame: &[u16]) -> u32 {
+    first(&[
+        (7, &|| frame.len() != shape.size()),
+        (4, &|| frame.iter().any(|&symbol| symbol >= 257)),
+    ])
+}
+
+impl Calls for Independent {
+    fn find(&self, p: u32, lengths: &[u16], symbols: &[u16], taps: &mut [u16]) -> Register {
+        let refusal = find_refusal(p, lengths, symbols, taps.len());
+        if refusal != 0 {
+            return Register::refused(refusal);
+        }
+        let sequences = registers::split(lengths, symbols);
+        let (length, only) = registers::shortest(p, &sequences);
+        let alone = u32::from(only.is_some());
+        let found = only.unwrap_or_else(|| registers::algorithm_4(p, &sequences));
+        assert!(found.len() == length + 1 && registers::generates(p, &found, &sequences));
+        for (entry, tap) in taps.iter_mut().zip(found) {
+            *entry = tap as u16;
+        }
+        Register {
+            refusal: 0,
+            length: length as u32,
+            alone,
+        }
+    }
+
+    fn empty(&self) -> Job {
+        Job::EMPTY
+    }
+
+    fn shape(&self, job: Job, columns: usize, checks: &[u16]) -> Shaped {
+        let refusal = shape_refusal(columns, checks);
+        if refusal != 0 {
+            return Shaped { refusal, job };
+        }
+        let mut job = Job {
+            rows: checks.len() as u64,
+            columns: columns as u64,
+            ..Job::EMPTY
+        };
+        job.checks[..checks.len()].copy_from_slice(checks);
+        Shaped {
+            refusal: 0,
+            job: job.reshaped(),
+        }
+    }
+
+    fn encode(&self, job: Job, frame: &mut [u16]) -> u32 {
+        let Some(shape) = shape_of(&job) else {
+            return 21;
+        };
+        if frame.len() != shape.size() {
+            return 7;
+        }
+        let is_data = |k: &usize| k % shape.columns >= usize::from(shape.checks[k / shape.columns]);
+        if (0..frame.len()).filter(is_data).any(|k| frame[k] >= 257) {
+            return 4;
+        }
+        for (row, &checks) in frame.chunks_mut(shape.columns).zip(&shape.checks) {
+            let columns: Vec<usize> = (0..usize::from(checks)).collect();
+            let legal =
+                frames::completed(row, &columns, columns.len()).expect("as many sums as columns");
+            row.copy_from_slice(&legal);
+        }
+        0
+    }
+
+    fn locate(&self, job: Job, frame: &[u16]) -> Answer {
+        let Some(shape) = shape_of(&job) else {
+            return Answer::refused(21, job);
+        };
+        let refusal = frame_refusal(&shape, frame);
+        if refusal != 0 {
+            return Answer::refused(refusal, job);
+        }
+        let Some(taps) = register_of(&shape, frame) else {
+            return Answer::refused(24, job.reshaped());
+        };
+        let c = taps.len() - 1;
+        if c > shape.least_checks() {
+            return Answer::refused(25, job.reshaped());
+        }
+        let columns = named(shape.columns, &taps);
+        if columns.len() != c || !frames::is_legal(&shape, &mended(&shape, frame, &columns)) {
+            return Answer::refused(26, job.reshaped());
+        }
+        let marks = marks_of(&columns);
+        let mut job = Job {
+            phase: LOCATED,
+            alone: 1,
+            length: c as u64,
+            marks,
+            ..job
+        };
+        job.sums = held_sums(&shape, frame);
+        job.taps = [0; 65];
+        for (entry, tap) in job.taps.iter_mut().zip(taps) {
+            *entry = tap as u16;
+        }
+        Answer {
+            refusal: 0,
+            count: c as u32,
+            marks,
+            job,
+        }
+    }
+
+    fn repair(&self, job: Job, frame: &mut [u16]) -> Answer {
+        let Some(shape) = shape_of(&job) else {
+            return Answer::refused(21, job);
+        };
+        if job.phase != LOCATED {
+            return Answer::refused(22, job);
+        }
+        let refusal = frame_refusal(&shape, frame);
+        if refusal != 0 {
+            return Answer::refused(refusal, job);
+        }
+        if held_sums(&shape, frame) != job.sums {
+            return Answer::refused(23, job);
+        }
+        frame.copy_from_slice(&mended(&shape, frame, &columns_of(&job.marks)));
+        Answer {
+            refusal: 0,
+            count: job.length as u32,
+            marks: job.marks,
+            job: job.reshaped(),
+        }
+    }
+}

@@ -1,0 +1,45 @@
+//! Compares every call of the library with an independent implementation, on many inputs that are
+//! the same in every run. With `--plain` the plain implementation of the benchmarks takes the
+//! library's place. `tests/run` builds and runs it.
+
+mod independent;
+mod judge;
+mod trials;
+
+use std::process::ExitCode;
+use std::time::Instant;
+
+use common::interface::Calls;
+use judge::Judge;
+
+fn subject() -> Box<dyn Calls> {
+    #[cfg(library)]
+    if std::env::args().nth(1).as_deref() != Some("--plain") {
+        return Box::new(common::interface::Library);
+    }
+    Box::new(plain::Plain)
+}
+
+type Trial = fn(&mut Judge);
+
+const TRIALS: [(&str, Trial); 8] = [
+    ("layout", trials::layout::run),
+    ("examples", trials::examples::run),
+    ("vectors", trials::vectors::run),
+    ("finder", trials::finder::run),
+    ("shapes", trials::shapes::run),
+    ("frames", trials::frames::run),
+    ("forged jobs", trials::forged::run),
+    ("lists of calls", trials::lists::run),
+];
+
+fn main() -> ExitCode {
+    let subject = subject();
+    let mut judge = Judge::new(&*subject);
+    for (name, run) in TRIALS {
+        let start = Instant::now();
+        run(&mut judge);
+        println!("{name}: {:.1} s", start.elapsed().as_secs_f64());
+    }
+    ExitCode::from(u8::from(!judge.finish()))
+}

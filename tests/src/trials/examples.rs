@@ -1,0 +1,115 @@
+//! Examples A to K of document 01, with the answers that stand there.
+
+use crate::judge::Judge;
+
+/// p, the sequences, the taps, and whether they are alone.
+type Sequences = (u32, &'static [&'static [u16]], &'static [u16], bool);
+
+const REGISTERS: [Sequences; 6] = [
+    (5, &[&[1, 2, 4, 3]], &[1, 3], true),
+    (5, &[&[1, 2, 4, 3], &[1, 1]], &[1, 3, 0], false),
+    (2, &[&[0, 0, 1]], &[1, 0, 0, 0], false),
+    (7, &[&[0, 0, 0], &[]], &[1], true),
+    (5, &[&[3]], &[1, 0], false),
+    (2, &[&[1, 0, 1, 1, 0, 1], &[0, 1, 1, 0]], &[1, 1, 1], true),
+];
+
+/// Columns, checks, the cells that are not 0, and the answer.
+struct Frame {
+    columns: usize,
+    checks: &'static [u16],
+    cells: &'static [(usize, u16)],
+    located: Result<Located, u32>,
+}
+
+struct Located {
+    sums: &'static [u16],
+    marks: u64,
+}
+
+const FRAMES: [Frame; 4] = [
+    Frame {
+        columns: 4,
+        checks: &[3, 2],
+        cells: &[(2, 5), (6, 7)],
+        located: Ok(Located {
+            sums: &[45, 148, 47, 63, 53],
+            marks: 1 << 2,
+        }),
+    },
+    Frame {
+        columns: 4,
+        checks: &[2, 2],
+        cells: &[(0, 1), (1, 1)],
+        located: Err(26),
+    },
+    Frame {
+        columns: 4,
+        checks: &[1, 1],
+        cells: &[(0, 5)],
+        located: Err(24),
+    },
+    Frame {
+        columns: 6,
+        checks: &[4, 1],
+        cells: &[(0, 1), (1, 1)],
+        located: Err(25),
+    },
+];
+
+pub fn run(judge: &mut Judge) {
+    for (p, sequences, taps, alone) in REGISTERS {
+        let lengths: Vec<u16> = sequences
+            .iter()
+            .map(|sequence| sequence.len() as u16)
+            .collect();
+        let (register, found) = judge.find(p, &lengths, &sequences.concat(), 129);
+        judge.compare(
+            "the taps of an example",
+            &(p, sequences),
+            taps,
+            &found[..=register.length as usize],
+        );
+        judge.compare(
+            "the alone mark of an example",
+            &(p, sequences),
+            u32::from(alone),
+            register.alone,
+        );
+    }
+    for example in FRAMES {
+        let mut frame = vec![0; example.checks.len() * example.columns];
+        for &(place, symbol) in example.cells {
+            frame[place] = symbol;
+        }
+        let empty = judge.empty();
+        let (_, job) = judge.shape(empty, example.columns, example.checks);
+        let answer = judge.locate(job, &frame);
+        match example.located {
+            Err(number) => judge.compare(
+                "the refusal of an example",
+                &example.cells,
+                number,
+                answer.refusal,
+            ),
+            Ok(Located { sums, marks }) => {
+                judge.compare(
+                    "the columns of an example",
+                    &example.cells,
+                    [marks, 0, 0, 0],
+                    answer.marks,
+                );
+                judge.compare(
+                    "the sums of an example",
+                    &example.cells,
+                    sums,
+                    &answer.job.sums[..sums.len()],
+                );
+            }
+        }
+    }
+    let empty = judge.empty();
+    let (_, job) = judge.shape(empty, 3, &[1]);
+    let (_, frame) = judge.encode(job, &[0, 1, 1]);
+    judge.compare("the check of an example", &(), &[245, 1, 1][..], &frame);
+}

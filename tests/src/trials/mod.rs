@@ -1,0 +1,72 @@
+//! The inputs that the calls are tried on, and what they have in common.
+
+pub mod examples;
+pub mod finder;
+pub mod forged;
+pub mod frames;
+pub mod layout;
+pub mod lists;
+pub mod shapes;
+pub mod vectors;
+
+use common::interface::{Calls, Job};
+use common::random::Random;
+
+use crate::independent::Independent;
+use crate::independent::frames::Shape;
+
+/// A shape of at most so many columns, with the same number of checks in all rows half of the time.
+fn some_shape(random: &mut Random, most_columns: usize) -> Shape {
+    let columns = random.from_to(2, most_columns);
+    let most_checks = (columns - 1).min(64);
+    let rows = random.from_to(1, 8);
+    let mut checks: Vec<u16> = (0..rows)
+        .map(|_| random.from_to(1, most_checks) as u16)
+        .collect();
+    if random.once_in(2) {
+        checks = vec![checks[0]; rows];
+    }
+    Shape { columns, checks }
+}
+
+fn shaped(shape: &Shape) -> Job {
+    Independent
+        .shape(Job::EMPTY, shape.columns, &shape.checks)
+        .job
+}
+
+/// The legal frame with random data.
+fn some_legal_frame(random: &mut Random, shape: &Shape) -> Vec<u16> {
+    let mut frame = random.symbols(257, shape.size());
+    Independent.encode(shaped(shape), &mut frame);
+    frame
+}
+
+/// The frame with so many random columns altered.
+fn damaged(random: &mut Random, shape: &Shape, frame: &[u16], count: usize) -> Vec<u16> {
+    let mut frame = frame.to_vec();
+    let columns = random.subset(shape.columns, count);
+    random.damage(&mut frame, shape.columns, &columns);
+    frame
+}
+
+/// A frame that is not well-formed, or was not before a symbol was mended by chance.
+fn malformed(random: &mut Random, shape: &Shape, frame: &[u16]) -> Vec<u16> {
+    let mut frame = frame.to_vec();
+    if random.once_in(2) {
+        let size = random.pick(&[
+            0,
+            1,
+            frame.len() - 1,
+            frame.len() + 1,
+            frame.len() + shape.columns,
+            2 * frame.len(),
+        ]);
+        frame.resize(size, 0);
+    }
+    if !frame.is_empty() && random.once_in(2) {
+        let place = random.below(frame.len());
+        frame[place] = random.pick(&[256, 257, 258, 65535]);
+    }
+    frame
+}
