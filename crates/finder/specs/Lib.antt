@@ -1,3 +1,4 @@
 pub mod Demands
 pub mod Finder
+pub mod Places
 pub mod Progress

@@ -6,8 +6,8 @@ use Prim.Native.Nat.{ℕ, zero, suc, _+_, _*_, _≤_, _<_}
 use native.Mathlib.Omega.{arith}
 use lib.ListN.{length, getD, take, drop, replicate, length-append}
 use lib.Seq.{take-at, drop-at}
-use Rattle.lists.specs.Tabulate.{tabulate, joined}
 use Rattle.lists.proofs.Tabulated.{tabulate-zero, tabulate-suc}
+use Rattle.lists.specs.Tabulate.{tabulate, joined}
 
 module _ {ℓ} {A : Type ℓ} where
   pub joined-zero : (f : ℕ → List A) → joined (tabulate 0 f) ≡ []

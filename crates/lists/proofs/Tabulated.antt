@@ -1,7 +1,7 @@
 -- Laws of lists and tests by index: what `tabulate` holds, when two such lists are equal, and what `every` says. Assumes nothing.
 use mathlib.Core.Path.{_≡_, refl, sym, ap, ap₂, subst, _∙_}
 use mathlib.Core.Bool.{Bool, true, false, _&&_, and-eq-true-iff, false≢true}
-use mathlib.Core.List.{List, [], _∷_}
+use mathlib.Core.List.{List, [], _∷_, _++_}
 use Prim.Native.Nat.{ℕ, zero, suc, _≤_, _<_}
 use native.Mathlib.Decide.{decLt}
 use native.Mathlib.Nat.{le-of-suc-le-suc, le-step, lt-suc-self, not-suc-le-zero}
@@ -36,6 +36,11 @@ module _ {ℓ} {A : Type ℓ} where
   tabulate-ext zero f g e = tabulate-zero f ∙ sym (tabulate-zero g)
   tabulate-ext (suc n) f g e =
       tabulate-suc n f ∙ ap₂ _∷_ (e 0 (omega arith)) (tabulate-ext n (λ i. f (suc i)) (λ i. g (suc i)) (λ i h. e (suc i) (omega arith))) ∙ sym (tabulate-suc n g)
+
+  pub tabulate-more : (n : ℕ) (f : ℕ → A) → tabulate (suc n) f ≡ tabulate n f ++ (f n ∷ [])
+  tabulate-more zero f = tabulate-suc 0 f ∙ ap (λ l. f 0 ∷ l) (tabulate-zero (λ i. f (suc i))) ∙ ap (λ l. l ++ (f 0 ∷ [])) (sym (tabulate-zero f))
+  tabulate-more (suc n) f =
+      tabulate-suc (suc n) f ∙ ap (λ l. f 0 ∷ l) (tabulate-more n (λ i. f (suc i))) ∙ ap (λ l. l ++ (f (suc n) ∷ [])) (sym (tabulate-suc n f))
 
   -- a list is the list of its entries
   pub tabulate-getD : (l : List A) (d : A) → tabulate (length l) (λ i. getD l i d) ≡ l
