@@ -17,16 +17,16 @@ use Rattle.algebra.specs.Ring.{CRing}
 use Rattle.algebra.specs.Sum.{sum, pow}
 use Rattle.algebra.proofs.RingLaws.{add-mul, neg-mul, zero-mul, eq-of-sub-zero}
 use Rattle.algebra.proofs.Sums.{sum-ext, sum-add, sum-neg}
-use Rattle.algebra.proofs.Vandermonde.{weights-unique}
 use Rattle.columns.specs.Columns.{has}
 use Rattle.columns.specs.declared.Columns.{Columns}
-use Rattle.columns.proofs.Listing.{by-test}
+use Rattle.columns.proofs.Listing.{by-test, length-listed}
 use Rattle.field.proofs.Bridge.{res-mod, res-mul, res-total}
 use Rattle.field.proofs.Totals.{total-ext}
 use Rattle.field.proofs.Prime257.{prime-257}
 use Rattle.frame.proofs.Field257.{F257, R257, res257, res-tells}
-use Rattle.frame.proofs.Locators.{locatorAt, firstExponent, res-weight}
-use Rattle.frame.proofs.Members.{size, member, Below, member-place, member-locators-distinct, member-locators-nonzero, sum-members}
+use Rattle.frame.proofs.Locators.{locatorAt, locators-distinct, locator-nonzero, firstExponent, res-weight}
+use Rattle.frame.proofs.Members.{size, member, Below, sum-members}
+use Rattle.frame.proofs.Words.{word-zero}
 use Rattle.frame.specs.Frame.{checkSum}
 use Rattle.frame.specs.Powers.{weight}
 open CRing R257 using (car, zero as 𝟘, add as _⊕_, mul as _⊗_, neg, add-neg)
@@ -67,22 +67,23 @@ rowSum-sub n c d j =
     ∙ sum-add R257 n (λ i. c i ⊗ weightAt i j) (λ i. neg (d i ⊗ weightAt i j))
     ∙ ap (λ x. rowSum n c j ⊕ x) (sum-neg R257 n (λ i. d i ⊗ weightAt i j))
 
-module _ (n : ℕ) (J : Columns) (narrow : n ≤ 256) (below : Below n J) where
-  -- the check sums of a row that is 0 outside the set
-  pub rowSum-members : (d : ℕ → car) → ((i : ℕ) → has J i ≡ false → d i ≡ 𝟘) → (j : ℕ)
-      → rowSum n d j ≡ sum R257 (size J) (λ k. d (member J k) ⊗ weightAt (member J k) j)
-  rowSum-members d z j =
-      sum-members R257 n J (λ i. d i ⊗ weightAt i j) narrow below (λ i f. ap (λ x. x ⊗ weightAt i j) (z i f) ∙ zero-mul R257 (weightAt i j))
+-- the check sums of a row that is 0 outside the set
+pub rowSum-members : (n : ℕ) (J : Columns) → n ≤ 256 → Below n J → (d : ℕ → car) → ((i : ℕ) → has J i ≡ false → d i ≡ 𝟘) → (j : ℕ)
+    → rowSum n d j ≡ sum R257 (size J) (λ k. d (member J k) ⊗ weightAt (member J k) j)
+rowSum-members n J narrow below d z j =
+    sum-members R257 n J (λ i. d i ⊗ weightAt i j) narrow below (λ i f. ap (λ x. x ⊗ weightAt i j) (z i f) ∙ zero-mul R257 (weightAt i j))
 
+module _ (n : ℕ) (J : Columns) (narrow : n ≤ 256) (below : Below n J) where
   pub supported-zero : (d : ℕ → car) → ((i : ℕ) → has J i ≡ false → d i ≡ 𝟘) → ((j : ℕ) → j < size J → rowSum n d j ≡ 𝟘) → (i : ℕ) → d i ≡ 𝟘
   supported-zero d z sums i = pick (by-test (has J i))
     where
       pick : (has J i ≡ true) ⊎ (has J i ≡ false) → d i ≡ 𝟘
       pick (inl t) =
-          let place = member-place J i (let b = below i t in omega arith) t in
-          ap d (sym (place .2))
-          ∙ weights-unique F257 (size J) (λ k. locatorAt (member J k)) (member-locators-distinct J) (member-locators-nonzero J) firstExponent
-          (λ k. d (member J k)) (λ j h. sym (rowSum-members d z j) ∙ sums j h) (place .0) (place .1)
+          word-zero F257 256 locatorAt locators-distinct (λ k _. locator-nonzero k) (has J) d (λ k _. z k) firstExponent
+          (λ j h.
+          rowSum-members 256 J (omega arith) (λ k e. let b = below k e in omega arith) d z j ∙ sym (rowSum-members n J narrow below d z j)
+          ∙ sums j (let c = length-listed 256 (has J) in omega arith))
+          i (let b = below i t in omega arith)
       pick (inr f) = z i f
 
   pub same-row : (x y : List ℕ) → length x ≡ n → length y ≡ n → ((i : ℕ) → i < n → getD x i 0 < 257) → ((i : ℕ) → i < n → getD y i 0 < 257)

@@ -13,3 +13,4 @@ pub mod Others
 pub mod Reasons
 pub mod Rows
 pub mod Shapes
+pub mod Words

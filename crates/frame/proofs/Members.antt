@@ -17,7 +17,7 @@ use Rattle.algebra.proofs.Sums.{sum-zero, sum-suc, sum-ext, sum-front}
 use Rattle.columns.specs.Columns.{has, members}
 use Rattle.columns.specs.Listed.{count, listed}
 use Rattle.columns.specs.declared.Columns.{Columns}
-use Rattle.columns.proofs.Listing.{count-zero, count-pass, count-fail, listed-pass, listed-fail, by-test, length-listed, listed-at, Entry, entry, count-lt}
+use Rattle.columns.proofs.Listing.{count-zero, count-pass, count-fail, listed-pass, listed-fail, by-test, length-listed, Entry, entry}
 use Rattle.frame.proofs.Field257.{R257}
 use Rattle.frame.proofs.Locators.{locatorAt, locators-distinct, locator-nonzero}
 
@@ -43,11 +43,6 @@ module _ (J : Columns) where
 
   pub member-has : (k : ℕ) → k < size J → has J (member J k) ≡ true
   member-has k h = member-entry k h .passes
-
-  -- a column of the set is one of its members
-  pub member-place : (i : ℕ) → i < 256 → has J i ≡ true → (k : ℕ) × (k < size J) × (member J k ≡ i)
-  member-place i h e =
-      (count i (has J), (let c = count-lt i 256 (has J) h e in let s = size-count in omega arith), listed-at i 256 (has J) h e)
 
   pub members-distinct : (k l : ℕ) → k < size J → l < size J → member J k ≡ member J l → k ≡ l
   members-distinct k l hk hl e = sym (member-entry k hk .place) ∙ ap (λ (i : ℕ). count i (has J)) e ∙ member-entry l hl .place
