@@ -35,12 +35,18 @@ repair-early : (j : Job) (f : List ℕ) → Early (repairTests j f)
 unfolding repairTests frameTests
 repair-early j f = (omega arith, (omega arith, (omega arith, (omega arith, (omega arith, tt)))))
 
+pub same-number : {k m : ℕ} → refused m ≡ refused k → m ≡ k
+same-number e = cc
+
+pub never-done : {k : ℕ} → done ≡ refused k → ⊥
+never-done e = let z : _≡_ {A = ℕ} 0 1 = cc in omega arith
+
+pub never-columns : {c k : ℕ} → columns c ≡ refused k → ⊥
+never-columns e = let z : _≡_ {A = ℕ} 0 1 = cc in omega arith
+
 module _ (j : Job) (k : ℕ) where
   abbrev Left : Call → Outcome → Type 0
   Left c o = o .answer ≡ refused k → Refused j c k o
-
-  pub same-number : (m : ℕ) → refused m ≡ refused k → m ≡ k
-  same-number m e = cc
 
   leaves-job : (ts : List Test) → Early ts → (m : ℕ) → Among m ts → m ≡ k → leaves j k j
   leaves-job ts e m a q = inr (λ l. off (early m ts e a) l, refl)
@@ -51,7 +57,7 @@ module _ (j : Job) (k : ℕ) where
       off b (inr (inr l)) = omega arith
 
   refusing-leaves : (c : Call) (ts : List Test) → Early ts → (m : ℕ) → Among m ts → Left c (refusing j (lent c) m)
-  refusing-leaves c ts e m a q = record { frame = refl; marks = refl; job = leaves-job ts e m a (same-number m q) }
+  refusing-leaves c ts e m a q = record { frame = refl; marks = refl; job = leaves-job ts e m a (same-number q) }
 
   leaves-shaped : (m : ℕ) (f : List ℕ) → Among m (registerTests j f) → m ≡ k → leaves j k (shapedJob (j .shape))
   unfolding registerTests
@@ -63,12 +69,6 @@ module _ (j : Job) (k : ℕ) where
       late (inr (inr (inl e))) = inr (inr (sym q ∙ e))
       late (inr (inr (inr e))) = absurd e
 
-  pub never-done : done ≡ refused k → ⊥
-  never-done e = let z : _≡_ {A = ℕ} 0 1 = cc in omega arith
-
-  pub never-columns : (c : ℕ) → columns c ≡ refused k → ⊥
-  never-columns c e = let z : _≡_ {A = ℕ} 0 1 = cc in omega arith
-
   pub left : (c : Call) → Left c (step j c)
   unfolding shapeTests encodeTests
   left (shape n checks) =
@@ -79,8 +79,8 @@ module _ (j : Job) (k : ℕ) where
       (λ p e. absurd (never-done e))
   left (locate f) =
       by-locate (Left (locate f)) j f (refusing-leaves (locate f) (earlyTests j f) (omega arith, frame-early (j .shape) f))
-      (λ m p a e. record { frame = refl; marks = refl; job = leaves-shaped m f a (same-number m e) })
-      (λ p q e. absurd (never-columns _ e))
+      (λ m p a e. record { frame = refl; marks = refl; job = leaves-shaped m f a (same-number e) })
+      (λ p q e. absurd (never-columns e))
   left (repair f) =
       by-repair (Left (repair f)) j f (refusing-leaves (repair f) (repairTests j f) (repair-early j f))
-      (λ p e. absurd (never-columns _ e))
+      (λ p e. absurd (never-columns e))

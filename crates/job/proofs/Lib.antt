@@ -1,6 +1,10 @@
 pub mod AfterRefusal
+pub mod Between
 pub mod Cases
+pub mod Demands
 pub mod Forms
+pub mod Locating
 pub mod Reasons
 pub mod Refusals
+pub mod Repairing
 pub mod Soundness

@@ -28,7 +28,7 @@ module _ (j : Job) (k : ℕ) where
   Gives o = o .answer ≡ refused k
 
   tells : (i : Job) (f : List ℕ) (m : ℕ) → Gives (refusing i f m) ↔ (k ≡ m)
-  tells i f m = (λ e. sym (same-number j k m e), λ e. cc)
+  tells i f m = (λ e. sym (same-number e), λ e. cc)
 
   registers : (f : List ℕ) → isShape (j .shape) ≡ true → WellFormed (j .shape) f
       → Gives (firstOf (refusing (shapedJob (j .shape)) f) (registerTests j f) (locates (j .shape) f))
@@ -40,7 +40,7 @@ module _ (j : Job) (k : ℕ) where
       let says-25 = short-row-says s f t a in
       gives-next Gives k refuse (tells (shapedJob s) f) _ (shortRowReason s f) _ (noFrameReason s f ∷ []) says-25 (λ n.
       gives-next Gives k refuse (tells (shapedJob s) f) _ (noFrameReason s f) _ [] (no-frame-says s f t w a) (λ n.
-      (never-columns j k _, λ e. absurd e))))
+      (never-columns, λ e. absurd e))))
     where
       s : Shape
       s = j .shape
@@ -55,10 +55,10 @@ module _ (j : Job) (k : ℕ) where
   unfolding step shapeCall encodeCall locateCall repairCall
   exact (shape n checks) =
       gives-first Gives k (refusing j []) (tells j []) (shapeTests n checks) (shapeReasons n checks) (shapes n checks) []
-      (shape-says n checks) (λ n. (never-done j k, λ e. absurd e))
+      (shape-says n checks) (λ n. (never-done, λ e. absurd e))
   exact (encode f) =
       gives-first Gives k (refusing j f) (tells j f) (emptyTest j ∷ encodeTests (j .shape) f) (emptyReason j ∷ encodeReasons (j .shape) f)
-      (encodes j f) [] (empty-says j, encode-says (j .shape) f) (λ n. (never-done j k, λ e. absurd e))
+      (encodes j f) [] (empty-says j, encode-says (j .shape) f) (λ n. (never-done, λ e. absurd e))
   exact (locate f) =
       gives-first Gives k (refusing j f) (tells j f) (earlyTests j f) (emptyReason j ∷ frameReasons (j .shape) f) _
       (registerReasons (j .shape) f) (empty-says j, frame-says (j .shape) f) (λ n.
@@ -66,7 +66,7 @@ module _ (j : Job) (k : ℕ) where
       registers f (has-shape j e) (frame-passes (j .shape) f p))
   exact (repair f) =
       gives-first Gives k (refusing j f) (tells j f) (repairTests j f) (reasons j (repair f)) (repairs j f) []
-      (repair-says j f) (λ n. (never-columns j k _, λ e. absurd e))
+      (repair-says j f) (λ n. (never-columns, λ e. absurd e))
 
 pub demand-1 : Demand1
 demand-1 = record { exact = λ j c k. exact j k c; left = λ j c k. left j k c }

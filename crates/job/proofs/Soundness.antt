@@ -5,6 +5,7 @@ use mathlib.Core.Bool.{Bool, true, false, not, _&&_, _||_, or-true, false≢true
 use mathlib.Core.List.{List, [], _∷_}
 use mathlib.Core.Option.{Option, some}
 use Prim.Native.Nat.{ℕ, _<_}
+use native.Mathlib.Omega.{arith}
 use lib.Dec.{ltb}
 use borrow.Author.Tests.{lt-ltb, eq-eqb}
 use Rattle.columns.specs.Columns.{has}
@@ -102,7 +103,7 @@ located-sound s f t l =
     (ap₂ _&&_ (eq-eqb _ _ (size-named s (tapsOf s f) t ∙ names-count s t f (l .well-formed) (l .names)))
     (ap₂ _&&_ (l .reach) (every-of 512 _ (λ k h. lt-ltb _ 257 (held-below s f k)))))
 
-form-sound : (j : Job) → Form j → sound j ≡ true
+pub form-sound : (j : Job) → Form j → sound j ≡ true
 unfolding emptyJob shapedJob locatedJob sound phaseSound
 form-sound _ empty = refl
 form-sound _ (shaped s t) = t
@@ -114,3 +115,15 @@ reached calls = record {
   shape = holds-last-shape calls;
   zeros = zeros (run calls) (run-form calls);
 }
+
+-- a job that holds a shape does not count as empty
+pub shape-held : (calls : List Call) (s : Shape) → lastShape calls ≡ some s → (isEmpty (run calls) ≡ false) × (run calls .shape ≡ s)
+unfolding isEmpty
+shape-held calls s last =
+    of-phase (run calls .phase) (sound (run calls)) (form-sound (run calls) (run-form calls)) (holds-last-shape calls ∙ last)
+  where
+    of-phase : (p : Phase) (b : Bool) → b ≡ true → heldShape p (run calls .shape) ≡ some s
+        → ((isEmptyPhase p || not b) ≡ false) × (run calls .shape ≡ s)
+    of-phase Empty b e h = absurd (let z : _≡_ {A = ℕ} 0 1 = cc in let y : ⊥ = omega arith in y)
+    of-phase Shaped b e h = (ap not e, cc)
+    of-phase (Located c a) b e h = (ap not e, cc)

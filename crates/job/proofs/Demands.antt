@@ -1,0 +1,94 @@
+-- Demand 3, about every list of calls on one job from an empty one.
+-- Assumes nothing.
+use mathlib.Core.Path.{_≡_, refl, sym, ap, subst, _∙_}
+use mathlib.Core.Logic.{_↔_}
+use mathlib.Core.Bool.{true}
+use mathlib.Core.List.{List, [], _∷_, _++_}
+use mathlib.Core.Option.{some}
+use Prim.Native.Nat.{ℕ, _≤_, _<_}
+use Rattle.decoding.proofs.Recovery.{recovers-half}
+use Rattle.frame.specs.Frame.{WellFormed, sequences}
+use Rattle.frame.specs.Shape.{isShape, checksOf}
+use Rattle.frame.specs.declared.Shape.{Shape}
+use Rattle.refusal.proofs.Orders.{Pass}
+use Rattle.register.specs.Register.{Shortest, Alone}
+use Rattle.job.specs.Calls.{Call, locate, repair, columns, Outcome, step, repairTests}
+use Rattle.job.specs.Demands.{run, runFrom, lastShape, Between, Mended, IsRefused, RepairMends, LocateExact, DamageMended, Demand3}
+use Rattle.job.specs.Job.{emptyJob, locatedJob, lengthOf}
+use Rattle.job.specs.Refusals.{LegalAt}
+use Rattle.job.proofs.AfterRefusal.{never-columns}
+use Rattle.job.proofs.Between.{between-keeps}
+use Rattle.job.proofs.Cases.{locatedBy, locates, repairs, by-repair}
+use Rattle.job.proofs.Forms.{Locates, has-shape, run-form, run-append}
+use Rattle.job.proofs.Locating.{locate-takes, exact-at}
+use Rattle.job.proofs.Repairing.{repair-mended, repair-takes}
+use Rattle.job.proofs.Soundness.{reached, holds-last-shape, not-empty-held, shape-held}
+
+-- ---- a repair that is not refused
+
+repair-mends : RepairMends
+unfolding repairTests
+repair-mends calls f = by-repair Mends (run calls) f (λ k a taken. absurd (taken (k, refl))) (λ p taken. passed p)
+  where
+    Mends : Outcome → Type 0
+    Mends o = (IsRefused o → ⊥) → (s : Shape) × (c : ℕ) × (lastShape calls ≡ some s) × (o .answer ≡ columns c) × Mended s f c o
+
+    passed : Pass (repairTests (run calls) f)
+        → (s : Shape) × (c : ℕ) × (lastShape calls ≡ some s) × (repairs (run calls) f .answer ≡ columns c) × Mended s f c (repairs (run calls) f)
+    passed p = (
+      run calls .shape,
+      lengthOf (run calls .phase),
+      sym (holds-last-shape calls) ∙ not-empty-held (run calls) (p .0),
+      refl,
+      repair-mended (run calls) f (run-form calls) p,
+    )
+
+-- ---- a locate
+
+locate-exact : LocateExact
+locate-exact calls s f c σ last =
+    let (not-empty, same) = shape-held calls s last in
+    subst (λ (x : Shape). WellFormed x f → Shortest 257 c (sequences x f) σ → Alone 257 c (sequences x f) σ
+    → ((h : ℕ) → h < x .rows → c ≤ checksOf x h) → IsRefused (step (run calls) (locate f)) ↔ (LegalAt x f c → ⊥)) same
+    (exact-at (run calls) f not-empty c σ)
+
+-- ---- a frame that was damaged
+
+module _ (before : List Call) (s : Shape) (f : List ℕ) (last : lastShape before ≡ some s) where
+  shaped-so : isShape s ≡ true
+  shaped-so = let (not-empty, same) = shape-held before s last in subst (λ (x : Shape). isShape x ≡ true) same (has-shape (run before) not-empty)
+
+  module _ (l : Locates s f) where
+    taken : step (run before) (locate f) ≡ locates s f
+    taken =
+        let (not-empty, same) = shape-held before s last in
+        subst (λ (x : Shape). Locates x f → step (run before) (locate f) ≡ locates x f) same (locate-takes (run before) f not-empty) l
+
+    located-then : run (before ++ (locate f ∷ [])) ≡ locatedBy s f
+    unfolding runFrom
+    located-then = run-append emptyJob before (locate f ∷ []) ∙ ap (λ o. o .job) taken
+
+    still-located : (between : List Call) → Between (run (before ++ (locate f ∷ []))) between → run (before ++ (locate f ∷ between)) ≡ locatedBy s f
+    unfolding runFrom
+    still-located between kept =
+        run-append emptyJob before (locate f ∷ between) ∙ ap (λ o. runFrom (o .job) between) taken
+        ∙ between-keeps (locatedBy s f) between (subst (λ j. Between j between) located-then kept)
+
+    repair-then : (between : List Call) → Between (run (before ++ (locate f ∷ []))) between
+        → step (run (before ++ (locate f ∷ between))) (repair f) ≡ repairs (locatedBy s f) f
+    repair-then between kept = ap (λ j. step j (repair f)) (still-located between kept) ∙ repair-takes s f shaped-so l
+
+damage-mended : DamageMended
+unfolding locatedJob
+damage-mended before between s f g last legal w half kept =
+    let r = recovers-half s (shaped-so before s f last) g f legal w half in
+    let l : Locates s f = record { well-formed = w; alone = r .alone; reach = r .reaches; names = r .names } in
+    let after = repair-then before s f last l between kept in
+    record {
+      located = λ (k, refusal). never-columns (sym (ap (λ o. o .answer) (taken before s f last l)) ∙ refusal);
+      mended = λ (k, refusal). never-columns (sym (ap (λ o. o .answer) after) ∙ refusal);
+      frame = ap (λ o. o .frame) after ∙ r .frame;
+    }
+
+pub demand-3 : Demand3
+demand-3 = record { reached = reached; repair-mends = repair-mends; locate-exact = locate-exact; damage-mended = damage-mended }

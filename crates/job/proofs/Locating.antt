@@ -1,0 +1,71 @@
+-- Locating a well-formed frame of a job that has a shape. It is taken where the register is alone, reached by every row and names its columns; and where
+-- it is alone and reached by every row, it is refused exactly when no legal frame lies at a distance of its length.
+-- Assumes nothing.
+use mathlib.Core.Path.{_≡_, refl, ap, sym, subst, _∙_}
+use mathlib.Core.Bool.{Bool, true, false, not, false≢true}
+use mathlib.Core.List.{List}
+use mathlib.Core.Logic.{_↔_}
+use Prim.Native.Nat.{ℕ, _≤_, _<_}
+use native.Mathlib.Omega.{arith}
+use borrow.Author.Tests.{le-leb}
+use Rattle.decoding.specs.Locating.{sizeOf, tapsOf, aloneOf, rowsReach, namesAll}
+use Rattle.decoding.proofs.FrameRegister.{same-size, alone-marked}
+use Rattle.decoding.proofs.SoleNearest.{legal-at-size}
+use Rattle.frame.specs.Frame.{WellFormed, sequences}
+use Rattle.frame.proofs.Reasons.{well-formed-passes}
+use Rattle.frame.specs.Shape.{isShape, checksOf}
+use Rattle.frame.specs.declared.Shape.{Shape}
+use Rattle.lists.proofs.Tabulated.{every-of}
+use Rattle.refusal.proofs.Orders.{pass-otherwise}
+use Rattle.register.specs.Register.{Shortest, Alone}
+use Rattle.job.specs.Calls.{locate, refused, refusing, step, locateCall, registerTests}
+use Rattle.job.specs.Job.{isEmpty}
+use Rattle.job.specs.declared.Job.{Job}
+use Rattle.job.specs.Demands.{IsRefused}
+use Rattle.job.specs.Refusals.{LegalAt}
+use Rattle.job.proofs.Cases.{locates, earlyTests, locate-passes}
+use Rattle.job.proofs.Forms.{Locates, has-shape}
+use Rattle.job.proofs.AfterRefusal.{never-columns}
+
+module _ (j : Job) (f : List ℕ) (not-empty : isEmpty j ≡ false) where
+  abbrev s : Shape
+  s = j .shape
+
+  t : isShape s ≡ true
+  t = has-shape j not-empty
+
+  pub locate-takes : Locates s f → step j (locate f) ≡ locates s f
+  unfolding registerTests
+  locate-takes l =
+      locate-passes j f (not-empty, well-formed-passes s f (l .well-formed))
+      (ap not (l .alone), (ap not (l .reach), (ap not (l .names), tt)))
+
+  pub locate-refuses : WellFormed s f → aloneOf s f ≡ true → rowsReach s (sizeOf s f) ≡ true
+      → namesAll s (tapsOf s f) (sizeOf s f) ≡ false → step j (locate f) .answer ≡ refused 26
+  unfolding step locateCall registerTests
+  locate-refuses w a r n =
+      rw (pass-otherwise (refusing j f) _ (earlyTests j f) (not-empty, well-formed-passes s f w)) (rw (a, r, n) refl)
+
+  exact-at-size : WellFormed s f → aloneOf s f ≡ true → rowsReach s (sizeOf s f) ≡ true
+      → IsRefused (step j (locate f)) ↔ (LegalAt s f (sizeOf s f) → ⊥)
+  exact-at-size w a r = pick (namesAll s (tapsOf s f) (sizeOf s f)) refl
+    where
+      legal-there : (namesAll s (tapsOf s f) (sizeOf s f) ≡ true) ↔ LegalAt s f (sizeOf s f)
+      legal-there = legal-at-size s t f w a
+
+      pick : (b : Bool) → namesAll s (tapsOf s f) (sizeOf s f) ≡ b → IsRefused (step j (locate f)) ↔ (LegalAt s f (sizeOf s f) → ⊥)
+      pick true n =
+          let taken = locate-takes (record { well-formed = w; alone = a; reach = r; names = n }) in (
+            λ (k, refusal). absurd (never-columns (sym (ap (λ o. o .answer) taken) ∙ refusal)),
+            λ none. absurd (none (legal-there .0 n)),
+          )
+      pick false n = (λ refusal l. false≢true (sym n ∙ legal-there .1 l), λ none. (26, locate-refuses w a r n))
+
+  pub exact-at : (c : ℕ) (σ : List ℕ) → WellFormed s f → Shortest 257 c (sequences s f) σ → Alone 257 c (sequences s f) σ
+      → ((h : ℕ) → h < s .rows → c ≤ checksOf s h) → IsRefused (step j (locate f)) ↔ (LegalAt s f c → ⊥)
+  unfolding rowsReach
+  exact-at c σ w shortest alone checks =
+      let q : c ≡ sizeOf s f = same-size s f t c σ shortest in
+      subst (λ (l : ℕ). IsRefused (step j (locate f)) ↔ (LegalAt s f l → ⊥)) (sym q)
+      (exact-at-size w (alone-marked s f t c σ shortest alone)
+      (every-of (s .rows) _ (λ h l. le-leb (sizeOf s f) (checksOf s h) (omega (arith, checks h l)))))

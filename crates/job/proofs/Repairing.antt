@@ -1,0 +1,94 @@
+-- Repairing: a frame with the sums of the frame that was located has its register, so that the repair mends it; and the located frame itself is taken.
+-- Assumes nothing.
+use mathlib.Core.Path.{_≡_, refl, sym, ap, subst, _∙_}
+use mathlib.Core.Bool.{true, not, false≢true}
+use mathlib.Core.List.{List}
+use Prim.Native.Nat.{ℕ, _<_}
+use native.Mathlib.Omega.{arith}
+use lib.ListN.{length, getD}
+use lib.Seq.{ext-getD}
+use borrow.Author.Tests.{eqb-true, eq-eqb}
+use Rattle.decoding.specs.Locating.{sizeOf, tapsOf, aloneOf, rowsReach}
+use Rattle.decoding.proofs.SoleNearest.{mended-legal, mended-distance, mended-differing, sole-nearest}
+use Rattle.frame.specs.Frame.{WellFormed, sequences, heldSums, frameTests}
+use Rattle.frame.specs.Shape.{isShape}
+use Rattle.frame.specs.declared.Shape.{Shape}
+use Rattle.frame.proofs.HeldSums.{held-length, held-sequences}
+use Rattle.frame.proofs.Reasons.{frame-passes, well-formed-passes}
+use Rattle.lists.proofs.Tabulated.{every-at, every-of}
+use Rattle.refusal.proofs.Orders.{Pass, no-fail}
+use Rattle.register.specs.Algorithm4.{found, foundAlone}
+use Rattle.register.specs.Sequences.{longest}
+use Rattle.job.specs.Calls.{repair, step, repairTests, sameSums}
+use Rattle.job.specs.Demands.{Mended}
+use Rattle.job.specs.Job.{emptyJob, shapedJob, locatedJob, isEmpty, lengthOf}
+use Rattle.job.specs.declared.Job.{Job}
+use Rattle.job.proofs.Cases.{locatedBy, repairs, repair-passes}
+use Rattle.job.proofs.Forms.{Locates, Form, empty, shaped, located}
+use Rattle.job.proofs.Soundness.{form-sound}
+
+-- ---- the same sums
+
+same-sums : (a b : List ℕ) → length a ≡ 512 → length b ≡ 512 → sameSums a b ≡ true → a ≡ b
+unfolding sameSums
+same-sums a b m n e =
+    ext-getD 0 a b (m ∙ sym n) (λ k h. eqb-true _ _ (every-at 512 _ e k (let l : k < 512 = omega arith in l)))
+
+module _ (s : Shape) (f g : List ℕ) (e : heldSums s f ≡ heldSums s g) where
+  same-sequences : sequences s f ≡ sequences s g
+  same-sequences = held-sequences s f g e
+
+  same-size : sizeOf s f ≡ sizeOf s g
+  unfolding sizeOf
+  same-size = ap (λ ss. found 257 ss (longest ss) .size) same-sequences
+
+  same-taps : tapsOf s f ≡ tapsOf s g
+  unfolding tapsOf
+  same-taps = ap (λ ss. found 257 ss (longest ss) .taps) same-sequences
+
+  same-alone : aloneOf s f ≡ aloneOf s g
+  unfolding aloneOf
+  same-alone = ap (λ ss. foundAlone 257 ss (longest ss)) same-sequences
+
+  same-located : locatedBy s f ≡ locatedBy s g
+  same-located = rw (same-size, e, same-taps) refl
+
+  same-locates : WellFormed s f → Locates s g → Locates s f
+  same-locates w l = record {
+    well-formed = w;
+    alone = same-alone ∙ l .alone;
+    reach = ap (rowsReach s) same-size ∙ l .reach;
+    names = rw (same-size, same-taps) (l .names);
+  }
+
+-- ---- the frame that is left
+
+located-mended : (s : Shape) (f : List ℕ) → isShape s ≡ true → Locates s f → Mended s f (sizeOf s f) (repairs (locatedBy s f) f)
+unfolding locatedJob
+located-mended s f t l = record {
+  legal = mended-legal s t f (l .well-formed) (l .names);
+  count = mended-distance s t f (l .well-formed) (l .names);
+  marks = sym (mended-differing s t f (l .well-formed) (l .names));
+  nearest = λ g legal other. sole-nearest s t f (l .well-formed) (l .alone) (l .reach) g legal other;
+}
+
+pub repair-mended : (j : Job) (f : List ℕ) → Form j → Pass (repairTests j f) → Mended (j .shape) f (lengthOf (j .phase)) (repairs j f)
+unfolding repairTests frameTests emptyJob shapedJob locatedJob
+repair-mended _ f empty p = absurd (false≢true (sym (p .1 .0)))
+repair-mended _ f (shaped s t) p = absurd (false≢true (sym (p .1 .0)))
+repair-mended _ f (located s g t l) (e, (h, (size, (symbols, (sums, u))))) =
+    let w : WellFormed s f = frame-passes s f (size, (symbols, tt)) in
+    let same : heldSums s f ≡ heldSums s g = same-sums _ _ (held-length s f t) (held-length s g t) (no-fail _ sums) in
+    subst (λ j. Mended s f (lengthOf (j .phase)) (repairs j f)) (same-located s f g same)
+    (located-mended s f t (same-locates s f g same w l))
+
+-- ---- the frame that was located
+
+pub repair-takes : (s : Shape) (f : List ℕ) → isShape s ≡ true → Locates s f → step (locatedBy s f) (repair f) ≡ repairs (locatedBy s f) f
+unfolding repairTests frameTests locatedJob isEmpty sameSums
+repair-takes s f t l =
+    let (size, (symbols, u)) = well-formed-passes s f (l .well-formed) in
+    repair-passes (locatedBy s f) f (
+      ap not (form-sound (locatedBy s f) (located s f t l)),
+      (refl, (size, (symbols, (ap not (every-of 512 _ (λ k h. eq-eqb (getD (heldSums s f) k 0) _ refl)), tt)))),
+    )
