@@ -1,3 +1,4 @@
 // The encoder and the check sums of frames over the field of 257.
 pub mod powers;
 pub mod sums;
+pub mod values;

@@ -1,5 +1,6 @@
 // Check sums of a row and of a frame.
 use crate::powers::powers;
+use crate::values::value_at;
 use frame::Shape;
 ghost use mathlib.Core.Path.{_≡_};
 ghost use Prim.Native.Nat.{_*_, _≤_, _<_};
@@ -9,28 +10,12 @@ ghost use mathlib.Core.Bool.{true};
 ghost use Rattle.frame.specs.Frame.{checkSum, checkSums, heldSums};
 ghost use Rattle.frame.specs.Shape.{isShape};
 
-fn times(a: u16, b: u16) -> u32
-    ensures { λ r. ⌜ r ≡ a * b ⌝ }
-{
-    (a as u32) * (b as u32)
-}
-
-// The check sum S_j of a row x. The exponent i * j is kept modulo 256, since the powers of 3 come round; 256 products of
-// 65535 and 256 fit the sum, so that it is reduced once.
+// The check sum S_j of a row x: its value, as a polynomial, at 3^j.
 fn check_sum(powers: &[u16; 256], x: &[u16], j: usize) -> u16
     requires { ⌜ (now powers ≡ table) × (length (now x) ≤ 256) ⌝ }
     ensures { λ r. ⌜ r ≡ checkSum (length (now (x .entry))) (now (x .entry)) j ⌝ }
 {
-    let step = j % 256;
-    let mut total: u32 = 0;
-    let mut e: usize = 0;
-    let mut i = 0;
-    while i < x.len() {
-        total += times(x[i], powers[e]);
-        e = (e + step) % 256;
-        i += 1;
-    }
-    (total % 257) as u16
+    value_at(powers, x, j)
 }
 
 // The check sums S_1, S_2, .. of a row x, as many as there are places for them.

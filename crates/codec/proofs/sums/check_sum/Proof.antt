@@ -1,89 +1,15 @@
 -- `codec::sums::check_sum` meets its contract. Assumes nothing.
-use Prim.Native.Nat.{_+_, _-_, _%_}
-use native.Mathlib.Nat.{mod-lt}
-use native.Mathlib.Omega.{arith}
-use lib.ListN.{length}
-use Rattle.codec.proofs.Accumulation.{Accumulated, none, more, fits, finished}
+use mathlib.Core.Path.{_∙_}
+use Rattle.codec.proofs.Accumulation.{check-sum-value}
 use borrow.Author.Needs.{needs}
 use Rattle.codec.proofs.sums.check_sum.Statement.{statement}
 use Rattle.codec.proofs.sums.check_sum.Tie as tie
 
-abbrev Inv-loop : tie.InvT-loop
-Inv-loop powers x j step total₀ e₀ i₀ total e i = Accumulated x j i e total
+value-at-requires : tie.Need-value-at-requires
+value-at-requires c κs = search needs
 
-abbrev μ-loop : tie.MeasureT-loop
-μ-loop powers x j step total₀ e₀ i₀ total e i = length x - i
-
-loop-holds : tie.Need-loop-holds Inv-loop μ-loop
-loop-holds c = none _ _
-
-mul-times : tie.Need-mul-times Inv-loop μ-loop
-mul-times c = omega arith
-
-shared-slice-read-times : tie.Need-shared-slice-read-times Inv-loop μ-loop
-shared-slice-read-times c = omega arith
-
-mul-times-2 : tie.Need-mul-times-2 Inv-loop μ-loop
-mul-times-2 c = let p = c .before .before .loop .inv .place in omega arith
-
-element-copy-out-times : tie.Need-element-copy-out-times Inv-loop μ-loop
-element-copy-out-times c = let p = c .before .before .loop .inv .place in omega arith
-
-times-requires : tie.Need-times-requires Inv-loop μ-loop
-times-requires c κs = search needs
-
--- one column more
-grown : (c : tie.After-times Inv-loop μ-loop) →
-    let loop = c .before .before .before .before .loop in
-    let args = c .before .before .before .before .before .before .args in
-    Accumulated (args .x .now) (args .j) (loop .i + 1) ((loop .e + args .j % 256) % 256) (loop .total + c .times .result)
-grown c =
-    let at = c .before .before .before .before in
-    let start = at .before .before in
-    more (start .args .x .now) (start .args .j) (at .loop .i) (at .loop .e) (at .loop .total) (at .loop .inv) (start .args .powers .now) (c .times .result)
-    (c .before .before .before .loop-test .taken) (start .pre .0) (c .times .ensures)
-
-add-total : tie.Need-add-total Inv-loop μ-loop
-add-total c =
-    let start = c .before .before .before .before .before in
-    fits _ _ _ _ _ (grown c) (start .before .pre .1) (start .shared-slice-known .given)
-
-add-e : tie.Need-add-e Inv-loop μ-loop
-add-e c = omega arith
-
-add-i : tie.Need-add-i Inv-loop μ-loop
-add-i c = omega arith
-
-loop-less : tie.Need-loop-less Inv-loop μ-loop
-loop-less c = omega arith
-
-loop-again : tie.Need-loop-again Inv-loop μ-loop
-loop-again c = grown c
-
-cast-result : tie.Need-cast-result Inv-loop μ-loop
-cast-result c = omega arith
-
-returns : tie.Need-returns Inv-loop μ-loop
-returns c =
-    let start = c .before .before .before in
-    finished (start .args .x .now) (start .args .j) _ _ _ (c .before .loop .inv) (c .loop-test .left)
+returns : tie.Need-returns
+returns c = c .value-at .ensures .0 ∙ check-sum-value _ _
 
 pub check-sum-spec : {M : Type 1} → statement M
-check-sum-spec =
-    tie.close
-    (tie.spec
-    Inv-loop
-    μ-loop
-    loop-holds
-    mul-times
-    shared-slice-read-times
-    mul-times-2
-    element-copy-out-times
-    times-requires
-    add-total
-    add-e
-    add-i
-    loop-less
-    loop-again
-    cast-result
-    returns)
+check-sum-spec = tie.close (tie.spec value-at-requires returns)

@@ -1,10 +1,10 @@
--- `codec::sums::times` meets its contract. Assumes nothing.
+-- `codec::values::times` meets its contract. Assumes nothing.
 use Prim.Native.Nat.{_≤_}
 use native.Mathlib.Nat.{mul-le-mul}
 use native.Mathlib.Omega.{arith}
 use borrow.Author.Needs.{needs}
-use Rattle.codec.proofs.sums.times.Statement.{statement}
-use Rattle.codec.proofs.sums.times.Tie as tie
+use Rattle.codec.proofs.values.times.Statement.{statement}
+use Rattle.codec.proofs.values.times.Tie as tie
 
 mul-result : tie.Need-mul-result
 mul-result c =
