@@ -2,3 +2,4 @@ pub mod Accumulation
 pub mod Held
 pub mod PowerTable
 pub mod RowPlace
+pub mod LocatorOrder

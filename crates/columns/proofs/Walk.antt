@@ -1,48 +1,75 @@
--- Going through the list of the numbers that pass, from each to the next: with j entries passed, the next number that passes is entry j.
+-- Walking over the members of a set in rising order, from each to the next marked column: after d members the walk stands at member d, or past the last.
 -- Assumes nothing.
-use mathlib.Core.Path.{_≡_, refl, sym, ap, _∙_, subst⁻¹}
-use mathlib.Core.Bool.{Bool, true, false, _&&_, false≢true}
-use Prim.Native.Nat.{ℕ, suc, _+_, _≤_, _<_}
+use mathlib.Core.Path.{_≡_, sym, ap, _∙_, subst₂}
+use mathlib.Core.Bool.{true, false, _&&_, and-eq-true-iff, true≢false}
+use mathlib.Core.Logic.{_⊎_, inl, inr}
+use Prim.Native.Nat.{ℕ, suc, _+_, _≤_, _<_, zero-le}
+use native.Mathlib.Nat.{eq-or-lt-of-le, le-antisymm}
 use native.Mathlib.Numerals.{add-one}
 use native.Mathlib.Omega.{arith}
 use lib.Dec.{leb}
-use lib.ListN.{getD}
-use borrow.Author.Tests.{leb-true, le-leb}
-use Rattle.columns.specs.Listed.{count, listed, least}
+use lib.ListN.{length, getD}
+use borrow.Author.Tests.{le-leb, leb-true}
+use Rattle.columns.specs.Columns.{has, members}
+use Rattle.columns.specs.Listed.{count, least}
+use Rattle.columns.specs.declared.Columns.{Columns}
 use Rattle.columns.proofs.Least.{Least, least-is}
-use Rattle.columns.proofs.Listing.{count-pass, count-skip, listed-at}
+use Rattle.columns.proofs.Listing.{by-test, count-zero, count-pass, count-skip, count-lt, listed-at, length-listed}
 
--- k is the next number that passes, from `from` on: it is the entry that follows the j entries below `from`
-pub record Next (n : ℕ) (P : ℕ → Bool) (from j k : ℕ) : Type 0 where
-  pub after : from ≤ k
-  pub passes : P k ≡ true
-  pub is-entry : getD (listed n P) j 0 ≡ k
-  pub passed : count (k + 1) P ≡ j + 1
+module _ (c : Columns) where
+  -- after d members the walk stands at i
+  pub record Walk (d i : ℕ) : Type 0 where
+    pub within : i ≤ 256
+    pub marked : i < 256 → has c i ≡ true
+    pub place : count i (has c) ≡ d
 
-both : (a b : Bool) → (a && b) ≡ true → (a ≡ true) × (b ≡ true)
-both true b e = (refl, e)
-both false b e = absurd (false≢true e)
+  -- the next marked column at or after `from`
+  abbrev nextAt : ℕ → ℕ
+  nextAt from = least 256 (λ k. leb from k && has c k)
 
-module _ (n : ℕ) (P : ℕ → Bool) (from k : ℕ) (next : k ≡ least n (λ i. leb from i && P i)) where
-  is-least : Least n (λ i. leb from i && P i) k
-  is-least = subst⁻¹ (Least n (λ i. leb from i && P i)) next (least-is n (λ i. leb from i && P i))
+  pub none-between : (from k : ℕ) → from ≤ k → k < nextAt from → has c k ≡ false
+  none-between from k l h = pick (by-test (has c k))
+    where
+      pick : (has c k ≡ true) ⊎ (has c k ≡ false) → has c k ≡ false
+      pick (inl e) =
+          absurd (true≢false (sym (and-eq-true-iff (leb from k) (has c k) .1 (le-leb from k l, e)) ∙ least-is 256 (λ k. leb from k && has c k) .before k h))
+      pick (inr e) = e
 
-  -- none passes from `from` up to the next
-  none-between : (i : ℕ) → from ≤ i → i < k → P i ≡ false
-  none-between i f l = sym (ap (λ (b : Bool). b && P i) (le-leb from i f)) ∙ is-least .before i l
+  arrived : (from : ℕ) → from ≤ 256 → Walk (count from (has c)) (nextAt from)
+  arrived from l = at (eq-or-lt-of-le (found .within))
+    where
+      found : Least 256 (λ k. leb from k && has c k) (nextAt from)
+      found = least-is 256 (λ k. leb from k && has c k)
 
-  pub walk-next : (j : ℕ) → j ≡ count from P → k < n → Next n P from j k
-  walk-next j e h =
-      let (f, p) = both (leb from k) (P k) (is-least .here h) in
-      let after = leb-true from k f in
-      let place : count k P ≡ j = count-skip from k P after none-between ∙ sym e in
-      record {
-        after = after;
-        passes = p;
-        is-entry = ap (λ (i : ℕ). getD (listed n P) i 0) (sym place) ∙ listed-at k n P h p;
-        passed = ap (λ (i : ℕ). count i P) (add-one k) ∙ count-pass k P p ∙ ap suc place ∙ sym (add-one j);
+      mark : nextAt from < 256 → (leb from (nextAt from) ≡ true) × (has c (nextAt from) ≡ true)
+      mark h = and-eq-true-iff (leb from (nextAt from)) (has c (nextAt from)) .0 (found .here h)
+
+      walk : from ≤ nextAt from → Walk (count from (has c)) (nextAt from)
+      walk le = record {
+        within = found .within;
+        marked = λ h. mark h .1;
+        place = count-skip from (nextAt from) (has c) le (none-between from);
       }
 
-  -- no next one: all entries are passed
-  pub walk-end : from ≤ n → n ≤ k → count n P ≡ count from P
-  walk-end f h = count-skip from n P f (λ i p q. none-between i p (omega arith))
+      at : (nextAt from ≡ 256) ⊎ (nextAt from < 256) → Walk (count from (has c)) (nextAt from)
+      at (inl e) = walk (omega arith)
+      at (inr h) = walk (leb-true from (nextAt from) (mark h .0))
+
+  pub walk-start : (i : ℕ) → i ≡ nextAt 0 → Walk 0 i
+  walk-start i e = subst₂ Walk (count-zero (has c)) (sym e) (arrived 0 zero-le)
+
+  module _ (d i : ℕ) (w : Walk d i) where
+    pub walk-next : (j : ℕ) → i < 256 → j ≡ nextAt (i + 1) → Walk (d + 1) j
+    walk-next j h e =
+        subst₂ Walk (ap (λ (k : ℕ). count k (has c)) (add-one i) ∙ count-pass i (has c) (w .marked h) ∙ ap suc (w .place) ∙ sym (add-one d))
+        (sym e) (arrived (i + 1) (omega arith))
+
+    pub walk-member : i < 256 → (d < length (members c)) × (getD (members c) d 0 ≡ i)
+    walk-member h = (
+      (let l = count-lt i 256 (has c) h (w .marked h) in let e = length-listed 256 (has c) in let p = w .place in omega arith),
+      ap (λ (k : ℕ). getD (members c) k 0) (sym (w .place)) ∙ listed-at i 256 (has c) h (w .marked h),
+    )
+
+    pub walk-end : 256 ≤ i → d ≡ length (members c)
+    walk-end h =
+        sym (w .place) ∙ ap (λ (k : ℕ). count k (has c)) (le-antisymm (w .within) h) ∙ sym (length-listed 256 (has c))

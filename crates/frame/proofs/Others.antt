@@ -28,7 +28,7 @@ without-none i (x ∷ xs) n =
     rw (ne-eqb x i (n 0 (omega arith))) (ap (λ (l : List ℕ). x ∷ l) (without-none i xs (λ p h. n (suc p) (suc-le-suc h))))
 
 -- the one entry that equals i goes
-without-one : (i : ℕ) (l : List ℕ) (k : ℕ) → k < length l → getD l k 0 ≡ i → ((p : ℕ) → p < length l → p ≢ k → getD l p 0 ≢ i)
+pub without-one : (i : ℕ) (l : List ℕ) (k : ℕ) → k < length l → getD l k 0 ≡ i → ((p : ℕ) → p < length l → p ≢ k → getD l p 0 ≢ i)
     → without i l ≡ take k l ++ drop (suc k) l
 unfolding without
 without-one i [] k h e n = absurd (not-suc-le-zero h)
