@@ -271,8 +271,9 @@ pub fn powers() -> [u16; 256]
     POWERS
 }
 
-fn wide(x: u16) -> u32
-    ensures { λ r. ⌜ r ≡ x ⌝ }
+pub fn wide(x: u16) -> u32
+    ensures equals { λ r. ⌜ r ≡ x ⌝ }
+    ensures below { λ r. ⌜ r < 65536 ⌝ }
 {
     x as u32
 }

@@ -35,25 +35,25 @@ module _ (c : Columns) where
           absurd (true≢false (sym (and-eq-true-iff (leb from k) (has c k) .1 (le-leb from k l, e)) ∙ least-is 256 (λ k. leb from k && has c k) .before k h))
       pick (inr e) = e
 
-  arrived : (from : ℕ) → from ≤ 256 → Walk (count from (has c)) (nextAt from)
-  arrived from l = at (eq-or-lt-of-le (found .within))
+  found : (from : ℕ) → Least 256 (λ k. leb from k && has c k) (nextAt from)
+  found from = least-is 256 (λ k. leb from k && has c k)
+
+  mark : (from : ℕ) → nextAt from < 256 → (leb from (nextAt from) ≡ true) × (has c (nextAt from) ≡ true)
+  mark from h = and-eq-true-iff (leb from (nextAt from)) (has c (nextAt from)) .0 (found from .here h)
+
+  pub not-before : (from : ℕ) → from ≤ 256 → from ≤ nextAt from
+  not-before from l = at (eq-or-lt-of-le (found from .within))
     where
-      found : Least 256 (λ k. leb from k && has c k) (nextAt from)
-      found = least-is 256 (λ k. leb from k && has c k)
+      at : (nextAt from ≡ 256) ⊎ (nextAt from < 256) → from ≤ nextAt from
+      at (inl e) = omega arith
+      at (inr h) = leb-true from (nextAt from) (mark from h .0)
 
-      mark : nextAt from < 256 → (leb from (nextAt from) ≡ true) × (has c (nextAt from) ≡ true)
-      mark h = and-eq-true-iff (leb from (nextAt from)) (has c (nextAt from)) .0 (found .here h)
-
-      walk : from ≤ nextAt from → Walk (count from (has c)) (nextAt from)
-      walk le = record {
-        within = found .within;
-        marked = λ h. mark h .1;
-        place = count-skip from (nextAt from) (has c) le (none-between from);
-      }
-
-      at : (nextAt from ≡ 256) ⊎ (nextAt from < 256) → Walk (count from (has c)) (nextAt from)
-      at (inl e) = walk (omega arith)
-      at (inr h) = walk (leb-true from (nextAt from) (mark h .0))
+  arrived : (from : ℕ) → from ≤ 256 → Walk (count from (has c)) (nextAt from)
+  arrived from l = record {
+    within = found from .within;
+    marked = λ h. mark from h .1;
+    place = count-skip from (nextAt from) (has c) (not-before from l) (none-between from);
+  }
 
   pub walk-start : (i : ℕ) → i ≡ nextAt 0 → Walk 0 i
   walk-start i e = subst₂ Walk (count-zero (has c)) (sym e) (arrived 0 zero-le)
@@ -63,6 +63,9 @@ module _ (c : Columns) where
     walk-next j h e =
         subst₂ Walk (ap (λ (k : ℕ). count k (has c)) (add-one i) ∙ count-pass i (has c) (w .marked h) ∙ ap suc (w .place) ∙ sym (add-one d))
         (sym e) (arrived (i + 1) (omega arith))
+
+    pub walk-rises : (j : ℕ) → i < 256 → j ≡ nextAt (i + 1) → i < j
+    walk-rises j h e = let l = not-before (i + 1) (omega arith) in omega arith
 
     pub walk-member : i < 256 → (d < length (members c)) × (getD (members c) d 0 ≡ i)
     walk-member h = (

@@ -36,12 +36,12 @@ unfolding locatorPolynomial reduced
 length-locatorPolynomial [] = refl
 length-locatorPolynomial (i ∷ is) = length-tabulate (suc (length (locatorPolynomial is))) _ ∙ ap suc (length-locatorPolynomial is)
 
--- coefficient k of f times 1 − x·z, where k is not past the degree
-factor-entry : (i : ℕ) (f : List ℕ) (k : ℕ) → k < suc (length f)
-    → symbols (reduced 257 (length f) f (locatorOf i) 1 f) k ≡ factor R257 (locatorAt i) (symbols f) k
+-- coefficient k of f times 1 − x·z, where k is at most l
+pub factor-entry : (i l : ℕ) (f : List ℕ) (k : ℕ) → k < suc l
+    → symbols (reduced 257 l f (locatorOf i) 1 f) k ≡ factor R257 (locatorAt i) (symbols f) k
 unfolding reduced shifted factor
-factor-entry i f k h =
-    ap res257 (getD-tabulate (suc (length f)) (λ k. minus 257 (getD f k 0) (times 257 (locatorOf i) (shifted 1 f k))) k 0 h)
+factor-entry i l f k h =
+    ap res257 (getD-tabulate (suc l) (λ k. minus 257 (getD f k 0) (times 257 (locatorOf i) (shifted 1 f k))) k 0 h)
     ∙ res-minus 257 prime-257 (getD f k 0) (times 257 (locatorOf i) (shifted 1 f k)) (le-of-lt (mod-lt (locatorOf i * shifted 1 f k) (lit< tt)))
     ∙ ap (λ x. symbols f k ⊕ neg x) (res-times 257 prime-257 (locatorOf i) (shifted 1 f k) ∙ ap (λ x. x ⊗ res257 (shifted 1 f k)) (res-locator i))
     ∙ of-place k
@@ -65,7 +65,7 @@ locator-coefficients (i ∷ is) k = pick (fun-ext (locator-coefficients is)) (de
 
     pick : symbols f ≡ locator R257 (map locatorAt is) → Dec (k < suc (length f))
         → symbols (locatorPolynomial (i ∷ is)) k ≡ locator R257 (map locatorAt (i ∷ is)) k
-    pick ih (yes h) = factor-entry i f k h ∙ ap (λ g. factor R257 (locatorAt i) g k) ih
+    pick ih (yes h) = factor-entry i (length f) f k h ∙ ap (λ g. factor R257 (locatorAt i) g k) ih
     pick ih (no past) =
         ap res257 (List·getD-eq-default (locatorPolynomial (i ∷ is)) 0 {n = k} (let e = length-locatorPolynomial (i ∷ is) in let q = length-locatorPolynomial is in omega arith))
         ∙ res-zero 257 prime-257

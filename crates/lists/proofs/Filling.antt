@@ -66,6 +66,12 @@ module _ (f : ℕ → ℕ) (from : List ℕ) where
       same k q (yes h) = lt-ltb k j h ∙ sym (lt-ltb k (j + 1) (omega arith))
       same k q (no h) = le-ltb k j (omega arith) ∙ sym (le-ltb k (j + 1) (omega arith))
 
+  -- what filling has not come to is as it was
+  pub filled-rest : (j : ℕ) (l : List ℕ) → Filled f from j l → (k : ℕ) → j ≤ k → k < length from → getD l k 0 ≡ getD from k 0
+  filled-rest j l a k le less =
+      ap (λ (m : List ℕ). getD m k 0) (a .entries) ∙ getD-tabulate (length from) (λ k. chosen k (ltb k j)) k 0 less
+      ∙ ap (chosen k) (le-ltb k j le)
+
   pub filled-all : (j : ℕ) (l : List ℕ) → Filled f from j l → length l ≤ j → l ≡ tabulate (length from) f
   filled-all j l a le =
       a .entries

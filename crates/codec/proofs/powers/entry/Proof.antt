@@ -20,7 +20,7 @@ wide-requires c κs = search needs
 returns : tie.Need-returns
 returns c =
     let start = c .before .before in
-    c .wide .ensures ∙ ap (λ (l : List ℕ). getD l (start .args .e) 0) (start .pre .0) ∙ table-power (start .args .e) (start .pre .1)
+    c .wide .ensures .0 ∙ ap (λ (l : List ℕ). getD l (start .args .e) 0) (start .pre .0) ∙ table-power (start .args .e) (start .pre .1)
 
 pub entry-spec : {M : Type 1} → statement M
 entry-spec = tie.close (tie.spec mul-wide element-copy-out-wide wide-requires returns)

@@ -1,0 +1,102 @@
+-- The locator polynomial of a set, built by one factor for each member in rising order, in a list of 65 coefficients. Assumes nothing.
+use mathlib.Core.Path.{_≡_, refl, sym, ap, fun-ext, _∙_}
+use mathlib.Core.List.{List, [], _∷_, _++_, map}
+use Prim.Native.Nat.{ℕ, zero, suc, _+_, _≤_, _<_}
+use native.Mathlib.Nat.{mod-lt}
+use native.Mathlib.Decide.{decLt}
+use native.Mathlib.Numerals.{add-one}
+use native.Mathlib.Omega.{arith}
+use lib.Dec.{lit<}
+use lib.ListN.{length, getD, take, replicate, length-map, length-take, List·getD-eq-default}
+use lib.Seq.{length-take-le, take-all, take-suc}
+use Rattle.algebra.specs.Locator.{factor, locator, unit}
+use Rattle.algebra.proofs.LocatorLaws.{locator-degree}
+use Rattle.columns.specs.Columns.{members}
+use Rattle.columns.specs.declared.Columns.{Columns}
+use Rattle.field.specs.Coefficients.{reduced}
+use Rattle.field.proofs.Bridge.{res-zero, res-one}
+use Rattle.field.proofs.Prime257.{prime-257}
+use Rattle.lists.proofs.Tabulated.{length-tabulate, getD-tabulate}
+use Rattle.frame.specs.Completion.{locatorPolynomial}
+use Rattle.frame.specs.Powers.{locatorOf}
+use Rattle.frame.proofs.CheckSums.{symbols}
+use Rattle.frame.proofs.Field257.{R257, res257, res-tells}
+use Rattle.frame.proofs.LocatorPolynomial.{factor-entry, locator-coefficients}
+use Rattle.frame.proofs.Locators.{locatorAt}
+use Rattle.codec.proofs.LocatorOrder.{locator-last}
+
+length-reduced : (l : ℕ) (f : List ℕ) (x : ℕ) → length (reduced 257 l f x 1 f) ≡ suc l
+unfolding reduced
+length-reduced l f x = length-tabulate (suc l) _
+
+-- past the end, and where it is reduced, an entry is below 257
+reduced-below : (l : ℕ) (f : List ℕ) (x k : ℕ) → getD (reduced 257 l f x 1 f) k 0 < 257
+unfolding reduced
+reduced-below l f x k = pick (decLt k (suc l))
+  where
+    pick : Dec (k < suc l) → getD (reduced 257 l f x 1 f) k 0 < 257
+    pick (yes h) = rw (getD-tabulate {A = ℕ} (suc l) _ k 0 h) (mod-lt _ (lit< tt))
+    pick (no h) = rw (List·getD-eq-default (reduced 257 l f x 1 f) 0 {n = k} (let e = length-reduced l f x in omega arith)) (lit< tt)
+
+pub polynomial-below : (is : List ℕ) (k : ℕ) → getD (locatorPolynomial is) k 0 < 257
+unfolding locatorPolynomial
+polynomial-below [] zero = lit< tt
+polynomial-below [] (suc k) = lit< tt
+polynomial-below (i ∷ is) k = reduced-below _ (locatorPolynomial is) (locatorOf i) k
+
+zeros : (n k : ℕ) → getD {A = ℕ} (replicate n 0) k 0 ≡ 0
+zeros zero k = refl
+zeros (suc n) zero = refl
+zeros (suc n) (suc k) = zeros n k
+
+module _ (J : Columns) where
+  -- the polynomial of the first d members
+  abbrev firsts : ℕ → ℕ → R257 .car
+  firsts d = locator R257 (map locatorAt (take d (members J)))
+
+  pub record Building (d : ℕ) (f : List ℕ) : Type 0 where
+    pub size : length f ≡ 65
+    pub small : (k : ℕ) → getD f k 0 < 257
+    pub coefficients : (k : ℕ) → symbols f k ≡ firsts d k
+
+  pub building-none : Building 0 (1 ∷ replicate 64 0)
+  unfolding locator unit
+  building-none = record { size = refl; small = small; coefficients = entries }
+    where
+      small : (k : ℕ) → getD (1 ∷ replicate 64 0) k 0 < 257
+      small zero = lit< tt
+      small (suc k) = rw (zeros 64 k) (lit< tt)
+
+      entries : (k : ℕ) → symbols (1 ∷ replicate 64 0) k ≡ firsts 0 k
+      entries zero = res-one 257 prime-257
+      entries (suc k) = ap res257 (zeros 64 k) ∙ res-zero 257 prime-257
+
+  module _ (d : ℕ) (f : List ℕ) (b : Building d f) where
+    pub building-more : (i : ℕ) (g : List ℕ) → length (members J) ≤ 64 → d < length (members J) → getD (members J) d 0 ≡ i
+        → g ≡ reduced 257 64 f (locatorOf i) 1 f → Building (d + 1) g
+    building-more i g le h e q = record {
+      size = ap length q ∙ length-reduced 64 f (locatorOf i);
+      small = λ k. rw q (reduced-below 64 f (locatorOf i) k);
+      coefficients = λ k. ap (λ (l : List ℕ). symbols l k) q ∙ at k (decLt k 65);
+    }
+      where
+        one-more : firsts (d + 1) ≡ factor R257 (locatorAt i) (firsts d)
+        one-more =
+            ap (λ (l : List ℕ). locator R257 (map locatorAt l))
+            (ap (λ (n : ℕ). take n (members J)) (add-one d) ∙ take-suc (members J) d 0 h ∙ ap (λ (m : ℕ). take d (members J) ++ (m ∷ [])) e)
+            ∙ locator-last R257 locatorAt (take d (members J)) i
+
+        at : (k : ℕ) → Dec (k < 65) → symbols (reduced 257 64 f (locatorOf i) 1 f) k ≡ firsts (d + 1) k
+        at k (yes l) =
+            factor-entry i 64 f k l ∙ ap (λ g. factor R257 (locatorAt i) g k) (fun-ext (b .coefficients)) ∙ ap (λ g. g k) (sym one-more)
+        at k (no l) =
+            ap res257 (List·getD-eq-default (reduced 257 64 f (locatorOf i) 1 f) 0 {n = k} (let s = length-reduced 64 f (locatorOf i) in omega arith))
+            ∙ res-zero 257 prime-257
+            ∙ sym (locator-degree R257 (map locatorAt (take (d + 1) (members J))) k
+            (let s = length-map (take (d + 1) (members J)) locatorAt in let t = length-take-le (d + 1) (members J) (omega arith) in omega arith))
+
+    pub building-all : d ≡ length (members J) → (k : ℕ) → getD f k 0 ≡ getD (locatorPolynomial (members J)) k 0
+    building-all e k =
+        res-tells (getD f k 0) (getD (locatorPolynomial (members J)) k 0) (b .small k) (polynomial-below (members J) k)
+        (b .coefficients k ∙ ap (λ (l : List ℕ). locator R257 (map locatorAt l) k) (take-all d (members J) (omega arith))
+        ∙ sym (locator-coefficients (members J) k))

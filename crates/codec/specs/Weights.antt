@@ -1,0 +1,34 @@
+-- The coefficients with which the symbols at a set of columns are read off the check sums of the cleared row. They depend on the set alone, so that
+-- rows completed at the same set share them.
+use mathlib.Core.Bool.{cond}
+use mathlib.Core.List.{List}
+use Prim.Native.Nat.{ℕ, zero, suc, _+_, _*_, _/_, _%_}
+use lib.Dec.{ltb}
+use lib.ListN.{length, getD}
+use Rattle.columns.specs.Columns.{members}
+use Rattle.columns.specs.declared.Columns.{Columns}
+use Rattle.field.specs.Coefficients.{value}
+use Rattle.field.specs.Residue.{minus, times, inverse}
+use Rattle.frame.specs.Completion.{locatorPolynomial, without}
+use Rattle.frame.specs.Powers.{locatorOf, weight}
+use Rattle.lists.specs.Tabulate.{tabulate}
+
+-- Synthetic division of f by 1 − x·z: what is carried to coefficient k is coefficient k − 1 of the quotient.
+unfoldable pub carried : (f : List ℕ) (x k : ℕ) → ℕ
+carried f x zero = 0
+carried f x (suc k) = (getD f k 0 + x * carried f x k) % 257
+
+-- Coefficient k of column i in a set of m columns, given the locator polynomial λ of the others: −λ_k / (weight of i in S_m · λ(1 / X_i)). The symbol
+-- at i is the sum of coefficient k times S_(m − k) over k below m.
+unfoldable pub readOff : (m i : ℕ) (others : List ℕ) (k : ℕ) → ℕ
+readOff m i others k =
+    let scale : ℕ = times 257 (weight i m % 257) (value 257 others (inverse 257 (locatorOf i))) in
+    times 257 (getD others k 0) (minus 257 0 (inverse 257 scale))
+
+unfoldable pub coefficient : (J : Columns) (i k : ℕ) → ℕ
+coefficient J i k = readOff (length (members J)) i (locatorPolynomial (without i (members J))) k
+
+-- the coefficients of all columns of a set of up to 64: 64 entries for each column, rising, and zeros after them
+unfoldable pub weightsOf : Columns → List ℕ
+weightsOf J =
+    tabulate 4096 (λ t. cond (ltb (t / 64) (length (members J))) (coefficient J (getD (members J) (t / 64) 0) (t % 64)) 0)
