@@ -3,40 +3,14 @@
 use mathlib.Core.Path.{_≡_}
 use mathlib.Core.List.{List, [], _∷_}
 use Prim.Native.Nat.{ℕ}
-use Rattle.decoding.specs.Locating.{sizeOf, tapsOf, namedColumns, repaired}
-use Rattle.frame.specs.Encode.{encoded, encodeTests}
-use Rattle.frame.specs.Frame.{heldSums, frameTests}
-use Rattle.frame.specs.Shape.{shapeOf, shapeTests}
-use Rattle.frame.specs.declared.Shape.{Shape}
+use Rattle.frame.specs.Encode.{encodeTests}
+use Rattle.frame.specs.Frame.{frameTests}
+use Rattle.frame.specs.Shape.{shapeTests}
 use Rattle.refusal.specs.Order.{Test}
 use Rattle.refusal.proofs.Orders.{Among, Pass, by-tests, pass-otherwise}
-use Rattle.job.specs.Calls.{shape, encode, locate, repair, Outcome, done, columns, refusing, step, shapeCall, encodeCall, locateCall, repairCall, emptyTest, registerTests, repairTests}
-use Rattle.job.specs.Job.{noColumns, shapedJob, locatedJob, lengthOf}
+use Rattle.job.specs.Calls.{shapes, encodes, locates, repairs, shape, encode, locate, repair, Outcome, refusing, step, shapeCall, encodeCall, locateCall, repairCall, emptyTest, registerTests, repairTests}
+use Rattle.job.specs.Job.{shapedJob}
 use Rattle.job.specs.declared.Job.{Job}
-
--- what the calls give that are not refused
-
-abbrev pub shapes : (n : ℕ) (checks : List ℕ) → Outcome
-shapes n checks = record { answer = done; marks = noColumns; job = shapedJob (shapeOf n checks); frame = [] }
-
-abbrev pub encodes : Job → (f : List ℕ) → Outcome
-encodes j f = record { answer = done; marks = noColumns; job = j; frame = encoded (j .shape) f }
-
--- the job that is located by a frame
-abbrev pub locatedBy : Shape → (f : List ℕ) → Job
-locatedBy s f = locatedJob s (sizeOf s f) (heldSums s f) (tapsOf s f) (namedColumns s (tapsOf s f))
-
-abbrev pub locates : Shape → (f : List ℕ) → Outcome
-locates s f = record { answer = columns (sizeOf s f); marks = namedColumns s (tapsOf s f); job = locatedBy s f; frame = f }
-
-abbrev pub repairs : Job → (f : List ℕ) → Outcome
-repairs j f =
-    record {
-      answer = columns (lengthOf (j .phase));
-      marks = j .findings .columns;
-      job = shapedJob (j .shape);
-      frame = repaired (j .shape) (j .findings .columns) f;
-    }
 
 -- the tests that come before those of the register
 abbrev pub earlyTests : Job → (f : List ℕ) → List Test

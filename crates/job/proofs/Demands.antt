@@ -2,48 +2,50 @@
 -- Assumes nothing.
 use mathlib.Core.Path.{_≡_, refl, sym, ap, subst, _∙_}
 use mathlib.Core.Logic.{_↔_}
-use mathlib.Core.Bool.{true}
+use mathlib.Core.Bool.{true, false}
 use mathlib.Core.List.{List, [], _∷_, _++_}
 use mathlib.Core.Option.{some}
 use Prim.Native.Nat.{ℕ, _≤_, _<_}
+use Rattle.decoding.specs.Locating.{sizeOf}
 use Rattle.decoding.proofs.Recovery.{recovers-half}
 use Rattle.frame.specs.Frame.{WellFormed, sequences}
 use Rattle.frame.specs.Shape.{isShape, checksOf}
 use Rattle.frame.specs.declared.Shape.{Shape}
-use Rattle.refusal.proofs.Orders.{Pass}
 use Rattle.register.specs.Register.{Shortest, Alone}
-use Rattle.job.specs.Calls.{Call, locate, repair, columns, Outcome, step, repairTests}
-use Rattle.job.specs.Demands.{run, runFrom, lastShape, Between, Mended, IsRefused, RepairMends, LocateExact, DamageMended, Demand3}
-use Rattle.job.specs.Job.{emptyJob, locatedJob, lengthOf}
+use Rattle.job.specs.Calls.{Call, locate, repair, columns, Outcome, step, repairTests, locatedBy, locates, repairs}
+use Rattle.job.specs.Demands.{run, runFrom, lastShape, Between, Mended, IsRefused, Found, LocateExact, DamageMended, Demand3}
+use Rattle.job.specs.Job.{emptyJob, locatedJob, isEmpty, lengthOf}
 use Rattle.job.specs.Refusals.{LegalAt}
 use Rattle.job.proofs.AfterRefusal.{never-columns}
 use Rattle.job.proofs.Between.{between-keeps}
-use Rattle.job.proofs.Cases.{locatedBy, locates, repairs, by-repair}
+use Rattle.job.proofs.Cases.{by-locate, by-repair}
 use Rattle.job.proofs.Forms.{Locates, has-shape, run-form, run-append}
-use Rattle.job.proofs.Locating.{locate-takes, exact-at}
+use Rattle.job.proofs.Locating.{locate-takes, exact-at, found}
 use Rattle.job.proofs.Repairing.{repair-mended, repair-takes}
 use Rattle.job.proofs.Soundness.{reached, holds-last-shape, not-empty-held, shape-held}
 
--- ---- a repair that is not refused
+-- ---- a locate or a repair that is not refused
 
-repair-mends : RepairMends
-unfolding repairTests
-repair-mends calls f = by-repair Mends (run calls) f (λ k a taken. absurd (taken (k, refl))) (λ p taken. passed p)
-  where
-    Mends : Outcome → Type 0
-    Mends o = (IsRefused o → ⊥) → (s : Shape) × (c : ℕ) × (lastShape calls ≡ some s) × (o .answer ≡ columns c) × Mended s f c o
+module _ (calls : List Call) (f : List ℕ) where
+  abbrev After : (Shape → ℕ → Outcome → Type 0) → Outcome → Type 0
+  After P o = (IsRefused o → ⊥) → (s : Shape) × (c : ℕ) × (lastShape calls ≡ some s) × (o .answer ≡ columns c) × P s c o
 
-    passed : Pass (repairTests (run calls) f)
-        → (s : Shape) × (c : ℕ) × (lastShape calls ≡ some s) × (repairs (run calls) f .answer ≡ columns c) × Mended s f c (repairs (run calls) f)
-    passed p = (
-      run calls .shape,
-      lengthOf (run calls .phase),
-      sym (holds-last-shape calls) ∙ not-empty-held (run calls) (p .0),
-      refl,
-      repair-mended (run calls) f (run-form calls) p,
-    )
+  last-shape : isEmpty (run calls) ≡ false → lastShape calls ≡ some (run calls .shape)
+  last-shape e = sym (holds-last-shape calls) ∙ not-empty-held (run calls) e
 
--- ---- a locate
+  mends : After (λ s c o. Mended s f c o) (step (run calls) (repair f))
+  unfolding repairTests
+  mends =
+      by-repair (After (λ s c o. Mended s f c o)) (run calls) f (λ k a taken. absurd (taken (k, refl)))
+      (λ p taken. (run calls .shape, lengthOf (run calls .phase), last-shape (p .0), refl, repair-mended (run calls) f (run-form calls) p))
+
+  finds : After (λ s c o. Found s f c o) (step (run calls) (locate f))
+  finds =
+      by-locate (After (λ s c o. Found s f c o)) (run calls) f (λ k a taken. absurd (taken (k, refl)))
+      (λ k p a taken. absurd (taken (k, refl)))
+      (λ (e, p) q taken. (run calls .shape, sizeOf (run calls .shape) f, last-shape e, refl, found (run calls) f e p q))
+
+-- ---- a locate of a frame whose register is alone
 
 locate-exact : LocateExact
 locate-exact calls s f c σ last =
@@ -91,4 +93,4 @@ damage-mended before between s f g last legal w half kept =
     }
 
 pub demand-3 : Demand3
-demand-3 = record { reached = reached; repair-mends = repair-mends; locate-exact = locate-exact; damage-mended = damage-mended }
+demand-3 = record { reached = reached; repair-mends = mends; locate-finds = finds; locate-exact = locate-exact; damage-mended = damage-mended }

@@ -11,13 +11,13 @@ use Rattle.frame.specs.Shape.{isShape, shapeOf}
 use Rattle.frame.specs.declared.Shape.{Shape}
 use Rattle.frame.proofs.Reasons.{shape-passes, frame-passes}
 use Rattle.refusal.proofs.Orders.{Pass, no-fail}
-use Rattle.job.specs.Calls.{Call, shape, encode, locate, repair, Outcome, step, registerTests, repairTests}
+use Rattle.job.specs.Calls.{Call, shape, encode, locate, repair, Outcome, step, registerTests, repairTests, locatedBy}
 use Rattle.job.specs.Demands.{run, runFrom}
 use Rattle.job.specs.Job.{emptyJob, shapedJob, sound, phaseSound, findingsSound, isEmpty, isEmptyPhase}
 use Rattle.job.specs.declared.Job.{Job}
 use Rattle.job.specs.declared.Phase.{Phase}
 use Rattle.job.specs.declared.Phase.the-variants.{Empty, Shaped, Located}
-use Rattle.job.proofs.Cases.{locatedBy, by-shape, by-encode, by-locate, by-repair}
+use Rattle.job.proofs.Cases.{by-shape, by-encode, by-locate, by-repair}
 
 -- a frame that locate takes
 pub record Locates (s : Shape) (f : List ℕ) : Type 0 where
@@ -41,7 +41,7 @@ has-shape j e = of-phase (j .phase) e
     of-phase Shaped e = no-fail _ e
     of-phase (Located c a) e = and-eq-true-iff (isShape (j .shape)) (findingsSound (j .shape) (j .findings) c a) .0 (no-fail _ e) .0
 
-register-passes : (j : Job) (f : List ℕ) → WellFormed (j .shape) f → Pass (registerTests j f) → Locates (j .shape) f
+pub register-passes : (j : Job) (f : List ℕ) → WellFormed (j .shape) f → Pass (registerTests j f) → Locates (j .shape) f
 unfolding registerTests
 register-passes j f w (a, (r, (n, u))) = record { well-formed = w; alone = no-fail _ a; reach = no-fail _ r; names = no-fail _ n }
 

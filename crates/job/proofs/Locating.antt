@@ -8,23 +8,24 @@ use mathlib.Core.Logic.{_↔_}
 use Prim.Native.Nat.{ℕ, _≤_, _<_}
 use native.Mathlib.Omega.{arith}
 use borrow.Author.Tests.{le-leb}
-use Rattle.decoding.specs.Locating.{sizeOf, tapsOf, aloneOf, rowsReach, namesAll}
-use Rattle.decoding.proofs.FrameRegister.{same-size, alone-marked}
-use Rattle.decoding.proofs.SoleNearest.{legal-at-size}
-use Rattle.frame.specs.Frame.{WellFormed, sequences}
-use Rattle.frame.proofs.Reasons.{well-formed-passes}
+use Rattle.decoding.specs.Locating.{sizeOf, tapsOf, aloneOf, rowsReach, namesAll, namedColumns, repaired}
+use Rattle.decoding.proofs.FrameRegister.{register-of-frame, same-size, alone-marked}
+use Rattle.decoding.proofs.SoleNearest.{legal-at-size, mended-legal, mended-distance, mended-differing}
+use Rattle.frame.specs.Frame.{WellFormed, sequences, frameTests}
+use Rattle.frame.proofs.Reasons.{frame-passes, well-formed-passes}
 use Rattle.frame.specs.Shape.{isShape, checksOf}
 use Rattle.frame.specs.declared.Shape.{Shape}
 use Rattle.lists.proofs.Tabulated.{every-of}
-use Rattle.refusal.proofs.Orders.{pass-otherwise}
+use Rattle.refusal.proofs.Orders.{Pass, pass-otherwise}
 use Rattle.register.specs.Register.{Shortest, Alone}
-use Rattle.job.specs.Calls.{locate, refused, refusing, step, locateCall, registerTests}
-use Rattle.job.specs.Job.{isEmpty}
+use Rattle.job.specs.Calls.{locate, refused, refusing, step, locateCall, registerTests, locates}
+use Rattle.job.specs.Job.{locatedJob, isEmpty}
 use Rattle.job.specs.declared.Job.{Job}
-use Rattle.job.specs.Demands.{IsRefused}
+use Rattle.job.specs.Demands.{IsRefused, Found}
 use Rattle.job.specs.Refusals.{LegalAt}
-use Rattle.job.proofs.Cases.{locates, earlyTests, locate-passes}
-use Rattle.job.proofs.Forms.{Locates, has-shape}
+use Rattle.job.proofs.Cases.{earlyTests, locate-passes}
+use Rattle.job.proofs.Forms.{Locates, has-shape, register-passes}
+use Rattle.job.proofs.Soundness.{marked-number}
 use Rattle.job.proofs.AfterRefusal.{never-columns}
 
 module _ (j : Job) (f : List ℕ) (not-empty : isEmpty j ≡ false) where
@@ -69,3 +70,22 @@ module _ (j : Job) (f : List ℕ) (not-empty : isEmpty j ≡ false) where
       subst (λ (l : ℕ). IsRefused (step j (locate f)) ↔ (LegalAt s f l → ⊥)) (sym q)
       (exact-at-size w (alone-marked s f t c σ shortest alone)
       (every-of (s .rows) _ (λ h l. le-leb (sizeOf s f) (checksOf s h) (omega (arith, checks h l)))))
+
+  -- what is found
+  pub found : Pass (frameTests s f) → Pass (registerTests j f) → Found s f (sizeOf s f) (locates s f)
+  unfolding locatedJob
+  found early late =
+      let l : Locates s f = register-passes j f (frame-passes s f early) late in
+      let r = register-of-frame s f t in
+      record {
+        register = (tapsOf s f, r .shortest, r .alone (l .alone));
+        legal-at = (
+          repaired s (namedColumns s (tapsOf s f)) f,
+          mended-legal s t f (l .well-formed) (l .names),
+          mended-distance s t f (l .well-formed) (l .names),
+          sym (mended-differing s t f (l .well-formed) (l .names)),
+        );
+        number = marked-number s f t l;
+        frame = refl;
+        phase = refl;
+      }

@@ -14,11 +14,11 @@ use Rattle.frame.specs.declared.Shape.{Shape}
 use Rattle.frame.proofs.Reasons.{shape-says, encode-says, frame-says, frame-passes}
 use Rattle.refusal.specs.Order.{First, firstOf}
 use Rattle.refusal.proofs.Orders.{Says, fails-not, none-pass, no-fail, gives-next, gives-first}
-use Rattle.job.specs.Calls.{Call, shape, encode, locate, repair, refused, Outcome, refusing, step, shapeCall, encodeCall, locateCall, repairCall, emptyTest, registerTests, repairTests}
+use Rattle.job.specs.Calls.{Call, shape, encode, locate, repair, refused, Outcome, refusing, step, shapeCall, encodeCall, locateCall, repairCall, emptyTest, registerTests, repairTests, shapes, encodes, locates, repairs}
 use Rattle.job.specs.Job.{shapedJob}
 use Rattle.job.specs.Refusals.{emptyReason, notAloneReason, shortRowReason, noFrameReason, registerReasons, reasons, Demand1}
 use Rattle.job.specs.declared.Job.{Job}
-use Rattle.job.proofs.Cases.{shapes, encodes, locates, repairs, earlyTests}
+use Rattle.job.proofs.Cases.{earlyTests}
 use Rattle.job.proofs.Forms.{has-shape}
 use Rattle.job.proofs.AfterRefusal.{same-number, never-done, never-columns, left}
 use Rattle.job.proofs.Reasons.{empty-says, repair-says, not-alone-says, short-row-says, no-frame-says}

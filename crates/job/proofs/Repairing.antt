@@ -19,11 +19,11 @@ use Rattle.lists.proofs.Tabulated.{every-at, every-of}
 use Rattle.refusal.proofs.Orders.{Pass, no-fail}
 use Rattle.register.specs.Algorithm4.{found, foundAlone}
 use Rattle.register.specs.Sequences.{longest}
-use Rattle.job.specs.Calls.{repair, step, repairTests, sameSums}
+use Rattle.job.specs.Calls.{repair, step, repairTests, sameSums, locatedBy, repairs}
 use Rattle.job.specs.Demands.{Mended}
 use Rattle.job.specs.Job.{emptyJob, shapedJob, locatedJob, isEmpty, lengthOf}
 use Rattle.job.specs.declared.Job.{Job}
-use Rattle.job.proofs.Cases.{locatedBy, repairs, repair-passes}
+use Rattle.job.proofs.Cases.{repair-passes}
 use Rattle.job.proofs.Forms.{Locates, Form, empty, shaped, located}
 use Rattle.job.proofs.Soundness.{form-sound}
 

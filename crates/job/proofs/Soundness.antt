@@ -7,8 +7,9 @@ use mathlib.Core.Option.{Option, some}
 use Prim.Native.Nat.{ℕ, _<_}
 use native.Mathlib.Omega.{arith}
 use lib.Dec.{ltb}
+use lib.ListN.{length}
 use borrow.Author.Tests.{lt-ltb, eq-eqb}
-use Rattle.columns.specs.Columns.{has}
+use Rattle.columns.specs.Columns.{has, members}
 use Rattle.decoding.specs.Locating.{sizeOf, tapsOf, named, namedColumns}
 use Rattle.decoding.proofs.NamedColumns.{has-named, size-named}
 use Rattle.decoding.proofs.SoleNearest.{names-count}
@@ -18,13 +19,13 @@ use Rattle.frame.proofs.HeldSums.{held-below}
 use Rattle.lists.proofs.Tabulated.{every-of}
 use Rattle.refusal.specs.Order.{firstOf}
 use Rattle.refusal.proofs.Orders.{firstOf-map}
-use Rattle.job.specs.Calls.{Call, shape, encode, locate, repair, Outcome, refusing, step, shapeCall, repairTests}
+use Rattle.job.specs.Calls.{Call, shape, encode, locate, repair, Outcome, refusing, step, shapeCall, repairTests, shapes, locatedBy}
 use Rattle.job.specs.Demands.{run, runFrom, lastShape, lastShapeFrom, heldShape, Reached}
 use Rattle.job.specs.Job.{emptyJob, shapedJob, locatedJob, nothing, sound, phaseSound, findingsSound, isEmpty, isEmptyPhase, isLocatedPhase}
 use Rattle.job.specs.declared.Job.{Job}
 use Rattle.job.specs.declared.Phase.{Phase}
 use Rattle.job.specs.declared.Phase.the-variants.{Empty, Shaped, Located}
-use Rattle.job.proofs.Cases.{shapes, locatedBy, by-encode, by-locate, by-repair}
+use Rattle.job.proofs.Cases.{by-encode, by-locate, by-repair}
 use Rattle.job.proofs.Forms.{Locates, Form, empty, shaped, located, run-form}
 
 -- ---- the shape
@@ -95,12 +96,16 @@ marked-inside s σ i h = rw (has-named s σ i h) (inside (ltb i (s .columns)) _)
     inside true b = or-true (not b)
     inside false b = refl
 
+-- as many columns are marked as the register is long
+pub marked-number : (s : Shape) (f : List ℕ) → isShape s ≡ true → Locates s f → length (members (namedColumns s (tapsOf s f))) ≡ sizeOf s f
+marked-number s f t l = size-named s (tapsOf s f) t ∙ names-count s t f (l .well-formed) (l .names)
+
 located-sound : (s : Shape) (f : List ℕ) → isShape s ≡ true → Locates s f
     → findingsSound s (locatedBy s f .findings) (sizeOf s f) true ≡ true
 unfolding findingsSound locatedJob
 located-sound s f t l =
     ap₂ _&&_ (every-of 256 _ (marked-inside s (tapsOf s f)))
-    (ap₂ _&&_ (eq-eqb _ _ (size-named s (tapsOf s f) t ∙ names-count s t f (l .well-formed) (l .names)))
+    (ap₂ _&&_ (eq-eqb _ _ (marked-number s f t l))
     (ap₂ _&&_ (l .reach) (every-of 512 _ (λ k h. lt-ltb _ 257 (held-below s f k)))))
 
 pub form-sound : (j : Job) → Form j → sound j ≡ true

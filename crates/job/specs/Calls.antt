@@ -9,6 +9,7 @@ use Rattle.decoding.specs.Locating.{sizeOf, tapsOf, aloneOf, rowsReach, namesAl
 use Rattle.frame.specs.Encode.{encoded, encodeTests}
 use Rattle.frame.specs.Frame.{heldSums, frameTests}
 use Rattle.frame.specs.Shape.{shapeOf, shapeTests}
+use Rattle.frame.specs.declared.Shape.{Shape}
 use Rattle.lists.specs.Tabulate.{every}
 use Rattle.refusal.specs.Order.{Test, firstOf}
 use Rattle.job.specs.Job.{noColumns, shapedJob, locatedJob, isEmpty, isLocatedPhase, lengthOf}
@@ -38,19 +39,22 @@ pub record Outcome : Type 0 where
 abbrev pub refusing : Job → (f : List ℕ) (k : ℕ) → Outcome
 refusing j f k = record { answer = refused k; marks = noColumns; job = j; frame = f }
 
+-- what a shape call gives that is not refused
+abbrev pub shapes : (n : ℕ) (checks : List ℕ) → Outcome
+shapes n checks = record { answer = done; marks = noColumns; job = shapedJob (shapeOf n checks); frame = [] }
+
 unfoldable pub shapeCall : Job → (n : ℕ) (checks : List ℕ) → Outcome
-shapeCall j n checks =
-    firstOf (refusing j []) (shapeTests n checks)
-    (record { answer = done; marks = noColumns; job = shapedJob (shapeOf n checks); frame = [] })
+shapeCall j n checks = firstOf (refusing j []) (shapeTests n checks) (shapes n checks)
 
 -- refusal 21, which stands first in the orders of the other calls
 abbrev pub emptyTest : Job → Test
 emptyTest j = record { number = 21; fails = isEmpty j }
 
+abbrev pub encodes : Job → (f : List ℕ) → Outcome
+encodes j f = record { answer = done; marks = noColumns; job = j; frame = encoded (j .shape) f }
+
 unfoldable pub encodeCall : Job → (f : List ℕ) → Outcome
-encodeCall j f =
-    firstOf (refusing j f) (emptyTest j ∷ encodeTests (j .shape) f)
-    (record { answer = done; marks = noColumns; job = j; frame = encoded (j .shape) f })
+encodeCall j f = firstOf (refusing j f) (emptyTest j ∷ encodeTests (j .shape) f) (encodes j f)
 
 -- the refusals 24, 25, 26 of a well-formed frame
 unfoldable pub registerTests : Job → (f : List ℕ) → List Test
@@ -61,19 +65,20 @@ registerTests j f =
     record { number = 26; fails = not (namesAll s (tapsOf s f) (sizeOf s f)) } ∷
     []
 
+-- the job that is located by the frame f
+abbrev pub locatedBy : Shape → (f : List ℕ) → Job
+locatedBy s f = locatedJob s (sizeOf s f) (heldSums s f) (tapsOf s f) (namedColumns s (tapsOf s f))
+
+abbrev pub locates : Shape → (f : List ℕ) → Outcome
+locates s f =
+    record { answer = columns (sizeOf s f); marks = namedColumns s (tapsOf s f); job = locatedBy s f; frame = f }
+
 -- after 24, 25, 26 the job is shaped
 unfoldable pub locateCall : Job → (f : List ℕ) → Outcome
 locateCall j f =
     let s = j .shape in
-    let J : Columns = namedColumns s (tapsOf s f) in
     firstOf (refusing j f) (emptyTest j ∷ frameTests s f)
-    (firstOf (refusing (shapedJob s) f) (registerTests j f)
-    (record {
-      answer = columns (sizeOf s f);
-      marks = J;
-      job = locatedJob s (sizeOf s f) (heldSums s f) (tapsOf s f) J;
-      frame = f;
-    }))
+    (firstOf (refusing (shapedJob s) f) (registerTests j f) (locates s f))
 
 -- whether two lists of held sums are the same
 unfoldable pub sameSums : (a b : List ℕ) → Bool
@@ -85,12 +90,14 @@ repairTests j f =
     emptyTest j ∷ record { number = 22; fails = not (isLocatedPhase (j .phase)) } ∷
     (frameTests s f ++ (record { number = 23; fails = not (sameSums (heldSums s f) (j .findings .sums)) } ∷ []))
 
-unfoldable pub repairCall : Job → (f : List ℕ) → Outcome
-repairCall j f =
+abbrev pub repairs : Job → (f : List ℕ) → Outcome
+repairs j f =
     let s = j .shape in
     let J : Columns = j .findings .columns in
-    firstOf (refusing j f) (repairTests j f)
-    (record { answer = columns (lengthOf (j .phase)); marks = J; job = shapedJob s; frame = repaired s J f })
+    record { answer = columns (lengthOf (j .phase)); marks = J; job = shapedJob s; frame = repaired s J f }
+
+unfoldable pub repairCall : Job → (f : List ℕ) → Outcome
+repairCall j f = firstOf (refusing j f) (repairTests j f) (repairs j f)
 
 unfoldable pub step : Job → Call → Outcome
 step j (shape n checks) = shapeCall j n checks

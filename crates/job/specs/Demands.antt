@@ -5,6 +5,8 @@ use mathlib.Core.Bool.{true, false}
 use mathlib.Core.List.{List, [], _∷_, _++_}
 use mathlib.Core.Option.{Option, none, some}
 use Prim.Native.Nat.{ℕ, _*_, _≤_, _<_}
+use lib.ListN.{length}
+use Rattle.columns.specs.Columns.{members}
 use Rattle.frame.specs.Frame.{WellFormed, Legal, sequences, distance, differing}
 use Rattle.frame.specs.Shape.{checksOf, shapeOf, shapeTests}
 use Rattle.frame.specs.declared.Shape.{Shape}
@@ -66,6 +68,21 @@ RepairMends =
     (s : Shape) × (c : ℕ) × (lastShape calls ≡ some s) × (step (run calls) (repair f) .answer ≡ columns c) ×
     Mended s f c (step (run calls) (repair f))
 
+-- What c is of a locate that answers it: the length of the only shortest register; a legal frame lies at distance c, and the marked columns are those that this
+-- distance counts, c in number. The frame is only read, and the job is located.
+pub record Found (s : Shape) (f : List ℕ) (c : ℕ) (after : Outcome) : Type 0 where
+  pub register : (σ : List ℕ) × Shortest 257 c (sequences s f) σ × Alone 257 c (sequences s f) σ
+  pub legal-at : (g : List ℕ) × Legal s g × (distance s g f ≡ c) × (after .marks ≡ differing s g f)
+  pub number : length (members (after .marks)) ≡ c
+  pub frame : after .frame ≡ f
+  pub phase : after .job .phase ≡ Located c true
+
+abbrev pub LocateFinds : Type 0
+LocateFinds =
+    (calls : List Call) (f : List ℕ) → (IsRefused (step (run calls) (locate f)) → ⊥) →
+    (s : Shape) × (c : ℕ) × (lastShape calls ≡ some s) × (step (run calls) (locate f) .answer ≡ columns c) ×
+    Found s f c (step (run calls) (locate f))
+
 -- Demand 3, second part. Locating a well-formed frame whose shortest register, of length c, is alone, with no row having fewer checks than c, is
 -- refused exactly when no legal frame lies at distance c.
 abbrev pub LocateExact : Type 0
@@ -105,5 +122,6 @@ DamageMended =
 pub record Demand3 : Type 0 where
   pub reached : (calls : List Call) → Reached calls
   pub repair-mends : RepairMends
+  pub locate-finds : LocateFinds
   pub locate-exact : LocateExact
   pub damage-mended : DamageMended
