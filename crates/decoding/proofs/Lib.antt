@@ -6,5 +6,6 @@ pub mod NamedColumns
 pub mod Recovery
 pub mod Recurrence
 pub mod RepairedFrame
+pub mod SameSums
 pub mod SoleNearest
 pub mod Support
