@@ -1,7 +1,9 @@
 pub mod Blocks
 pub mod Change
+pub mod Checks
 pub mod Discrepancies
 pub mod Insertion
+pub mod Largest
 pub mod Reduction
 pub mod Sorting
 pub mod Steps

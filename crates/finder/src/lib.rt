@@ -1,4 +1,5 @@
 // The shortest register of up to eight sequences (document 01, "Registers").
+mod check;
 mod discrepancy;
 mod find;
 mod reduce;

@@ -1,6 +1,6 @@
 -- `discrepancy_at` computes the discrepancy. The invariant: the sum is that of the terms passed, each at most 65535². Assumes nothing.
-use mathlib.Core.Path.{_≡_, sym, ap₂, _∙_}
-use Prim.Native.Nat.{suc, _-_, _*_, _≤_, _<_}
+use mathlib.Core.Path.{_≡_, sym, ap, ap₂, _∙_}
+use Prim.Native.Nat.{ℕ, suc, _%_, _-_, _*_, _≤_, _<_}
 use native.Mathlib.Nat.{mod-lt}
 use native.Mathlib.Omega.{arith}
 use borrow.Author.Needs.{needs}
@@ -9,7 +9,7 @@ use Rattle.field.proofs.Totals.{total-zero}
 use Rattle.field.specs.Total.{total}
 use Rattle.register.specs.Register.{discrepancy}
 use Rattle.register.specs.Sequences.{symbol}
-use Rattle.finder.proofs.Discrepancies.{total-more, whole-total, product-below, back}
+use Rattle.finder.proofs.Discrepancies.{total-more, total-all, product-below, back}
 use Rattle.finder.proofs.discrepancy.discrepancy_at.Statement.{statement}
 use Rattle.finder.proofs.discrepancy.discrepancy_at.Tie as tie
 
@@ -76,7 +76,7 @@ cast-result c = omega (arith, mod-lt (c .before .loop .sum) (let e : 0 < c .befo
 
 returns : tie.Need-returns Inv-loop μ-loop
 unfolding discrepancy
-returns c = whole-total _ (c .before .before .before .args .p) (c .before .loop .inv .2) (omega arith)
+returns c = ap (λ (x : ℕ). x % c .before .before .before .args .p) (total-all _ (c .before .loop .inv .2) (omega arith))
 
 pub discrepancy-at-spec : {M : Type 1} → statement M
 discrepancy-at-spec =

@@ -1,0 +1,63 @@
+-- `check` answers the refusal of the first test that fails. Assumes nothing.
+use mathlib.Core.Path.{sym, _∙_}
+use borrow.Author.Needs.{needs}
+use borrow.Author.Tests.{not-false}
+use Rattle.finder.specs.Finder.{tests}
+use Rattle.finder.proofs.Checks.{counted-bounds, room-short, room-enough}
+use Rattle.finder.proofs.check.check.Statement.{statement}
+use Rattle.finder.proofs.check.check.Tie as tie
+
+is-modulus-requires : tie.Need-is-modulus-requires
+is-modulus-requires c κs = search needs
+
+returns : tie.Need-returns
+unfolding tests
+returns c = rw (← c .before .is-modulus .ensures, c .if1 .taken)
+
+counted-requires : tie.Need-counted-requires
+counted-requires c κs = search needs
+
+returns-2 : tie.Need-returns-2
+unfolding tests
+returns-2 c = rw (← c .before .before .before .is-modulus .ensures, c .before .before .if1 .left, ← c .before .counted .ensures, c .if2 .taken)
+
+measured-requires : tie.Need-measured-requires
+measured-requires c κs = counted-bounds _ (sym (c .before .counted .ensures) ∙ not-false _ (c .if2 .left)) .1
+
+returns-3 : tie.Need-returns-3
+unfolding tests
+returns-3 c = rw (← c .before .before .before .before .before .is-modulus .ensures, c .before .before .before .before .if1 .left, ← c .before .before .before .counted .ensures, c .before .before .if2 .left, ← c .before .measured .ensures, c .if3 .taken)
+
+longest-requires : tie.Need-longest-requires
+longest-requires c κs = search needs
+
+returns-4 : tie.Need-returns-4
+unfolding tests
+returns-4 c = rw (← c .before .before .before .before .before .before .before .is-modulus .ensures, c .before .before .before .before .before .before .if1 .left, ← c .before .before .before .before .before .counted .ensures, c .before .before .before .before .if2 .left, ← c .before .before .before .measured .ensures, c .before .before .if3 .left, ← c .before .longest .ensures, room-short (c .if4 .taken))
+
+below-requires : tie.Need-below-requires
+below-requires c κs = search needs
+
+returns-5 : tie.Need-returns-5
+unfolding tests
+returns-5 c = rw (← c .before .before .before .before .before .before .before .before .before .is-modulus .ensures, c .before .before .before .before .before .before .before .before .if1 .left, ← c .before .before .before .before .before .before .before .counted .ensures, c .before .before .before .before .before .before .if2 .left, ← c .before .before .before .before .before .measured .ensures, c .before .before .before .before .if3 .left, ← c .before .before .before .longest .ensures, room-enough (c .before .before .if4 .left), ← c .before .below .ensures, c .if5 .taken)
+
+returns-6 : tie.Need-returns-6
+unfolding tests
+returns-6 c = rw (← c .before .before .before .before .before .before .before .before .before .is-modulus .ensures, c .before .before .before .before .before .before .before .before .if1 .left, ← c .before .before .before .before .before .before .before .counted .ensures, c .before .before .before .before .before .before .if2 .left, ← c .before .before .before .before .before .measured .ensures, c .before .before .before .before .if3 .left, ← c .before .before .before .longest .ensures, room-enough (c .before .before .if4 .left), ← c .before .below .ensures, c .if5 .left)
+
+pub check-spec : {M : Type 1} → statement M
+check-spec =
+    tie.close
+    (tie.spec
+    is-modulus-requires
+    returns
+    counted-requires
+    returns-2
+    measured-requires
+    returns-3
+    longest-requires
+    returns-4
+    below-requires
+    returns-5
+    returns-6)

@@ -1,0 +1,108 @@
+// The tests of the input, in their order: refusals 1, 2, 3, 8 and 4.
+use refusal::Refusal;
+use refusal::Verdict;
+ghost use mathlib.Core.Path.{_≡_};
+ghost use mathlib.Core.Bool.{_&&_};
+ghost use Prim.Native.Nat.{_≤_};
+ghost use lib.Dec.{leb, ltb, eqb};
+ghost use lib.ListN.{length, getD};
+ghost use Rattle.field.specs.Total.{total};
+ghost use Rattle.lists.specs.Tabulate.{every};
+ghost use Rattle.refusal.specs.Outcome.{outcomeOf, outcome};
+ghost use Rattle.register.specs.Sequences.{largest};
+ghost use Rattle.finder.specs.Finder.{tests};
+
+fn counted(n: usize) -> bool
+    ensures { λ r. ⌜ r ≡ (leb 1 n && leb n 8) ⌝ }
+{
+    if n < 1 {
+        return false;
+    }
+    n <= 8
+}
+
+fn short(lengths: &[u16]) -> bool
+    ensures { λ r. ⌜ r ≡ every (length (now (lengths .entry))) (λ h. leb (getD (now (lengths .entry)) h 0) 128) ⌝ }
+{
+    let mut h = 0;
+    while h < lengths.len() {
+        if lengths[h] > 128 {
+            return false;
+        }
+        h += 1;
+    }
+    true
+}
+
+fn sum(lengths: &[u16]) -> usize
+    requires { ⌜ length (now lengths) ≤ 8 ⌝ }
+    ensures { λ r. ⌜ r ≡ total (length (now (lengths .entry))) (λ h. getD (now (lengths .entry)) h 0) ⌝ }
+{
+    let mut all = 0;
+    let mut h = 0;
+    while h < lengths.len() {
+        all += lengths[h] as usize;
+        h += 1;
+    }
+    all
+}
+
+// Refusal 3 is for lengths above 128 and for lengths that do not add up.
+fn measured(lengths: &[u16], count: usize) -> bool
+    requires { ⌜ length (now lengths) ≤ 8 ⌝ }
+    ensures { λ r. ⌜ r ≡ (every (length (now (lengths .entry))) (λ h. leb (getD (now (lengths .entry)) h 0) 128) && eqb (total (length (now (lengths .entry))) (λ h. getD (now (lengths .entry)) h 0)) count) ⌝ }
+{
+    if !short(lengths) {
+        return false;
+    }
+    sum(lengths) == count
+}
+
+pub fn longest(lengths: &[u16]) -> usize
+    ensures { λ r. ⌜ r ≡ largest (now (lengths .entry)) ⌝ }
+{
+    let mut most = 0;
+    let mut h = 0;
+    while h < lengths.len() {
+        let n = lengths[h] as usize;
+        if n > most {
+            most = n;
+        }
+        h += 1;
+    }
+    most
+}
+
+fn below(symbols: &[u16], p: u32) -> bool
+    ensures { λ r. ⌜ r ≡ every (length (now (symbols .entry))) (λ i. ltb (getD (now (symbols .entry)) i 0) p) ⌝ }
+{
+    let mut i = 0;
+    while i < symbols.len() {
+        if symbols[i] as u32 >= p {
+            return false;
+        }
+        i += 1;
+    }
+    true
+}
+
+pub fn check(p: u32, lengths: &[u16], symbols: &[u16], room: usize) -> Verdict
+    ensures { λ r. ⌜ outcomeOf r ≡ outcome (tests p (now (lengths .entry)) (now (symbols .entry)) room) ⌝ }
+{
+    if !field::prime::is_modulus(p) {
+        return Verdict::Refuse(Refusal::Modulus);
+    }
+    if !counted(lengths.len()) {
+        return Verdict::Refuse(Refusal::Count);
+    }
+    if !measured(lengths, symbols.len()) {
+        return Verdict::Refuse(Refusal::Lengths);
+    }
+    if room <= longest(lengths) {
+        return Verdict::Refuse(Refusal::TapBuffer);
+    }
+    if !below(symbols, p) {
+        return Verdict::Refuse(Refusal::Symbol);
+    }
+    Verdict::Pass
+}
