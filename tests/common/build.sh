@@ -7,6 +7,7 @@ mkdir -p "$out"
 
 # Proves the library and has the programs link its archive.
 with_library() {
+  echo "proving the library and writing its archive .."
   if ! rt staticlib capi >"$out/staticlib.log" 2>&1; then
     cat "$out/staticlib.log"
     exit 1

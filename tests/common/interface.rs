@@ -1,6 +1,6 @@
 //! The C interface of `include/tomkhadi.h` in Rust: its structs, and its calls as a trait, so that
 //! the library, the plain implementation and the independent one can stand in for each other.
-//! `tests/src/layout.rs` compares the structs with those of the header.
+//! `tests/src/trials/layout.rs` compares the structs with those of the header.
 
 pub const EMPTY: u32 = 0;
 pub const SHAPED: u32 = 1;

@@ -1,4 +1,4 @@
-/* Sizes and places in the structs of the header, in the order of layout.rs. */
+/* Sizes and places in the structs of the header, in the order of trials/layout.rs. */
 #include "tomkhadi.h"
 
 const size_t tomkhadi_layout[24] = {

@@ -2,7 +2,7 @@
 //! sums. It shares no method with the library, but for the taps of a register that is not alone,
 //! which document 01 defines by Algorithm 4.
 
-pub mod elimination;
+mod elimination;
 pub mod frames;
 pub mod registers;
 

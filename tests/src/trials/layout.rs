@@ -7,7 +7,7 @@ use common::interface::{Answer, Job, Register, Shaped};
 use crate::judge::Judge;
 
 unsafe extern "C" {
-    /// What `layout.c` reads from the header, in the order of `RUST`.
+    /// What `tests/src/layout.c` reads from the header, in the order of `RUST`.
     static tomkhadi_layout: [usize; RUST.len()];
 }
 

@@ -160,8 +160,7 @@ impl List<'_, '_> {
 
     /// Lends a frame to repair, which must leave the given frame where there is one.
     fn mend(&mut self, shape: &Shape, frame: &[u16], sent: Option<Vec<u16>>) {
-        let before = self.job;
-        let (answer, left) = self.judge.repair(before, frame);
+        let (answer, left) = self.judge.repair(self.job, frame);
         self.job = answer.job;
         let inputs = (shape, frame);
         if let Some(sent) = sent {

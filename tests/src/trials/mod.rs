@@ -50,7 +50,7 @@ fn damaged(random: &mut Random, shape: &Shape, frame: &[u16], count: usize) -> V
     frame
 }
 
-/// A frame that is not well-formed, or was not before a symbol was mended by chance.
+/// The frame with another size, with a symbol at or above the bound, with both or with neither.
 fn malformed(random: &mut Random, shape: &Shape, frame: &[u16]) -> Vec<u16> {
     let mut frame = frame.to_vec();
     if random.once_in(2) {
