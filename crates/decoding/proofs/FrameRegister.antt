@@ -1,26 +1,25 @@
 -- The register of a frame is a shortest one of its sequences, and the mark says whether it is alone. Its length is that of every shortest register, and where
--- it is not alone there is another one. All this depends on the check sums only.
+-- it is not alone there is another one.
 -- Assumes nothing.
 use mathlib.Core.Path.{_≡_, refl, sym, ap, ap₂, subst, _∙_}
-use mathlib.Core.Bool.{Bool, true, false, false≢true}
+use mathlib.Core.Bool.{Bool, true, false}
 use mathlib.Core.Logic.{_↔_}
 use mathlib.Core.List.{List, [], _∷_}
-use Prim.Native.Nat.{ℕ, zero, suc, _+_, _-_, _*_, _≤_, _<_}
+use Prim.Native.Nat.{ℕ, suc, _-_, _≤_, _<_}
 use native.Mathlib.Nat.{sub-self, sub-zero, le-refl}
 use native.Mathlib.Decide.{decLt}
 use native.Mathlib.Omega.{arith}
 use lib.ListN.{length, getD, take}
 use lib.Seq.{take-length}
 use Rattle.decoding.specs.Locating.{sizeOf, tapsOf, aloneOf}
-use Rattle.decoding.proofs.FrameSums.{sequence-at, sequence-length, sequence-symbol}
+use Rattle.decoding.proofs.FrameSums.{sequence-length, sequence-symbol}
 use Rattle.field.proofs.Prime257.{prime-257}
-use Rattle.frame.specs.Frame.{checkSum, sequences}
+use Rattle.frame.specs.Frame.{sequences}
 use Rattle.frame.specs.Shape.{isShape, checksOf}
 use Rattle.frame.specs.declared.Shape.{Shape}
 use Rattle.frame.proofs.CheckSums.{checkSum-below}
 use Rattle.frame.proofs.Shapes.{shape-ranges}
 use Rattle.lists.proofs.Tabulated.{length-tabulate}
-use Rattle.register.specs.Algorithm4.{found, foundAlone}
 use Rattle.register.specs.EachRound.{IsShortest}
 use Rattle.register.specs.Register.{Generator, Shortest, Alone}
 use Rattle.register.specs.Sequences.{Below, longest, shortened}

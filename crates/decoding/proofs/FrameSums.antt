@@ -3,13 +3,15 @@
 -- Assumes nothing.
 use mathlib.Core.Path.{_≡_, sym, ap, ap₂, _∙_}
 use mathlib.Core.Logic.{_≢_}
+use mathlib.Core.Bool.{true}
 use mathlib.Core.List.{List, [], _∷_}
-use Prim.Native.Nat.{ℕ, zero, suc, _+_, _-_, _*_, _≤_, _<_}
+use Prim.Native.Nat.{ℕ, zero, suc, _-_, _*_, _≤_, _<_}
 use native.Mathlib.Omega.{arith}
 use lib.ListN.{length, getD}
 use Rattle.algebra.specs.Ring.{CRing, Field}
 use Rattle.algebra.specs.Sum.{sum, pow}
 use Rattle.algebra.specs.Polynomial.{conv}
+use Rattle.algebra.specs.Locator.{Distinct, Nonzero}
 use Rattle.algebra.proofs.Convolution.{conv-degree}
 use Rattle.algebra.proofs.FieldLaws.{mul-cancel, mul-nonzero, power-nonzero, inv-nonzero}
 use Rattle.algebra.proofs.Powers.{pow-add, pow-suc}
@@ -19,12 +21,13 @@ use Rattle.algebra.proofs.Sums.{sum-ext, sum-add, sum-neg}
 use Rattle.field.proofs.Bridge.{res-zero, res-mod, res-mul, res-total}
 use Rattle.field.proofs.Prime257.{prime-257}
 use Rattle.frame.specs.Frame.{row, cell, checkSum, checkSums, sequences, Codeword}
-use Rattle.frame.specs.Shape.{checksOf}
+use Rattle.frame.specs.Shape.{isShape, checksOf}
 use Rattle.frame.specs.declared.Shape.{Shape}
-use Rattle.frame.proofs.Field257.{F257, R257, res257, res-tells, res-tells-zero}
 use Rattle.frame.proofs.CheckSums.{checkSum-below, res-checkSum}
-use Rattle.frame.proofs.Locators.{locatorAt, locator-nonzero, firstExponent}
+use Rattle.frame.proofs.Field257.{F257, R257, res257, res-tells, res-tells-zero}
+use Rattle.frame.proofs.Locators.{locatorAt, locators-distinct, locator-nonzero, firstExponent}
 use Rattle.frame.proofs.Rows.{row-cell}
+use Rattle.frame.proofs.Shapes.{shape-ranges}
 use Rattle.lists.proofs.Tabulated.{length-tabulate, getD-tabulate}
 use Rattle.register.specs.Register.{discrepancy, Generates}
 use Rattle.register.specs.Sequences.{symbol}
@@ -35,6 +38,19 @@ open CRing R257 using (car, zero as 𝟘, add as _⊕_, mul as _⊗_, neg, add-n
 
 infixl 60 _⊕_
 infixl 70 _⊗_
+-- the polynomial of taps
+abbrev pub poly257 : List ℕ → ℕ → R257 .car
+poly257 σ = poly 257 prime-257 σ
+
+module _ (s : Shape) (shape : isShape s ≡ true) where
+  pub columns-distinct : Distinct R257 (s .columns) locatorAt
+  columns-distinct i j hi hj =
+      let few = shape-ranges s shape .columns-most in
+      locators-distinct i j (omega arith) (omega arith)
+
+  pub columns-nonzero : Nonzero R257 (s .columns) locatorAt
+  columns-nonzero i _ = locator-nonzero i
+
 -- ---- the word of a row
 
 scale : ℕ → car
@@ -124,22 +140,22 @@ module _ (s : Shape) (f : List ℕ) (h : ℕ) (below : h < s .rows) where
 
   module _ (l : ℕ) (τ : List ℕ) (taps : length τ ≡ suc l) where
     res-discrepancy : (j : ℕ) → l < j → j ≤ checksOf s h
-        → res257 (discrepancy 257 l τ (getD (sequences s f) h []) j) ≡ conv R257 (poly 257 prime-257 τ) (sums n f h) j
+        → res257 (discrepancy 257 l τ (getD (sequences s f) h []) j) ≡ conv R257 (poly257 τ) (sums n f h) j
     unfolding discrepancy
     res-discrepancy j after within =
         res-mod 257 prime-257 _ ∙ res-total 257 prime-257 (suc l) (λ i. getD τ i 0 * symbol (getD (sequences s f) h []) (j - i))
-        ∙ sum-ext R257 (suc l) _ (λ i. poly 257 prime-257 τ i ⊗ sums n f h (j - i)) (λ i small.
+        ∙ sum-ext R257 (suc l) _ (λ i. poly257 τ i ⊗ sums n f h (j - i)) (λ i small.
         res-mul 257 prime-257 (getD τ i 0) _
-        ∙ ap (λ x. poly 257 prime-257 τ i ⊗ x)
+        ∙ ap (λ x. poly257 τ i ⊗ x)
         (ap res257 (sequence-symbol (j - i) (omega arith) (omega arith)) ∙ res-sums n f h (j - i) (omega arith)))
-        ∙ sym (conv-degree R257 l (poly 257 prime-257 τ) (sums n f h) j (poly-degree 257 prime-257 l τ taps) (omega arith))
+        ∙ sym (conv-degree R257 l (poly257 τ) (sums n f h) j (poly-degree 257 prime-257 l τ taps) (omega arith))
 
     pub generates-sums : Generates 257 l τ (getD (sequences s f) h [])
-        → (j : ℕ) → l < j → j ≤ checksOf s h → conv R257 (poly 257 prime-257 τ) (sums n f h) j ≡ 𝟘
+        → (j : ℕ) → l < j → j ≤ checksOf s h → conv R257 (poly257 τ) (sums n f h) j ≡ 𝟘
     generates-sums g j after within =
         sym (res-discrepancy j after within) ∙ ap res257 (g j after (let e = sequence-length in omega arith)) ∙ res-zero 257 prime-257
 
-    pub sums-generate : ((j : ℕ) → l < j → j ≤ checksOf s h → conv R257 (poly 257 prime-257 τ) (sums n f h) j ≡ 𝟘)
+    pub sums-generate : ((j : ℕ) → l < j → j ≤ checksOf s h → conv R257 (poly257 τ) (sums n f h) j ≡ 𝟘)
         → Generates 257 l τ (getD (sequences s f) h [])
     sums-generate zeros j after within =
         let inside : j ≤ checksOf s h = (let e = sequence-length in omega arith) in

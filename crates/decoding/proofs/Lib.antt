@@ -1,7 +1,7 @@
+pub mod CompletedCodeword
 pub mod DamageRegister
 pub mod FrameRegister
 pub mod FrameSums
-pub mod MendedFrame
 pub mod NamedColumns
 pub mod Recovery
 pub mod Recurrence

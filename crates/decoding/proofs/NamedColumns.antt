@@ -1,16 +1,16 @@
 -- The columns that taps name are the roots of their polynomial at the inverses of the locators: never more than the register is long.
 -- Assumes nothing.
-use mathlib.Core.Path.{_≡_, refl, sym, ap, ap₂, _∙_}
+use mathlib.Core.Path.{_≡_, sym, ap, _∙_}
 use mathlib.Core.Bool.{Bool, true, false, not, _&&_, and-eq-true-iff, false≢true}
 use mathlib.Core.List.{List}
 use mathlib.Core.Logic.{_↔_}
-use Prim.Native.Nat.{ℕ, suc, _+_, _%_, _≤_, _<_}
+use Prim.Native.Nat.{ℕ, suc, _≤_, _<_}
 use native.Mathlib.Nat.{mod-lt}
 use native.Mathlib.Decide.{decLt}
 use native.Mathlib.Omega.{arith}
 use lib.Dec.{ltb, eqb, lit<}
-use lib.ListN.{length, getD}
-use borrow.Author.Tests.{ltb-true, ltb-false, lt-ltb, le-ltb, eqb-true, eq-eqb, not-true}
+use lib.ListN.{length}
+use borrow.Author.Tests.{ltb-false, lt-ltb, le-ltb, eqb-true, eq-eqb, not-true}
 use Rattle.algebra.specs.Ring.{CRing, Field}
 use Rattle.algebra.specs.Polynomial.{eval}
 use Rattle.columns.specs.Columns.{has, members}
@@ -18,7 +18,7 @@ use Rattle.columns.specs.Listed.{count}
 use Rattle.columns.proofs.Listing.{count-skip, length-listed}
 use Rattle.columns.proofs.Marks.{has-columnsOf, has-past, columnsOf-sound, members-columnsOf}
 use Rattle.decoding.specs.Locating.{named, namedColumns, namesAll}
-use Rattle.decoding.proofs.DamageRegister.{columns-distinct, columns-nonzero}
+use Rattle.decoding.proofs.FrameSums.{poly257, columns-distinct, columns-nonzero}
 use Rattle.decoding.proofs.Support.{Roots, roots-at-most}
 use Rattle.field.specs.Coefficients.{value}
 use Rattle.field.specs.Residue.{inverse}
@@ -33,7 +33,7 @@ use Rattle.frame.proofs.Locators.{locatorAt, res-locator}
 use Rattle.frame.proofs.Members.{Below}
 use Rattle.frame.proofs.Shapes.{shape-ranges}
 use Rattle.register.specs.Register.{Register}
-use Rattle.register.proofs.Polynomials.{poly, poly-degree}
+use Rattle.register.proofs.Polynomials.{poly-degree}
 open Field F257 using (inv)
 open CRing R257 using (zero as 𝟘)
 
@@ -42,18 +42,18 @@ module _ (s : Shape) (c : ℕ) (σ : List ℕ) (register : Register 257 c σ) wh
   taps = omega (arith, register .taps)
 
   -- the value of the polynomial at the inverse of a locator
-  res-root : (i : ℕ) → res257 (value 257 σ (inverse 257 (locatorOf i))) ≡ eval R257 c (poly 257 prime-257 σ) (inv (locatorAt i))
+  res-root : (i : ℕ) → res257 (value 257 σ (inverse 257 (locatorOf i))) ≡ eval R257 c (poly257 σ) (inv (locatorAt i))
   res-root i =
       res-value c σ (inverse 257 (locatorOf i)) taps
-      ∙ ap (eval R257 c (poly 257 prime-257 σ)) (res-inverse 257 prime-257 (locatorOf i) ∙ ap inv (res-locator i))
+      ∙ ap (eval R257 c (poly257 σ)) (res-inverse 257 prime-257 (locatorOf i) ∙ ap inv (res-locator i))
 
-  pub named-roots : Roots F257 (s .columns) locatorAt (named s σ) c (poly 257 prime-257 σ)
+  pub named-roots : Roots F257 (s .columns) locatorAt (named s σ) c (poly257 σ)
   unfolding named
   named-roots i below e =
       let (inside, root) = and-eq-true-iff (ltb i (s .columns)) _ .0 e in
       sym (res-root i) ∙ ap res257 (eqb-true _ 0 root) ∙ res-zero 257 prime-257
 
-  pub root-named : (i : ℕ) → i < s .columns → eval R257 c (poly 257 prime-257 σ) (inv (locatorAt i)) ≡ 𝟘 → named s σ i ≡ true
+  pub root-named : (i : ℕ) → i < s .columns → eval R257 c (poly257 σ) (inv (locatorAt i)) ≡ 𝟘 → named s σ i ≡ true
   unfolding named value
   root-named i below e =
       and-eq-true-iff (ltb i (s .columns)) _ .1
@@ -61,7 +61,7 @@ module _ (s : Shape) (c : ℕ) (σ : List ℕ) (register : Register 257 c σ) wh
 
   pub names-at-most : isShape s ≡ true → count (s .columns) (named s σ) ≤ c
   names-at-most shape =
-      roots-at-most F257 (s .columns) locatorAt (columns-distinct s shape) (columns-nonzero s shape) (named s σ) c (poly 257 prime-257 σ)
+      roots-at-most F257 (s .columns) locatorAt (columns-distinct s shape) (columns-nonzero s shape) (named s σ) c (poly257 σ)
       (poly-degree 257 prime-257 c σ taps) (ap res257 (register .first) ∙ res-one 257 prime-257) named-roots
 
   pub names-all : isShape s ≡ true → (namesAll s σ c ≡ true) ↔ (count (s .columns) (named s σ) ≡ c)

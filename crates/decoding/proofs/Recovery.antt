@@ -1,24 +1,22 @@
 -- Recovery: the legal frame g was sent and the frame f came, damaged in w columns. Where the rows with at least 2·w checks show the damage of every column,
 -- and no row has fewer than w checks, the register of f is alone and has length w, and the frame repaired at the columns that it names is g.
 -- Assumes nothing.
-use mathlib.Core.Path.{_≡_, refl, sym, ap, ap₂, subst, _∙_}
+use mathlib.Core.Path.{_≡_, sym, ap, subst, _∙_}
 use mathlib.Core.Bool.{true}
 use mathlib.Core.List.{List}
-use Prim.Native.Nat.{ℕ, suc, _+_, _*_, _≤_, _<_}
+use Prim.Native.Nat.{ℕ, suc, _*_, _≤_, _<_}
 use native.Mathlib.Omega.{arith}
-use lib.Dec.{leb, lit<}
+use lib.Dec.{lit<}
 use lib.ListN.{length, getD}
 use borrow.Author.Tests.{le-leb}
-use Rattle.algebra.specs.Ring.{CRing, Field}
-use Rattle.algebra.specs.Polynomial.{eval}
+use Rattle.algebra.specs.Ring.{CRing}
 use Rattle.algebra.proofs.FieldLaws.{no-zero-divisors}
 use Rattle.decoding.specs.Locating.{sizeOf, tapsOf, aloneOf, rowsReach, namedColumns, namesAll, repaired}
-use Rattle.decoding.proofs.DamageRegister.{columns-distinct, columns-nonzero, error-outside, damage-sums, no-nearer}
-use Rattle.decoding.proofs.RepairedFrame.{cell-below}
-use Rattle.frame.proofs.Distances.{row-of-difference}
+use Rattle.decoding.proofs.DamageRegister.{error-outside, damage-sums, no-nearer}
 use Rattle.decoding.proofs.FrameRegister.{length-sequences, register-of-frame, frame-generator}
-use Rattle.decoding.proofs.FrameSums.{sums, error, error-same-cell, generates-sums}
+use Rattle.decoding.proofs.FrameSums.{poly257, columns-distinct, columns-nonzero, sums, error, error-same-cell, generates-sums}
 use Rattle.decoding.proofs.Recurrence.{generates-roots}
+use Rattle.decoding.proofs.RepairedFrame.{cell-below}
 use Rattle.decoding.proofs.SoleNearest.{legal-at-size, nearest-only}
 use Rattle.decoding.proofs.Support.{Roots, roots-at-most, roots-same}
 use Rattle.field.proofs.Bridge.{res-one}
@@ -26,15 +24,14 @@ use Rattle.field.proofs.Prime257.{prime-257}
 use Rattle.frame.specs.Frame.{cell, sequences, WellFormed, Legal, differs, distance}
 use Rattle.frame.specs.Shape.{isShape, checksOf}
 use Rattle.frame.specs.declared.Shape.{Shape}
+use Rattle.frame.proofs.Distances.{row-of-difference}
 use Rattle.frame.proofs.Field257.{F257, R257, res257}
 use Rattle.frame.proofs.Locators.{locatorAt}
-use Rattle.frame.proofs.Rows.{cell-place}
 use Rattle.lists.proofs.Tabulated.{every-of}
 use Rattle.register.specs.Register.{Generator}
 use Rattle.register.proofs.Coefficients.{residues-past}
-use Rattle.register.proofs.Polynomials.{poly, poly-degree, poly-same}
-open Field F257 using (inv)
-open CRing R257 using (zero as 𝟘, one as 𝟙)
+use Rattle.register.proofs.Polynomials.{poly-degree, poly-same}
+open CRing R257 using (one as 𝟙)
 
 -- the rows of R show the damage: each has twice as many checks as columns are damaged, and every damaged column is damaged in one of them; no row has fewer
 -- checks than columns are damaged
@@ -72,11 +69,11 @@ module _ (s : Shape) (shape : isShape s ≡ true) (g f : List ℕ) (legal : Lega
     taps : length τ ≡ suc l
     taps = omega (arith, generator .register .taps)
 
-    constant : poly 257 prime-257 τ 0 ≡ 𝟙
+    constant : poly257 τ 0 ≡ 𝟙
     constant = ap res257 (generator .register .first) ∙ res-one 257 prime-257
 
     -- a register that is not longer has a root at every damaged column
-    roots : Roots F257 n locatorAt (differs s g f) l (poly 257 prime-257 τ)
+    roots : Roots F257 n locatorAt (differs s g f) l (poly257 τ)
     unfolding distance
     roots i inside differ =
         let (h, below, shows, apart) = shown .covers i inside differ in
@@ -84,14 +81,14 @@ module _ (s : Shape) (shape : isShape s ≡ true) (g f : List ℕ) (legal : Lega
         (λ z. apart (sym (error-same-cell n f g h i (cell-below s f well-formed h i below inside)
         (cell-below s g (legal .well-formed) h i below inside) z)))
         (generates-roots F257 n locatorAt (columns-distinct s shape) (columns-nonzero s shape) (differs s g f) (error n f g h) (sums n f h)
-        (error-outside s shape g f h below) (checksOf s h) (λ j. damage-sums s shape g f (legal .codeword) h j below) l (poly 257 prime-257 τ)
+        (error-outside s shape g f h below) (checksOf s h) (λ j. damage-sums s shape g f (legal .codeword) h j below) l (poly257 τ)
         (poly-degree 257 prime-257 l τ taps) (omega (arith, shown .twice h below shows))
         (generates-sums s f h below l τ taps (generator .generates h (let q = length-sequences s f in omega arith))) i inside)
 
     long : w ≤ l
     unfolding distance
     long =
-        roots-at-most F257 n locatorAt (columns-distinct s shape) (columns-nonzero s shape) (differs s g f) l (poly 257 prime-257 τ)
+        roots-at-most F257 n locatorAt (columns-distinct s shape) (columns-nonzero s shape) (differs s g f) l (poly257 τ)
         (poly-degree 257 prime-257 l τ taps) constant roots
 
   -- two registers of length w are the same
@@ -99,7 +96,7 @@ module _ (s : Shape) (shape : isShape s ≡ true) (g f : List ℕ) (legal : Lega
   unfolding distance
   only-register τ υ a b =
       poly-same 257 prime-257 τ υ (taps w le τ a ∙ sym (taps w le υ b)) (small τ a) (small υ b)
-      (roots-same F257 n locatorAt (columns-distinct s shape) (columns-nonzero s shape) (differs s g f) (poly 257 prime-257 τ) (poly 257 prime-257 υ)
+      (roots-same F257 n locatorAt (columns-distinct s shape) (columns-nonzero s shape) (differs s g f) (poly257 τ) (poly257 υ)
       (poly-degree 257 prime-257 w τ (taps w le τ a)) (poly-degree 257 prime-257 w υ (taps w le υ b))
       (constant w le τ a) (constant w le υ b) (roots w le τ a) (roots w le υ b))
     where
@@ -121,9 +118,9 @@ module _ (s : Shape) (shape : isShape s ≡ true) (g f : List ℕ) (legal : Lega
   unfolding rowsReach
   recovers =
       let alone : aloneOf s f ≡ true = register-of-frame s f shape .marked (λ τ a.
-        only-register τ (tapsOf s f) (at-w τ a) (at-w (tapsOf s f) (frame-generator s f shape))) in
+      only-register τ (tapsOf s f) (at-w τ a) (at-w (tapsOf s f) (frame-generator s f shape))) in
       let reaches : rowsReach s (sizeOf s f) ≡ true = every-of (s .rows) _ (λ h below.
-        le-leb (sizeOf s f) (checksOf s h) (let q = size-w in omega (arith, shown .reach h below))) in
+      le-leb (sizeOf s f) (checksOf s h) (let q = size-w in omega (arith, shown .reach h below))) in
       record {
         size = size-w;
         alone = alone;

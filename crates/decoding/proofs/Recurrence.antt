@@ -2,7 +2,7 @@
 -- f does so where it has a root at every column of the word; and where N is at least l plus the number of these columns, only then. A sequence that
 -- starts with l zeros and has such a polynomial is 0.
 -- Assumes nothing.
-use mathlib.Core.Path.{_≡_, refl, sym, ap, _∙_}
+use mathlib.Core.Path.{_≡_, sym, ap, _∙_}
 use mathlib.Core.Bool.{Bool, true, false}
 use mathlib.Core.Logic.{_⊎_, inl, inr}
 use Prim.Native.Nat.{ℕ, zero, suc, _+_, _-_, _≤_, _<_}
@@ -66,11 +66,11 @@ module _ (R : CRing) where
       up-to (suc b) j low one within = elim (decLe j l) [
         | yes early ↦ start j one early
         | no late ↦
-          sym (ap (λ x. x ⊗ T j) constant ∙ one-mul R (T j))
-          ∙ sym (ap (λ x. f 0 ⊗ T j ⊕ x) (sum-zeros R l (λ i. f (suc i) ⊗ T (j - suc i))
-          (λ i h. ap (λ x. f (suc i) ⊗ x) (up-to b (j - suc i) (omega arith) (omega arith) (omega arith)) ∙ mul-zero R (f (suc i))))
-          ∙ add-zero (f 0 ⊗ T j))
-          ∙ sym (conv-degree R l f T j degree (omega arith) ∙ sum-head R l (λ i. f i ⊗ T (j - i))
-          ∙ ap (λ k. f 0 ⊗ T k ⊕ sum R l (λ i. f (suc i) ⊗ T (j - suc i))) (sub-zero j))
-          ∙ products j (omega arith) within
+            sym (ap (λ x. x ⊗ T j) constant ∙ one-mul R (T j))
+            ∙ sym (ap (λ x. f 0 ⊗ T j ⊕ x) (sum-zeros R l (λ i. f (suc i) ⊗ T (j - suc i))
+            (λ i h. ap (λ x. f (suc i) ⊗ x) (up-to b (j - suc i) (omega arith) (omega arith) (omega arith)) ∙ mul-zero R (f (suc i))))
+            ∙ add-zero (f 0 ⊗ T j))
+            ∙ sym (conv-degree R l f T j degree (omega arith) ∙ sum-head R l (λ i. f i ⊗ T (j - i))
+            ∙ ap (λ k. f 0 ⊗ T k ⊕ sum R l (λ i. f (suc i) ⊗ T (j - suc i))) (sub-zero j))
+            ∙ products j (omega arith) within
       ]

@@ -1,5 +1,5 @@
--- What is located depends on the check sums only: frames with the same sequences, or the same held sums, have the same register and name the same columns. So a frame with the sums
--- that were located is repaired at the columns that locating it would name.
+-- What is located depends on the check sums only: frames with the same sequences, or the same held sums, have the same register, which names the same
+-- columns. So a frame with the sums that were located is repaired at the columns that locating it would name.
 -- Assumes nothing.
 use mathlib.Core.Path.{_≡_, ap}
 use mathlib.Core.List.{List}

@@ -15,22 +15,21 @@ use Rattle.columns.specs.Listed.{count}
 use Rattle.columns.specs.declared.Columns.{Columns}
 use Rattle.columns.proofs.Subset.{Within, within-le, within-same}
 use Rattle.decoding.specs.Locating.{sizeOf, tapsOf, aloneOf, rowsReach, named, namedColumns, namesAll, repaired}
+use Rattle.decoding.proofs.CompletedCodeword.{completes-codeword, completes-distance, completes-differing}
 use Rattle.decoding.proofs.DamageRegister.{damage-taps, damage-register, damage-roots, no-nearer}
-use Rattle.frame.proofs.Distances.{agree}
 use Rattle.decoding.proofs.FrameRegister.{register-of-frame, frame-generator}
-use Rattle.decoding.proofs.MendedFrame.{completes-codeword, completes-distance, completes-differing}
+use Rattle.decoding.proofs.FrameSums.{poly257}
 use Rattle.decoding.proofs.NamedColumns.{root-named, names-at-most, names-all, has-named, named-below, size-named}
 use Rattle.decoding.proofs.RepairedFrame.{Completes, repaired-completes, repaired-only}
-use Rattle.field.proofs.Prime257.{prime-257}
 use Rattle.frame.specs.Frame.{sequences, WellFormed, Codeword, Legal, differs, distance, differing}
 use Rattle.frame.specs.Shape.{isShape, checksOf}
 use Rattle.frame.specs.declared.Shape.{Shape}
+use Rattle.frame.proofs.Distances.{agree}
 use Rattle.frame.proofs.Field257.{F257, R257}
 use Rattle.frame.proofs.Locators.{locatorAt}
 use Rattle.frame.proofs.Shapes.{shape-ranges}
 use Rattle.lists.proofs.Tabulated.{every-at}
 use Rattle.register.specs.Register.{Generator}
-use Rattle.register.proofs.Polynomials.{poly}
 open Field F257 using (inv)
 
 pub reach : (s : Shape) (c : ℕ) → rowsReach s c ≡ true → (h : ℕ) → h < s .rows → c ≤ checksOf s h
@@ -61,7 +60,7 @@ module _ (s : Shape) (shape : isShape s ≡ true) (f : List ℕ) where
 
     nearest-named : Within n (differs s e f) (named s σ)
     nearest-named i below differ = root-named s c σ (frame-generator s f shape .register) i below
-        (ap₂ (λ d τ. eval R257 d (poly 257 prime-257 τ) (inv (locatorAt i))) (sym at-c) (sym same-taps) ∙ damage-roots s shape e f i below differ)
+        (ap₂ (λ d τ. eval R257 d (poly257 τ) (inv (locatorAt i))) (sym at-c) (sym same-taps) ∙ damage-roots s shape e f i below differ)
 
     pub nearest-names-all : count n (named s σ) ≡ c
     unfolding distance

@@ -22,10 +22,9 @@ use Rattle.columns.proofs.Listing.{by-test}
 use Rattle.columns.proofs.Marks.{columnsOf-ext}
 use Rattle.columns.proofs.Subset.{Within, within-le, within-same}
 use Rattle.decoding.specs.Locating.{sizeOf, tapsOf, named, namedColumns}
-use Rattle.decoding.proofs.DamageRegister.{columns-distinct, columns-nonzero, no-nearer}
-use Rattle.frame.proofs.Distances.{agreeing}
+use Rattle.decoding.proofs.DamageRegister.{no-nearer}
 use Rattle.decoding.proofs.FrameRegister.{length-sequences, frame-generator, frame-taps}
-use Rattle.decoding.proofs.FrameSums.{sums, error, error-sums, same-cell-error, sums-codeword, generates-sums, res-sums}
+use Rattle.decoding.proofs.FrameSums.{poly257, columns-distinct, columns-nonzero, sums, error, error-sums, same-cell-error, sums-codeword, generates-sums, res-sums}
 use Rattle.decoding.proofs.NamedColumns.{named-roots, named-past, has-named, size-named}
 use Rattle.decoding.proofs.Recurrence.{roots-generate, zeros-go-on}
 use Rattle.decoding.proofs.RepairedFrame.{Completes}
@@ -34,11 +33,12 @@ use Rattle.field.proofs.Prime257.{prime-257}
 use Rattle.frame.specs.Frame.{Codeword, differs, distance, differing}
 use Rattle.frame.specs.Shape.{isShape, checksOf}
 use Rattle.frame.specs.declared.Shape.{Shape}
+use Rattle.frame.proofs.Distances.{agreeing}
 use Rattle.frame.proofs.Field257.{F257, R257, res257}
 use Rattle.frame.proofs.Locators.{locatorAt}
 use Rattle.frame.proofs.Members.{size}
 use Rattle.frame.proofs.Shapes.{shape-ranges}
-use Rattle.register.proofs.Polynomials.{poly, poly-degree}
+use Rattle.register.proofs.Polynomials.{poly-degree}
 open CRing R257 using (car, zero as 𝟘, add as _⊕_, mul as _⊗_, neg, add-zero)
 
 infixl 60 _⊕_
@@ -56,7 +56,7 @@ module _ (s : Shape) (shape : isShape s ≡ true) (f : List ℕ) where
   abbrev J : Columns
   J = namedColumns s σ
 
-  degree : Degree R257 c (poly 257 prime-257 σ)
+  degree : Degree R257 c (poly257 σ)
   degree = poly-degree 257 prime-257 c σ (frame-taps s f shape)
 
   unmarked : (i : ℕ) → i < n → named s σ i ≡ false → has J i ≡ false
@@ -69,17 +69,17 @@ module _ (s : Shape) (shape : isShape s ≡ true) (f : List ℕ) where
     errors : ℕ → ℕ → car
     errors h j = sum R257 n (λ i. error n f e h i ⊗ pow R257 (locatorAt i) j)
 
-    errors-generated : (h j : ℕ) → h < s .rows → c < j → conv R257 (poly 257 prime-257 σ) (errors h) j ≡ 𝟘
+    errors-generated : (h j : ℕ) → h < s .rows → c < j → conv R257 (poly257 σ) (errors h) j ≡ 𝟘
     unfolding errors
     errors-generated h j below after =
         roots-generate F257 n locatorAt (columns-distinct s shape) (columns-nonzero s shape) (named s σ) (error n f e h) (errors h)
         (λ i inside out. same-cell-error n f e h i (sym (completes .kept h i below inside (unmarked i inside out))))
-        j (λ k _ _. refl) c (poly 257 prime-257 σ) degree (named-roots s c σ (frame-generator s f shape .register)) j after (omega arith)
+        j (λ k _ _. refl) c (poly257 σ) degree (named-roots s c σ (frame-generator s f shape .register)) j after (omega arith)
 
     pub completes-codeword : Codeword s e
     unfolding errors
     completes-codeword = sums-codeword s e (λ h j below.
-        zeros-go-on R257 c (checksOf s h) (poly 257 prime-257 σ) (sums n e h) degree (ap res257 (frame-generator s f shape .register .first) ∙ res-one 257 prime-257)
+        zeros-go-on R257 c (checksOf s h) (poly257 σ) (sums n e h) degree (ap res257 (frame-generator s f shape .register .first) ∙ res-one 257 prime-257)
         (start h below) (products h below) j)
       where
         start : (h : ℕ) → h < s .rows → (j : ℕ) → 1 ≤ j → j ≤ c → sums n e h j ≡ 𝟘
@@ -91,11 +91,11 @@ module _ (s : Shape) (shape : isShape s ≡ true) (f : List ℕ) where
         whole h k =
             solve R257 (sums n f h k ∷ sums n e h k ∷ errors h k ∷ []) (λ a b d. :neg :1 :× a :- b :≡ d :⇒ b :+ d := a) tt (error-sums n f e h k)
 
-        products : (h : ℕ) → h < s .rows → (j : ℕ) → c < j → j ≤ checksOf s h → conv R257 (poly 257 prime-257 σ) (sums n e h) j ≡ 𝟘
+        products : (h : ℕ) → h < s .rows → (j : ℕ) → c < j → j ≤ checksOf s h → conv R257 (poly257 σ) (sums n e h) j ≡ 𝟘
         products h below j after within =
-            sym (add-zero _) ∙ ap (λ x. conv R257 (poly 257 prime-257 σ) (sums n e h) j ⊕ x) (sym (errors-generated h j below after))
-            ∙ sym (conv-add-right R257 (poly 257 prime-257 σ) (sums n e h) (errors h) j)
-            ∙ conv-ext R257 (poly 257 prime-257 σ) (poly 257 prime-257 σ) (λ k. sums n e h k ⊕ errors h k) (sums n f h) j (λ _ _. refl) (λ k _. whole h k)
+            sym (add-zero _) ∙ ap (λ x. conv R257 (poly257 σ) (sums n e h) j ⊕ x) (sym (errors-generated h j below after))
+            ∙ sym (conv-add-right R257 (poly257 σ) (sums n e h) (errors h) j)
+            ∙ conv-ext R257 (poly257 σ) (poly257 σ) (λ k. sums n e h k ⊕ errors h k) (sums n f h) j (λ _ _. refl) (λ k _. whole h k)
             ∙ generates-sums s f h below c σ (frame-taps s f shape) (frame-generator s f shape .generates h (let q = length-sequences s f in omega arith)) j after within
 
     differs-named : Within n (differs s e f) (named s σ)
