@@ -96,7 +96,8 @@ module _ (s : Shape) (shape : isShape s ≡ true) (f : List ℕ) where
             sym (add-zero _) ∙ ap (λ x. conv R257 (poly257 σ) (sums n e h) j ⊕ x) (sym (errors-generated h j below after))
             ∙ sym (conv-add-right R257 (poly257 σ) (sums n e h) (errors h) j)
             ∙ conv-ext R257 (poly257 σ) (poly257 σ) (λ k. sums n e h k ⊕ errors h k) (sums n f h) j (λ _ _. refl) (λ k _. whole h k)
-            ∙ generates-sums s f h below c σ (frame-taps s f shape) (frame-generator s f shape .generates h (let q = length-sequences s f in omega arith)) j after within
+            ∙ generates-sums s f h below c σ (frame-taps s f shape)
+            (frame-generator s f shape .generates h (let q = length-sequences s f in omega arith)) j after within
 
     differs-named : Within n (differs s e f) (named s σ)
     differs-named i below differ = pick (by-test (named s σ i))

@@ -49,7 +49,8 @@ module _ (s : Shape) (f : List ℕ) (shape : isShape s ≡ true) where
   unfolding sizeOf tapsOf aloneOf
   register-of-frame =
       subst (λ ss. IsShortest 257 (sizeOf s f) ss (tapsOf s f) (aloneOf s f)) (all-of-it (sequences s f))
-      (each-round 257 (sequences s f) (longest (sequences s f)) prime-257 (let e = length-sequences s f in omega (arith, shape-ranges s shape .rows-least)) (sequences-below s f) (le-refl _))
+      (each-round 257 (sequences s f) (longest (sequences s f)) prime-257
+      (let e = length-sequences s f in omega (arith, shape-ranges s shape .rows-least)) (sequences-below s f) (le-refl _))
 
   pub frame-generator : Generator 257 (sizeOf s f) (sequences s f) (tapsOf s f)
   frame-generator = register-of-frame .shortest .generator
