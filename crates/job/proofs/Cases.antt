@@ -8,8 +8,7 @@ use Rattle.frame.specs.Frame.{frameTests}
 use Rattle.frame.specs.Shape.{shapeTests}
 use Rattle.refusal.specs.Order.{Test}
 use Rattle.refusal.proofs.Orders.{Among, Pass, by-tests, pass-otherwise}
-use Rattle.job.specs.Calls.{shapes, encodes, locates, repairs, shape, encode, locate, repair, Outcome, refusing, step, shapeCall, encodeCall, locateCall, repairCall, emptyTest, registerTests, repairTests}
-use Rattle.job.specs.Job.{shapedJob}
+use Rattle.job.specs.Calls.{shapes, encodes, locates, repairs, shape, encode, locate, repair, Outcome, refusing, refusingLate, step, shapeCall, encodeCall, locateCall, repairCall, emptyTest, registerTests, repairTests}
 use Rattle.job.specs.declared.Job.{Job}
 
 -- the tests that come before those of the register
@@ -29,12 +28,12 @@ module _ (P : Outcome → Type 0) (j : Job) where
     by-encode = by-tests (refusing j f) (encodes j f) P (emptyTest j ∷ encodeTests (j .shape) f)
 
     pub by-locate : ((k : ℕ) → Among k (earlyTests j f) → P (refusing j f k))
-        → ((k : ℕ) → Pass (earlyTests j f) → Among k (registerTests j f) → P (refusing (shapedJob (j .shape)) f k))
+        → ((k : ℕ) → Pass (earlyTests j f) → Among k (registerTests j f) → P (refusingLate j f k))
         → (Pass (earlyTests j f) → Pass (registerTests j f) → P (locates (j .shape) f)) → P (step j (locate f))
     unfolding step locateCall
     by-locate early late found =
         by-tests (refusing j f) _ P (earlyTests j f) early (λ p.
-        by-tests (refusing (shapedJob (j .shape)) f) (locates (j .shape) f) P (registerTests j f) (λ k. late k p) (found p))
+        by-tests (refusingLate j f) (locates (j .shape) f) P (registerTests j f) (λ k. late k p) (found p))
 
     pub by-repair : ((k : ℕ) → Among k (repairTests j f) → P (refusing j f k)) → (Pass (repairTests j f) → P (repairs j f))
         → P (step j (repair f))
@@ -45,7 +44,7 @@ module _ (j : Job) (f : List ℕ) where
   pub locate-passes : Pass (earlyTests j f) → Pass (registerTests j f) → step j (locate f) ≡ locates (j .shape) f
   unfolding step locateCall
   locate-passes early late =
-      rw (pass-otherwise (refusing j f) _ (earlyTests j f) early) (pass-otherwise (refusing (shapedJob (j .shape)) f) (locates (j .shape) f) (registerTests j f) late)
+      rw (pass-otherwise (refusing j f) _ (earlyTests j f) early) (pass-otherwise (refusingLate j f) (locates (j .shape) f) (registerTests j f) late)
 
   pub repair-passes : Pass (repairTests j f) → step j (repair f) ≡ repairs j f
   unfolding step repairCall

@@ -14,7 +14,7 @@ use Rattle.frame.specs.declared.Shape.{Shape}
 use Rattle.frame.proofs.Reasons.{shape-says, encode-says, frame-says, frame-passes}
 use Rattle.refusal.specs.Order.{First, firstOf}
 use Rattle.refusal.proofs.Orders.{Says, fails-not, none-pass, no-fail, gives-next, gives-first}
-use Rattle.job.specs.Calls.{Call, shape, encode, locate, repair, refused, Outcome, refusing, step, shapeCall, encodeCall, locateCall, repairCall, emptyTest, registerTests, repairTests, shapes, encodes, locates, repairs}
+use Rattle.job.specs.Calls.{Call, shape, encode, locate, repair, refused, Outcome, refusing, refusingLate, step, shapeCall, encodeCall, locateCall, repairCall, emptyTest, registerTests, repairTests, shapes, encodes, locates, repairs}
 use Rattle.job.specs.Job.{shapedJob}
 use Rattle.job.specs.Refusals.{emptyReason, notAloneReason, shortRowReason, noFrameReason, registerReasons, reasons, Demand1}
 use Rattle.job.specs.declared.Job.{Job}
@@ -31,7 +31,7 @@ module _ (j : Job) (k : ℕ) where
   tells i f m = (λ e. sym (same-number e), λ e. cc)
 
   registers : (f : List ℕ) → isShape (j .shape) ≡ true → WellFormed (j .shape) f
-      → Gives (firstOf (refusing (shapedJob (j .shape)) f) (registerTests j f) (locates (j .shape) f))
+      → Gives (firstOf (refusingLate j f) (registerTests j f) (locates (j .shape) f))
       ↔ First k (registerReasons (j .shape) f)
   unfolding registerTests
   registers f t w =
@@ -46,7 +46,7 @@ module _ (j : Job) (k : ℕ) where
       s = j .shape
 
       refuse : ℕ → Outcome
-      refuse = refusing (shapedJob s) f
+      refuse = refusingLate j f
 
       says-24 : Says (record { number = 24; fails = not (aloneOf s f) }) (notAloneReason s f)
       says-24 = not-alone-says s f t

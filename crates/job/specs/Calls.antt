@@ -39,6 +39,10 @@ pub record Outcome : Type 0 where
 abbrev pub refusing : Job → (f : List ℕ) (k : ℕ) → Outcome
 refusing j f k = record { answer = refused k; marks = noColumns; job = j; frame = f }
 
+-- but after 24, 25, 26 the job is shaped
+abbrev pub refusingLate : Job → (f : List ℕ) (k : ℕ) → Outcome
+refusingLate j f k = refusing (shapedJob (j .shape)) f k
+
 -- what a shape call gives that is not refused
 abbrev pub shapes : (n : ℕ) (checks : List ℕ) → Outcome
 shapes n checks = record { answer = done; marks = noColumns; job = shapedJob (shapeOf n checks); frame = [] }
@@ -73,12 +77,11 @@ abbrev pub locates : Shape → (f : List ℕ) → Outcome
 locates s f =
     record { answer = columns (sizeOf s f); marks = namedColumns s (tapsOf s f); job = locatedBy s f; frame = f }
 
--- after 24, 25, 26 the job is shaped
 unfoldable pub locateCall : Job → (f : List ℕ) → Outcome
 locateCall j f =
     let s = j .shape in
     firstOf (refusing j f) (emptyTest j ∷ frameTests s f)
-    (firstOf (refusing (shapedJob s) f) (registerTests j f) (locates s f))
+    (firstOf (refusingLate j f) (registerTests j f) (locates s f))
 
 -- whether two lists of held sums are the same
 unfoldable pub sameSums : (a b : List ℕ) → Bool
