@@ -17,7 +17,8 @@ use Rattle.decoding.specs.Locating.{sizeOf}
 use Rattle.decoding.proofs.FrameRegister.{length-sequences, register-of-frame}
 use Rattle.decoding.proofs.FrameSums.{poly257, columns-distinct, columns-nonzero, sums, error, error-sums, same-cell-error, codeword-sums, sums-generate}
 use Rattle.decoding.proofs.Recurrence.{roots-generate}
-use Rattle.decoding.proofs.Support.{Outside, Roots, locator-of, locator-of-degree, locator-of-constant, locator-of-roots}
+use Rattle.decoding.proofs.ColumnRoots.{Roots, locator-of, locator-of-degree, locator-of-constant, locator-of-roots}
+use Rattle.frame.proofs.Words.{Outside}
 use Rattle.field.proofs.Bridge.{res-one}
 use Rattle.field.proofs.Prime257.{prime-257}
 use Rattle.frame.specs.Frame.{sequences, Codeword, differs, distance}

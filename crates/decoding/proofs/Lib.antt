@@ -1,3 +1,4 @@
+pub mod ColumnRoots
 pub mod CompletedCodeword
 pub mod DamageRegister
 pub mod FrameRegister
@@ -8,4 +9,3 @@ pub mod Recurrence
 pub mod RepairedFrame
 pub mod SameSums
 pub mod SoleNearest
-pub mod Support

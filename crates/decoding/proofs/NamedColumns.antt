@@ -19,7 +19,7 @@ use Rattle.columns.proofs.Listing.{count-skip, length-listed}
 use Rattle.columns.proofs.Marks.{has-columnsOf, has-past, columnsOf-sound, members-columnsOf}
 use Rattle.decoding.specs.Locating.{named, namedColumns, namesAll}
 use Rattle.decoding.proofs.FrameSums.{poly257, columns-distinct, columns-nonzero}
-use Rattle.decoding.proofs.Support.{Roots, roots-at-most}
+use Rattle.decoding.proofs.ColumnRoots.{Roots, roots-at-most}
 use Rattle.field.specs.Coefficients.{value}
 use Rattle.field.specs.Residue.{inverse}
 use Rattle.field.proofs.Bridge.{res-zero, res-one, res-inverse}

@@ -18,7 +18,7 @@ use Rattle.decoding.proofs.FrameSums.{poly257, columns-distinct, column
 use Rattle.decoding.proofs.Recurrence.{generates-roots}
 use Rattle.decoding.proofs.RepairedFrame.{cell-below}
 use Rattle.decoding.proofs.SoleNearest.{legal-at-size, nearest-only}
-use Rattle.decoding.proofs.Support.{Roots, roots-at-most, roots-same}
+use Rattle.decoding.proofs.ColumnRoots.{Roots, roots-at-most, roots-same}
 use Rattle.field.proofs.Bridge.{res-one}
 use Rattle.field.proofs.Prime257.{prime-257}
 use Rattle.frame.specs.Frame.{cell, sequences, WellFormed, Legal, differs, distance}

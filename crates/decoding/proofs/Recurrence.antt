@@ -19,7 +19,8 @@ use Rattle.algebra.proofs.RingLaws.{zero-mul, mul-zero, one-mul}
 use Rattle.algebra.proofs.Sums.{sum-zeros, sum-head}
 use Rattle.columns.specs.Listed.{count}
 use Rattle.columns.proofs.Listing.{by-test}
-use Rattle.decoding.proofs.Support.{Outside, Roots, word-zero}
+use Rattle.decoding.proofs.ColumnRoots.{Roots}
+use Rattle.frame.proofs.Words.{Outside, word-zero}
 
 module _ (F : Field) (n : ℕ) (X : ℕ → F .ring .car) (distinct : Distinct (F .ring) n X) (nonzero : Nonzero (F .ring) n X)
     (P : ℕ → Bool) (e S : ℕ → F .ring .car) (outside : Outside (F .ring) n P e) (N : ℕ)

@@ -1,32 +1,22 @@
--- Words on the columns 0 .. n − 1 that vanish outside a set P of columns. Their power sums at as many exponents as P has columns, following one another
--- from any start, are 0 only for the zero word (Vandermonde). A polynomial of constant term 1 has no more roots at the columns of P than its degree; where it
--- has as many they determine it, and it is the locator polynomial of P.
+-- Roots at the columns of a set P. A polynomial of constant term 1 has no more roots at the columns of P than its degree; where it has as many they
+-- determine it, and it is the locator polynomial of P.
 -- Assumes nothing.
 use mathlib.Core.Path.{_≡_, sym, ap, _∙_}
-use mathlib.Core.Bool.{Bool, true, false}
+use mathlib.Core.Bool.{Bool, true}
 use mathlib.Core.List.{List}
-use mathlib.Core.Logic.{_⊎_, inl, inr}
-use Prim.Native.Nat.{ℕ, _+_, _≤_, _<_}
+use Prim.Native.Nat.{ℕ, _≤_, _<_}
 use native.Mathlib.Decide.{decLt}
 use native.Mathlib.Omega.{arith}
 use lib.ListN.{length, getD}
 use Rattle.algebra.specs.Ring.{CRing, Field}
-use Rattle.algebra.specs.Sum.{sum, pow}
 use Rattle.algebra.specs.Polynomial.{Degree, eval}
 use Rattle.algebra.specs.Locator.{Distinct, Nonzero, locator}
-use Rattle.algebra.proofs.RingLaws.{zero-mul}
 use Rattle.algebra.proofs.Roots.{roots-zero, roots-unique}
 use Rattle.algebra.proofs.LocatorLaws.{locator-constant, locator-degree, locator-root, inverses-distinct}
-use Rattle.algebra.proofs.Vandermonde.{weights-unique}
 use Rattle.columns.specs.Listed.{count, listed}
-use Rattle.columns.proofs.Listing.{count-lt, listed-at, entry, by-test}
-use Rattle.frame.proofs.Members.{sum-listed}
+use Rattle.columns.proofs.Listing.{count-lt, listed-at, entry}
 use Rattle.lists.specs.Tabulate.{tabulate}
 use Rattle.lists.proofs.Tabulated.{length-tabulate, getD-tabulate}
-
--- f vanishes at the columns below n outside P
-abbrev pub Outside : (R : CRing) (n : ℕ) (P : ℕ → Bool) (f : ℕ → R .car) → Type 0
-Outside R n P f = (i : ℕ) → i < n → P i ≡ false → f i ≡ R .zero
 
 -- f, of degree at most l, vanishes at the inverses of the elements X i of the columns i of P
 abbrev pub Roots : (F : Field) (n : ℕ) (X : ℕ → F .ring .car) (P : ℕ → Bool) (l : ℕ) (f : ℕ → F .ring .car) → Type 0
@@ -50,19 +40,6 @@ module _ (F : Field) (n : ℕ) (X : ℕ → F .ring .car) (distinct : Distinct (
   chosen-nonzero : Nonzero R (count n P) chosen
   unfolding chosen
   chosen-nonzero i h = nonzero _ (entry n P i h .below)
-
-  pub word-zero : (e : ℕ → car) → Outside R n P e → (b : ℕ)
-      → ((j : ℕ) → j < count n P → sum R n (λ i. e i ⊗ pow R (X i) (b + j)) ≡ 𝟘) → (i : ℕ) → i < n → e i ≡ 𝟘
-  unfolding chosen
-  word-zero e z b sums i h = pick (by-test (P i))
-    where
-      pick : (P i ≡ true) ⊎ (P i ≡ false) → e i ≡ 𝟘
-      pick (inr out) = z i h out
-      pick (inl mem) =
-          ap e (sym (listed-at i n P h mem))
-          ∙ weights-unique F (count n P) chosen chosen-distinct chosen-nonzero b (λ k. e (getD (listed n P) k 0))
-          (λ j l. sym (sum-listed R n P (λ i. e i ⊗ pow R (X i) (b + j)) (λ k g out. ap (λ x. x ⊗ pow R (X k) (b + j)) (z k g out) ∙ zero-mul R _)) ∙ sums j l)
-          (count i P) (count-lt i n P h mem)
 
   module _ (l : ℕ) (f : ℕ → car) (degree : Degree R l f) (constant : f 0 ≡ 𝟙) (roots : Roots F n X P l f) where
     root : (k : ℕ) → k < count n P → eval R l f (inv (chosen k)) ≡ 𝟘
