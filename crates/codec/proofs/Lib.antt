@@ -1,7 +1,11 @@
 pub mod Accumulation
+pub mod Division
 pub mod Held
-pub mod PowerTable
-pub mod RowPlace
+pub mod LocatorBuilding
 pub mod LocatorOrder
 pub mod Multiplication
-pub mod LocatorBuilding
+pub mod PowerTable
+pub mod Quotient
+pub mod ReadOff
+pub mod RowPlace
+pub mod WeightTable

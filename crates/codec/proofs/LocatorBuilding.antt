@@ -44,7 +44,7 @@ polynomial-below [] zero = lit< tt
 polynomial-below [] (suc k) = lit< tt
 polynomial-below (i ∷ is) k = reduced-below _ (locatorPolynomial is) (locatorOf i) k
 
-zeros : (n k : ℕ) → getD {A = ℕ} (replicate n 0) k 0 ≡ 0
+pub zeros : (n k : ℕ) → getD {A = ℕ} (replicate n 0) k 0 ≡ 0
 zeros zero k = refl
 zeros (suc n) zero = refl
 zeros (suc n) (suc k) = zeros n k

@@ -18,12 +18,15 @@ unfoldable pub carried : (f : List ℕ) (x k : ℕ) → ℕ
 carried f x zero = 0
 carried f x (suc k) = (getD f k 0 + x * carried f x k) % 257
 
--- Coefficient k of column i in a set of m columns, given the locator polynomial λ of the others: −λ_k / (weight of i in S_m · λ(1 / X_i)). The symbol
--- at i is the sum of coefficient k times S_(m − k) over k below m.
+-- What the coefficients of column i in a set of m columns are multiples of, given the locator polynomial λ of the others: minus the inverse of the weight
+-- of i in S_m times λ(1 / X_i).
+unfoldable pub factorOf : (m i : ℕ) (others : List ℕ) → ℕ
+factorOf m i others =
+    minus 257 0 (inverse 257 (times 257 (weight i m % 257) (value 257 others (inverse 257 (locatorOf i)))))
+
+-- Coefficient k of column i. The symbol at i is the sum of coefficient k times S_(m − k) over k below m.
 unfoldable pub readOff : (m i : ℕ) (others : List ℕ) (k : ℕ) → ℕ
-readOff m i others k =
-    let scale : ℕ = times 257 (weight i m % 257) (value 257 others (inverse 257 (locatorOf i))) in
-    times 257 (getD others k 0) (minus 257 0 (inverse 257 scale))
+readOff m i others k = times 257 (getD others k 0) (factorOf m i others)
 
 unfoldable pub coefficient : (J : Columns) (i k : ℕ) → ℕ
 coefficient J i k = readOff (length (members J)) i (locatorPolynomial (without i (members J))) k

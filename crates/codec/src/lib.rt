@@ -3,3 +3,4 @@ pub mod locator;
 pub mod powers;
 pub mod sums;
 pub mod values;
+pub mod weights;
