@@ -15,8 +15,8 @@ use Rattle.job.specs.Calls.{Call, shape, encode, locate, repair, Outcome
 use Rattle.job.specs.Demands.{run, runFrom}
 use Rattle.job.specs.Job.{emptyJob, shapedJob, sound, phaseSound, findingsSound, isEmpty, isEmptyPhase}
 use Rattle.job.specs.declared.Job.{Job}
-use Rattle.job.specs.declared.Phase.{Phase}
 use Rattle.job.specs.declared.Phase.the-variants.{Empty, Shaped, Located}
+use Rattle.job.specs.declared.Phase.{Phase}
 use Rattle.job.proofs.Cases.{by-shape, by-encode, by-locate, by-repair}
 
 -- a frame that locate takes

@@ -12,21 +12,21 @@ use Rattle.decoding.specs.Locating.{sizeOf, tapsOf, aloneOf, rowsReach, namesAl
 use Rattle.decoding.proofs.FrameRegister.{register-of-frame, same-size, alone-marked}
 use Rattle.decoding.proofs.SoleNearest.{legal-at-size, mended-legal, mended-distance, mended-differing}
 use Rattle.frame.specs.Frame.{WellFormed, sequences, frameTests}
-use Rattle.frame.proofs.Reasons.{frame-passes, well-formed-passes}
 use Rattle.frame.specs.Shape.{isShape, checksOf}
 use Rattle.frame.specs.declared.Shape.{Shape}
+use Rattle.frame.proofs.Reasons.{frame-passes, well-formed-passes}
 use Rattle.lists.proofs.Tabulated.{every-of}
 use Rattle.refusal.proofs.Orders.{Pass, pass-otherwise}
 use Rattle.register.specs.Register.{Shortest, Alone}
 use Rattle.job.specs.Calls.{locate, refused, refusing, step, locateCall, registerTests, locates}
-use Rattle.job.specs.Job.{locatedJob, isEmpty}
-use Rattle.job.specs.declared.Job.{Job}
 use Rattle.job.specs.Demands.{IsRefused, Found}
+use Rattle.job.specs.Job.{locatedJob, isEmpty}
 use Rattle.job.specs.Refusals.{LegalAt}
+use Rattle.job.specs.declared.Job.{Job}
+use Rattle.job.proofs.AfterRefusal.{never-columns}
 use Rattle.job.proofs.Cases.{earlyTests, locate-passes}
 use Rattle.job.proofs.Forms.{Locates, has-shape, register-passes}
 use Rattle.job.proofs.Soundness.{marked-number}
-use Rattle.job.proofs.AfterRefusal.{never-columns}
 
 module _ (j : Job) (f : List ℕ) (not-empty : isEmpty j ≡ false) where
   abbrev s : Shape

@@ -21,12 +21,12 @@ use Rattle.lists.proofs.Tabulated.{every-at, every-witness}
 use Rattle.refusal.proofs.Orders.{Says, SayAll, says-not, say-append}
 use Rattle.register.specs.EachRound.{IsShortest}
 use Rattle.register.specs.Register.{Generator}
-use Rattle.job.specs.Calls.{shape, repair, emptyTest, repairTests, sameSums}
+use Rattle.job.specs.Calls.{repair, emptyTest, repairTests, sameSums}
 use Rattle.job.specs.Job.{sound, isEmpty, isEmptyPhase, isLocatedPhase}
 use Rattle.job.specs.Refusals.{LegalAt, emptyReason, notAloneReason, shortRowReason, noFrameReason, SumsDiffer, reasons}
 use Rattle.job.specs.declared.Job.{Job}
-use Rattle.job.specs.declared.Phase.{Phase}
 use Rattle.job.specs.declared.Phase.the-variants.{Empty, Shaped, Located}
+use Rattle.job.specs.declared.Phase.{Phase}
 
 pub empty-says : (j : Job) → Says (emptyTest j) (emptyReason j)
 unfolding isEmpty

@@ -18,9 +18,9 @@ use Rattle.job.specs.Calls.{Call, shape, encode, locate, repair, refused
 use Rattle.job.specs.Job.{shapedJob}
 use Rattle.job.specs.Refusals.{emptyReason, notAloneReason, shortRowReason, noFrameReason, registerReasons, reasons, Demand1}
 use Rattle.job.specs.declared.Job.{Job}
+use Rattle.job.proofs.AfterRefusal.{same-number, never-done, never-columns, left}
 use Rattle.job.proofs.Cases.{earlyTests}
 use Rattle.job.proofs.Forms.{has-shape}
-use Rattle.job.proofs.AfterRefusal.{same-number, never-done, never-columns, left}
 use Rattle.job.proofs.Reasons.{empty-says, repair-says, not-alone-says, short-row-says, no-frame-says}
 
 module _ (j : Job) (k : ℕ) where

@@ -23,8 +23,8 @@ use Rattle.job.specs.Calls.{Call, shape, encode, locate, repair, Outcome
 use Rattle.job.specs.Demands.{run, runFrom, lastShape, lastShapeFrom, heldShape, Reached}
 use Rattle.job.specs.Job.{emptyJob, shapedJob, locatedJob, nothing, sound, phaseSound, findingsSound, isEmpty, isEmptyPhase, isLocatedPhase}
 use Rattle.job.specs.declared.Job.{Job}
-use Rattle.job.specs.declared.Phase.{Phase}
 use Rattle.job.specs.declared.Phase.the-variants.{Empty, Shaped, Located}
+use Rattle.job.specs.declared.Phase.{Phase}
 use Rattle.job.proofs.Cases.{by-encode, by-locate, by-repair}
 use Rattle.job.proofs.Forms.{Locates, Form, empty, shaped, located, run-form}
 
