@@ -1,4 +1,6 @@
 // The refusals that the calls of the library answer, one name for each number of document 01.
+ghost use mathlib.Core.Path.{_≡_};
+ghost use Rattle.refusal.specs.Number.{number};
 
 pub enum Refusal {
     Modulus,
@@ -22,4 +24,27 @@ pub enum Refusal {
 pub enum Verdict {
     Pass,
     Refuse(Refusal),
+}
+
+// The number that document 01 gives a refusal.
+pub fn number_of(r: Refusal) -> u32
+    ensures { λ k. ⌜ k ≡ number r ⌝ }
+{
+    match r {
+        Refusal::Modulus => 1,
+        Refusal::Count => 2,
+        Refusal::Lengths => 3,
+        Refusal::Symbol => 4,
+        Refusal::Columns => 5,
+        Refusal::Checks => 6,
+        Refusal::FrameSize => 7,
+        Refusal::TapBuffer => 8,
+        Refusal::BadRecord => 9,
+        Refusal::Empty => 21,
+        Refusal::NotLocated => 22,
+        Refusal::SumsDiffer => 23,
+        Refusal::NotAlone => 24,
+        Refusal::ShortRow => 25,
+        Refusal::NoFrame => 26,
+    }
 }
