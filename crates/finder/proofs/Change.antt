@@ -73,7 +73,7 @@ savedOf g saved h =
       taps = take (suc (getD (g .sizes) h 0)) (block h saved);
     }
 
-saved-path : {v w : Saved} → v .place ≡ w .place → v .size ≡ w .size → v .disc ≡ w .disc → v .taps ≡ w .taps → v ≡ w
+pub saved-path : {v w : Saved} → v .place ≡ w .place → v .size ≡ w .size → v .disc ≡ w .disc → v .taps ≡ w .taps → v ≡ w
 saved-path a b c t = λ i. record { place = a i; size = b i; disc = c i; taps = t i }
 
 replaced-there : (saved : ℕ → Saved) (h : ℕ) (v : Saved) → replaced saved h v h ≡ v

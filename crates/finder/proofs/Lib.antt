@@ -1,9 +1,13 @@
+pub mod Agreement
 pub mod Blocks
 pub mod Change
 pub mod Checks
 pub mod Discrepancies
 pub mod Insertion
 pub mod Largest
+pub mod Marking
 pub mod Reduction
+pub mod Running
 pub mod Sorting
+pub mod Starting
 pub mod Steps

@@ -2,3 +2,4 @@ pub mod Demands
 pub mod Finder
 pub mod Places
 pub mod Progress
+pub mod Rounds

@@ -3,6 +3,7 @@ mod check;
 mod discrepancy;
 mod find;
 mod reduce;
+mod rounds;
 mod sort;
 mod step;
 

@@ -1,0 +1,82 @@
+-- The struct and the arrays before the first round hold the state that Algorithm 4 starts with. Assumes nothing.
+use mathlib.Core.Path.{_≡_, refl, sym, ap, subst, _∙_}
+use mathlib.Core.List.{List, [], _∷_}
+use Prim.Native.Nat.{ℕ, suc, _+_, _-_, _*_, _<_}
+use native.Mathlib.Nat.{not-suc-le-zero}
+use native.Mathlib.Omega.{arith}
+use borrow.Author.Count.{below-more}
+use lib.ListN.{length, getD, take, drop, set, replicate, length-take, length-drop, length-set, length-replicate, getD-replicate}
+use lib.Seq.{getD-set-same, getD-set-other, take-suc}
+use Rattle.lists.proofs.Entries.{getD-part}
+use Rattle.lists.proofs.Joined.{replicate-each}
+use Rattle.register.specs.Algorithm4.{start}
+use Rattle.finder.specs.Places.{sequencesAt}
+use Rattle.finder.specs.Progress.{block, stateOf}
+use Rattle.finder.specs.Rounds.{Running, Reached, Started}
+use Rattle.finder.specs.declared.Order.{Order}
+use Rattle.finder.specs.declared.Progress.{Progress}
+use Rattle.finder.proofs.Change.{saved-path}
+use Rattle.finder.proofs.Insertion.{length-within}
+use Rattle.finder.proofs.Running.{sequence-at}
+
+-- ---- the struct
+
+pub none-set : (N : ℕ) (o : Order) → Started N o 0 (record { length = 0; places = replicate 8 0; sizes = replicate 8 0; discs = replicate 8 1 })
+none-set N o =
+    record { length = refl; place = λ h b. absurd (not-suc-le-zero b); size = λ h b. getD-replicate 8 h 0 0 b; disc = λ h b. getD-replicate 8 h 1 0 b }
+
+-- the struct with the place of sequence h set
+abbrev pub placing : (N : ℕ) → Order → ℕ → Progress → Progress
+placing N o h g = record { length = g .length; places = set (g .places) h (N - getD (o .lengths) h 0); sizes = g .sizes; discs = g .discs }
+
+pub one-set : {N : ℕ} {o : Order} {h : ℕ} {g : Progress} → Started N o h g → length (g .places) ≡ 8 → h < 8 → Started N o (h + 1) (placing N o h g)
+one-set {N} {o} {h} {g} s room b =
+    record {
+      length = s .length;
+      place = below-more _ h
+          (λ k less. getD-set-other (g .places) h k (N - getD (o .lengths) h 0) 0 (λ e. omega (arith, e)) ∙ s .place k less)
+          (getD-set-same (g .places) h (N - getD (o .lengths) h 0) 0 (omega arith));
+      size = s .size;
+      disc = s .disc;
+    }
+
+pub all-set : (h k : ℕ) {N : ℕ} {o : Order} {g : Progress} → h ≡ k → Started N o h g → Started N o k g
+all-set h k {N} {o} {g} all = subst (λ (m : ℕ). Started N o m g) all
+
+-- ---- the arrays
+
+-- the taps of the register of length 0, and the saved registers that are 0
+abbrev pub one-tap : List ℕ
+one-tap = set (replicate 129 0) 0 1
+
+abbrev pub no-taps : List ℕ
+no-taps = replicate 1032 0
+
+zero-block : (h : ℕ) → h < 8 → take 1 (block h no-taps) ≡ 0 ∷ []
+zero-block h b =
+    take-suc (block h no-taps) 0 0 (omega (arith, length-take 129 (drop (h * 129) no-taps), length-drop (h * 129) no-taps, length-replicate {A = ℕ} 1032 0))
+    ∙ ap (λ (x : ℕ). x ∷ []) (getD-part (h * 129) 129 no-taps 0 0 (omega arith) ∙ getD-replicate 1032 (h * 129 + 0) 0 0 (omega arith))
+
+module _ {p N : ℕ} {o : Order} {k : ℕ} {symbols : List ℕ} (r : Running p N o k symbols) {g : Progress} (s : Started N o k g) where
+  saved-start : (h : ℕ) → h < k → stateOf g one-tap no-taps .saved h ≡ start N (sequencesAt o k symbols) .saved h
+  unfolding stateOf start
+  saved-start h b =
+      let small : h < 8 = omega (arith, r .count) in
+      saved-path
+      (s .place h b ∙ ap (λ (n : ℕ). N - n) (sym (ap length (sequence-at o k symbols h b) ∙ length-within (getD (o .starts) h 0) (getD (o .lengths) h 0) symbols (r .within h b))))
+      (s .size h small)
+      (s .disc h small)
+      (ap (λ (n : ℕ). take (suc n) (block h no-taps)) (s .size h small) ∙ zero-block h small)
+
+  pub reached-start : Reached k (start N (sequencesAt o k symbols)) g one-tap no-taps
+  unfolding stateOf start
+  reached-start =
+      record {
+        state = record { size = s .length; taps = ap (λ (n : ℕ). take (suc n) one-tap) (s .length); saved = saved-start };
+        ended =
+            record {
+              width = length-set {A = ℕ} (replicate 129 0) 0 1 ∙ length-replicate {A = ℕ} 129 0;
+              saved-width = length-replicate {A = ℕ} 1032 0;
+              zeros = λ i past. getD-set-other {A = ℕ} (replicate 129 0) 0 i 1 0 (λ e. omega (arith, e)) ∙ replicate-each (λ (x : ℕ). x ≡ 0) 0 refl 129 i;
+            };
+      }

@@ -1,0 +1,111 @@
+-- `alone` answers the alone mark. The invariant: no sequence passed has a part that is free. Assumes nothing.
+use mathlib.Core.Path.{_≡_}
+use mathlib.Core.Bool.{true}
+use Prim.Native.Nat.{_-_, _≤_}
+use native.Mathlib.Omega.{arith}
+use borrow.Author.Needs.{needs}
+use lib.ListN.{getD}
+use Rattle.finder.specs.Rounds.{aloneMark}
+use Rattle.finder.proofs.Marking.{mark-none, mark-more, mark-fails, mark-all}
+use mir.Syntax.{w16}
+use mir.Val.{Fits}
+use Rattle.finder.proofs.rounds.alone.Statement.{statement}
+use Rattle.finder.proofs.rounds.alone.Tie as tie
+
+abbrev Inv-loop : tie.InvT-loop
+Inv-loop longest count order g l h₀ h =
+    (h ≤ count) × (aloneMark longest order h g ≡ true)
+
+abbrev μ-loop : tie.MeasureT-loop
+μ-loop longest count order g l h₀ h = count - h
+
+loop-holds : tie.Need-loop-holds Inv-loop μ-loop
+loop-holds c = (search needs, mark-none _ _ _)
+
+mul-place : tie.Need-mul-place Inv-loop μ-loop
+mul-place c = search needs
+
+element-copy-out-place : tie.Need-element-copy-out-place Inv-loop μ-loop
+element-copy-out-place c = search needs
+
+cast-place : tie.Need-cast-place Inv-loop μ-loop
+cast-place c = search needs
+
+mul-size : tie.Need-mul-size Inv-loop μ-loop
+mul-size c = search needs
+
+element-copy-out-size : tie.Need-element-copy-out-size Inv-loop μ-loop
+element-copy-out-size c = search needs
+
+cast-size : tie.Need-cast-size Inv-loop μ-loop
+cast-size c = search needs
+
+mul-smaller : tie.Need-mul-smaller Inv-loop μ-loop
+mul-smaller c = search needs
+
+element-copy-out-smaller : tie.Need-element-copy-out-smaller Inv-loop μ-loop
+element-copy-out-smaller c = search needs
+
+cast-smaller : tie.Need-cast-smaller Inv-loop μ-loop
+cast-smaller c = search needs
+
+smaller-requires : tie.Need-smaller-requires Inv-loop μ-loop
+smaller-requires c κs = search needs
+
+add-if1 : tie.Need-add-if1 Inv-loop μ-loop
+add-if1 c =
+    let small : Fits w16 (getD (c .before .before .before .before .before .before .args .t4 .places) (c .before .before .before .before .before .loop .h) 0) = search needs in
+    omega (arith, c .smaller .ensures)
+
+add-if1-2 : tie.Need-add-if1-2 Inv-loop μ-loop
+add-if1-2 c =
+    let small : Fits w16 (getD (c .before .before .before .before .before .before .args .t4 .sizes) (c .before .before .before .before .before .loop .h) 0) = search needs in
+    omega (arith, c .smaller .ensures)
+
+returns : tie.Need-returns Inv-loop μ-loop
+returns c =
+    let at = c .before .before .before .before .before .before .loop in
+    let args = c .before .before .before .before .before .before .before .args in
+    let pre = c .before .before .before .before .before .before .before .pre in
+    mark-fails (args .longest) (args .t2) (args .t4) (at .h) _ (pre .2) (pre .3 (at .h) (search needs)) (c .before .smaller .ensures) (args .count) (search needs) (c .if1 .taken)
+
+add-h : tie.Need-add-h Inv-loop μ-loop
+add-h c = search needs
+
+loop-less : tie.Need-loop-less Inv-loop μ-loop
+loop-less c = search needs
+
+loop-again : tie.Need-loop-again Inv-loop μ-loop
+loop-again c =
+    let at = c .before .before .before .before .before .before .loop in
+    let args = c .before .before .before .before .before .before .before .args in
+    let pre = c .before .before .before .before .before .before .before .pre in
+    (search needs, mark-more (args .longest) (args .t2) (args .t4) (at .h) _ (pre .2) (pre .3 (at .h) (search needs)) (c .before .smaller .ensures) (at .inv .1) (c .if1 .left))
+
+returns-2 : tie.Need-returns-2 Inv-loop μ-loop
+returns-2 c = mark-all _ _ _ _ _ (c .before .loop .inv .1) (omega arith)
+
+pub alone-spec : {M : Type 1} → statement M
+alone-spec =
+    tie.close
+    (tie.spec
+    Inv-loop
+    μ-loop
+    loop-holds
+    mul-place
+    element-copy-out-place
+    cast-place
+    mul-size
+    element-copy-out-size
+    cast-size
+    mul-smaller
+    element-copy-out-smaller
+    cast-smaller
+    smaller-requires
+    add-if1
+    add-if1-2
+    returns
+    add-h
+    loop-less
+    loop-again
+    returns-2)

@@ -1,0 +1,102 @@
+-- `round` makes a round of Algorithm 4. The invariant: the sequences passed have had their step. Assumes nothing.
+use Prim.Native.Nat.{_+_, _-_, _≤_}
+use native.Mathlib.Omega.{arith}
+use borrow.Author.Needs.{needs}
+use Rattle.register.specs.Algorithm4.{turn, rounds}
+use Rattle.finder.specs.Places.{sequencesAt}
+use Rattle.finder.specs.Rounds.{Reached}
+use Rattle.finder.proofs.Running.{ready, stepped, round-begins, round-ends}
+use Rattle.finder.proofs.rounds.round.Statement.{statement}
+use Rattle.finder.proofs.rounds.round.Tie as tie
+
+abbrev Inv-loop : tie.InvT-loop
+Inv-loop p longest symbols count n taps₀ saved₀ order state₀ h₀ taps saved state h =
+    (h ≤ count) × Reached count (turn p longest (sequencesAt order count symbols) (n + 1) h (rounds p longest (sequencesAt order count symbols) n)) state taps saved
+
+abbrev μ-loop : tie.MeasureT-loop
+μ-loop p longest symbols count n taps₀ saved₀ order state₀ h₀ taps saved state h = count - h
+
+loop-holds : tie.Need-loop-holds Inv-loop μ-loop
+loop-holds c = (search needs, round-begins (c .before .pre .0) _ (c .before .pre .1 .1))
+
+mul-a : tie.Need-mul-a Inv-loop μ-loop
+mul-a c = search needs
+
+element-copy-out-a : tie.Need-element-copy-out-a Inv-loop μ-loop
+element-copy-out-a c = search needs
+
+cast-a : tie.Need-cast-a Inv-loop μ-loop
+cast-a c = search needs
+
+mul-e : tie.Need-mul-e Inv-loop μ-loop
+mul-e c = search needs
+
+element-copy-out-e : tie.Need-element-copy-out-e Inv-loop μ-loop
+element-copy-out-e c = search needs
+
+cast-e : tie.Need-cast-e Inv-loop μ-loop
+cast-e c = search needs
+
+add-e : tie.Need-add-e Inv-loop μ-loop
+add-e c = omega (arith, c .before .before .before .before .before .pre .0 .within (c .before .before .before .loop .h) (search needs))
+
+mul-step : tie.Need-mul-step Inv-loop μ-loop
+mul-step c = omega (arith, c .before .before .before .before .before .pre .0 .within (c .before .before .before .loop .h) (search needs))
+
+sub-step : tie.Need-sub-step Inv-loop μ-loop
+sub-step c = search needs
+
+part-step-start : tie.Need-part-step-start Inv-loop μ-loop
+part-step-start c = search needs
+
+part-step-end : tie.Need-part-step-end Inv-loop μ-loop
+part-step-end c = omega (arith, c .before .before .before .before .before .pre .0 .within (c .before .before .before .loop .h) (search needs))
+
+add-step : tie.Need-add-step Inv-loop μ-loop
+add-step c = search needs
+
+step-requires : tie.Need-step-requires Inv-loop μ-loop
+step-requires c κs =
+    let at = c .before .before .before .before .before .before .loop in
+    let pre = c .before .before .before .before .before .before .before .before .pre in
+    (ready (pre .0) (pre .1 .0) (search needs) (at .inv .1), at .inv .1 .ended)
+
+add-h : tie.Need-add-h Inv-loop μ-loop
+add-h c = search needs
+
+loop-less : tie.Need-loop-less Inv-loop μ-loop
+loop-less c = search needs
+
+loop-again : tie.Need-loop-again Inv-loop μ-loop
+loop-again c =
+    let at = c .before .before .before .before .before .before .before .loop in
+    let pre = c .before .before .before .before .before .before .before .before .before .pre in
+    (search needs, stepped (pre .0) (pre .1 .0) (search needs) (at .inv .1) (c .step .ensures))
+
+returns : tie.Need-returns Inv-loop μ-loop
+returns c = round-ends (c .before .before .before .pre .0) _ _ (omega arith) (c .before .loop .inv .1)
+
+pub round-spec : {M : Type 1} → statement M
+round-spec =
+    tie.close
+    (tie.spec
+    Inv-loop
+    μ-loop
+    loop-holds
+    mul-a
+    element-copy-out-a
+    cast-a
+    mul-e
+    element-copy-out-e
+    cast-e
+    add-e
+    mul-step
+    sub-step
+    part-step-start
+    part-step-end
+    add-step
+    step-requires
+    add-h
+    loop-less
+    loop-again
+    returns)

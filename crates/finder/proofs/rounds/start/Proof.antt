@@ -1,0 +1,69 @@
+-- `start` sets the places of the struct. The invariant: those of the sequences passed are set. Assumes nothing.
+use mathlib.Core.Path.{_≡_, refl, _∙_}
+use Prim.Native.Nat.{_-_, _≤_}
+use native.Mathlib.Omega.{arith}
+use borrow.Author.Needs.{needs}
+use lib.ListN.{length, length-set}
+use Rattle.finder.specs.Rounds.{Started}
+use Rattle.finder.proofs.Starting.{none-set, one-set, all-set}
+use Rattle.finder.proofs.rounds.start.Statement.{statement}
+use Rattle.finder.proofs.rounds.start.Tie as tie
+
+abbrev Inv-loop : tie.InvT-loop
+Inv-loop longest count order g₀ h₀ g h = (h ≤ count) × (length (g .places) ≡ 8) × Started longest order h g
+
+abbrev μ-loop : tie.MeasureT-loop
+μ-loop longest count order g₀ h₀ g h = count - h
+
+loop-holds : tie.Need-loop-holds Inv-loop μ-loop
+loop-holds c = (search needs, refl, none-set _ _)
+
+cast-g : tie.Need-cast-g Inv-loop μ-loop
+cast-g c = search needs
+
+mul-g : tie.Need-mul-g Inv-loop μ-loop
+mul-g c = search needs
+
+element-copy-out-g : tie.Need-element-copy-out-g Inv-loop μ-loop
+element-copy-out-g c = search needs
+
+sub-g : tie.Need-sub-g Inv-loop μ-loop
+sub-g c = c .before .before .before .pre .2 (c .before .before .loop .h) (search needs)
+
+mul-g-2 : tie.Need-mul-g-2 Inv-loop μ-loop
+mul-g-2 c = search needs
+
+element-write-g : tie.Need-element-write-g Inv-loop μ-loop
+element-write-g c = search needs
+
+add-h : tie.Need-add-h Inv-loop μ-loop
+add-h c = search needs
+
+loop-less : tie.Need-loop-less Inv-loop μ-loop
+loop-less c = search needs
+
+loop-again : tie.Need-loop-again Inv-loop μ-loop
+loop-again c =
+    let at = c .before .before .loop in
+    (search needs, length-set (at .g .places) (at .h) _ ∙ at .inv .1, one-set (at .inv .2) (at .inv .1) (search needs))
+
+returns : tie.Need-returns Inv-loop μ-loop
+returns c = all-set _ _ (omega arith) (c .before .loop .inv .2)
+
+pub start-spec : {M : Type 1} → statement M
+start-spec =
+    tie.close
+    (tie.spec
+    Inv-loop
+    μ-loop
+    loop-holds
+    cast-g
+    mul-g
+    element-copy-out-g
+    sub-g
+    mul-g-2
+    element-write-g
+    add-h
+    loop-less
+    loop-again
+    returns)

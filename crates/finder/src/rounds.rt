@@ -1,0 +1,108 @@
+// The rounds of Algorithm 4: its start, each round, all of them, and the alone mark at the end.
+use crate::Order;
+use crate::Progress;
+use crate::step::step;
+ghost use mathlib.Core.Path.{_≡_};
+ghost use Prim.Native.Nat.{ℕ, _+_, _≤_, _<_, min};
+ghost use lib.ListN.{getD};
+ghost use Rattle.register.specs.Algorithm4.{start as startState, rounds as roundsOf};
+ghost use Rattle.finder.specs.Places.{sequencesAt};
+ghost use Rattle.finder.specs.Rounds.{Running, Reached, Started, aloneMark};
+
+pub fn start(longest: usize, order: Order, count: usize) -> Progress
+    requires { ⌜ (longest ≤ 128) × (count ≤ 8) × ((h : ℕ) → h < count → getD (order .lengths) h 0 ≤ longest) ⌝ }
+    ensures { λ r. ⌜ Started longest order count r ⌝ }
+{
+    let zeros = [0u16; 8];
+    let ones = [1u16; 8];
+    let mut g = Progress {
+        length: 0,
+        places: zeros,
+        sizes: zeros,
+        discs: ones,
+    };
+    let mut h = 0;
+    while h < count {
+        g.places[h] = longest as u16 - order.lengths[h];
+        h += 1;
+    }
+    g
+}
+
+// Round n + 1: a step for each sequence.
+fn round(
+    p: u32,
+    longest: usize,
+    symbols: &[u16],
+    order: Order,
+    count: usize,
+    n: usize,
+    g: Progress,
+    taps: &mut [u16; 129],
+    saved: &mut [u16; 1032],
+) -> Progress
+    requires { ⌜ Running p longest order count (now symbols) ⌝ }
+    requires { ⌜ n < longest ⌝ }
+    requires { ⌜ Reached count (roundsOf p longest (sequencesAt order count (now symbols)) n) g (now taps) (now saved) ⌝ }
+    ensures { λ r. ⌜ Reached count (roundsOf p longest (sequencesAt order count (now (symbols .entry))) (n + 1)) r (now (taps .exit)) (now (saved .exit)) ⌝ }
+{
+    let mut state = g;
+    let mut h = 0;
+    while h < count {
+        let a = order.starts[h] as usize;
+        let e = a + (order.lengths[h] as usize);
+        state = step(p, longest, &symbols[a..e], n + 1, h, state, taps, saved);
+        h += 1;
+    }
+    state
+}
+
+pub fn rounds(
+    p: u32,
+    longest: usize,
+    symbols: &[u16],
+    order: Order,
+    count: usize,
+    g: Progress,
+    taps: &mut [u16; 129],
+    saved: &mut [u16; 1032],
+) -> Progress
+    requires { ⌜ Running p longest order count (now symbols) ⌝ }
+    requires { ⌜ Reached count (startState longest (sequencesAt order count (now symbols))) g (now taps) (now saved) ⌝ }
+    ensures { λ r. ⌜ Reached count (roundsOf p longest (sequencesAt order count (now (symbols .entry))) longest) r (now (taps .exit)) (now (saved .exit)) ⌝ }
+{
+    let mut state = g;
+    let mut n = 0;
+    while n < longest {
+        state = round(p, longest, symbols, order, count, n, state, taps, saved);
+        n += 1;
+    }
+    state
+}
+
+fn smaller(a: usize, b: usize) -> usize
+    ensures { λ r. ⌜ r ≡ min a b ⌝ }
+{
+    if a <= b {
+        return a;
+    }
+    b
+}
+
+// Of n_h − l_h the part past N − l and past N − N_h would be free. Written without differences: N less the smaller of l and N_h is the larger of the two.
+pub fn alone(longest: usize, order: Order, count: usize, g: Progress) -> bool
+    requires { ⌜ (longest ≤ 128) × (count ≤ 8) × (g .length ≤ longest) × ((h : ℕ) → h < count → getD (order .lengths) h 0 ≤ longest) ⌝ }
+    ensures { λ r. ⌜ r ≡ aloneMark longest order count g ⌝ }
+{
+    let l = g.length;
+    let mut h = 0;
+    while h < count {
+        let place = g.places[h] as usize;
+        let size = g.sizes[h] as usize;
+        if place + smaller(l, order.lengths[h] as usize) > size + longest {
+            return false;
+        }
+        h += 1;
+    }
+    true
+}
