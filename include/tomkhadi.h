@@ -35,8 +35,8 @@ extern "C" {
 /* The shortest register: its length, and 1 where no other taps of that length generate all sequences, else 0. Both are 0 where it is refused. */
 typedef struct {
   uint32_t refusal;
-  uint32_t length;
   uint32_t alone;
+  uint64_t length;
 } tomkhadi_register;
 
 /* Finds the shortest register modulo p of `count` sequences, symbols lent one sequence after the other. The taps go to entries 0 .. length of `taps`;
@@ -44,8 +44,9 @@ typedef struct {
 tomkhadi_register tomkhadi_find(uint32_t p, const uint16_t *lengths, size_t count, const uint16_t *symbols, size_t symbol_count, uint16_t *taps,
                                 size_t tap_count);
 
-/* A job. Treat it as opaque: take it from one call and hand it to the next. A value that no call returned is safe, and one that no call can
- * return counts as empty. phase: 0 empty, 1 shaped, 2 located; any other number counts as empty. */
+/* A job. Treat it as opaque: take it from one call and hand it to the next. phase: 0 empty, 1 shaped, 2 located; any other number counts as empty. A
+ * value that no call returned is safe too: it counts as empty unless its numbers are in their ranges (a shape that is not refused; where it is
+ * located, alone is 1, `length` columns are marked, all below `columns`, no row has fewer checks than `length`, and the sums are below 257). */
 typedef struct {
   uint32_t phase;
   uint32_t alone;
@@ -68,7 +69,7 @@ typedef struct {
  * job. Where it is refused the count is 0 and no column is marked. */
 typedef struct {
   uint32_t refusal;
-  uint32_t count;
+  uint64_t count;
   uint64_t marks[4];
   tomkhadi_job job;
 } tomkhadi_answer;

@@ -25,7 +25,7 @@ impl Flint {
         let length = unsafe { flint_find(symbols.as_ptr(), symbols.len(), taps.as_mut_ptr()) };
         Register {
             refusal: 0,
-            length: length as u32,
+            length: length as u64,
             alone: 1,
         }
     }

@@ -48,7 +48,7 @@ struct Case {
 #[derive(Clone, Copy, Debug, PartialEq)]
 struct Outcome {
     refusal: u32,
-    count: u32,
+    count: u64,
     marks: Marks,
 }
 

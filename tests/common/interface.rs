@@ -13,8 +13,8 @@ pub type Marks = [u64; 4];
 #[derive(Clone, Copy, Debug, PartialEq, Eq)]
 pub struct Register {
     pub refusal: u32,
-    pub length: u32,
     pub alone: u32,
+    pub length: u64,
 }
 
 #[repr(C)]
@@ -42,7 +42,7 @@ pub struct Shaped {
 #[derive(Clone, Copy, Debug, PartialEq, Eq)]
 pub struct Answer {
     pub refusal: u32,
-    pub count: u32,
+    pub count: u64,
     pub marks: Marks,
     pub job: Job,
 }

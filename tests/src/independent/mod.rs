@@ -148,7 +148,7 @@ impl Calls for Independent {
         }
         Register {
             refusal: 0,
-            length: length as u32,
+            length: length as u64,
             alone,
         }
     }
@@ -228,7 +228,7 @@ impl Calls for Independent {
         }
         Answer {
             refusal: 0,
-            count: c as u32,
+            count: c as u64,
             marks,
             job,
         }
@@ -251,7 +251,7 @@ impl Calls for Independent {
         frame.copy_from_slice(&mended(&shape, frame, &columns_of(&job.marks)));
         Answer {
             refusal: 0,
-            count: job.length as u32,
+            count: job.length,
             marks: job.marks,
             job: job.reshaped(),
         }

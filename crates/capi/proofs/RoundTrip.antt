@@ -1,0 +1,17 @@
+-- A job that goes through the C interface and comes back is the same job, whatever it holds. Assumes nothing.
+use mathlib.Core.Path.{_≡_, refl, ap}
+use mathlib.Core.Bool.{true, false}
+use Rattle.job.specs.declared.Job.{Job}
+use Rattle.job.specs.declared.Phase.{Phase}
+use Rattle.job.specs.declared.Phase.the-variants.{Empty, Shaped, Located}
+use Rattle.capi.specs.Mirror.{phaseOf, phaseNumber, phaseLength, phaseAlone, jobOf, mirrorOf}
+
+same-phase : (p : Phase) → phaseOf (phaseNumber p) (phaseLength p) (phaseAlone p) ≡ p
+same-phase Empty = refl
+same-phase Shaped = refl
+same-phase (Located c true) = refl
+same-phase (Located c false) = refl
+
+pub there-and-back : (j : Job) → jobOf (mirrorOf j) ≡ j
+there-and-back j =
+    ap (λ (p : Phase). record { phase = p; shape = j .shape; findings = j .findings }) (same-phase (j .phase))

@@ -1,0 +1,82 @@
+-- How jobs and answers cross the C interface: as structs of numbers and arrays. An exported function can return no enum, so the phase is a number.
+use mathlib.Core.Bool.{Bool, true, false, cond}
+use Prim.Native.Nat.{ℕ}
+use lib.Dec.{eqb}
+use Rattle.finder.specs.Finder as Finder
+use Rattle.job.specs.Calls as Calls
+use Rattle.job.specs.Calls.{Outcome}
+use Rattle.job.specs.declared.Job.{Job}
+use Rattle.job.specs.declared.Phase.{Phase}
+use Rattle.job.specs.declared.Phase.the-variants.{Empty, Shaped, Located}
+use Rattle.capi.specs.declared.CAnswer.{CAnswer}
+use Rattle.capi.specs.declared.CJob.{CJob}
+use Rattle.capi.specs.declared.CRegister.{CRegister}
+use Rattle.capi.specs.declared.CShaped.{CShaped}
+
+-- 1 and 2 are shaped and located; every other number is empty. The register is alone where the mark is 1.
+abbrev pub phaseOf : (phase length alone : ℕ) → Phase
+phaseOf k c a = cond (eqb k 1) Shaped (cond (eqb k 2) (Located c (eqb a 1)) Empty)
+
+abbrev pub jobOf : CJob → Job
+jobOf m =
+    record {
+      phase = phaseOf (m .phase) (m .length) (m .alone);
+      shape = record { rows = m .rows; columns = m .columns; checks = m .checks };
+      findings = record { sums = m .sums; taps = m .taps; columns = record { words = m .marks } };
+    }
+
+abbrev pub markOf : Bool → ℕ
+markOf true = 1
+markOf false = 0
+
+abbrev pub phaseNumber : Phase → ℕ
+phaseNumber Empty = 0
+phaseNumber Shaped = 1
+phaseNumber (Located c a) = 2
+
+abbrev pub phaseLength : Phase → ℕ
+phaseLength Empty = 0
+phaseLength Shaped = 0
+phaseLength (Located c a) = c
+
+abbrev pub phaseAlone : Phase → ℕ
+phaseAlone Empty = 0
+phaseAlone Shaped = 0
+phaseAlone (Located c a) = markOf a
+
+abbrev pub mirrorOf : Job → CJob
+mirrorOf j =
+    record {
+      phase = phaseNumber (j .phase);
+      alone = phaseAlone (j .phase);
+      length = phaseLength (j .phase);
+      rows = j .shape .rows;
+      columns = j .shape .columns;
+      marks = j .findings .columns .words;
+      checks = j .shape .checks;
+      sums = j .findings .sums;
+      taps = j .findings .taps;
+    }
+
+-- the number of a refusal, and 0 where nothing is refused
+abbrev pub refusalOf : Calls.Answer → ℕ
+refusalOf Calls.done = 0
+refusalOf (Calls.columns c) = 0
+refusalOf (Calls.refused k) = k
+
+abbrev pub countOf : Calls.Answer → ℕ
+countOf Calls.done = 0
+countOf (Calls.columns c) = c
+countOf (Calls.refused k) = 0
+
+abbrev pub registerOf : Finder.Answer → CRegister
+registerOf (Finder.register l a) = record { refusal = 0; alone = markOf a; length = l }
+registerOf (Finder.refused k) = record { refusal = k; alone = 0; length = 0 }
+
+abbrev pub shapedOf : Outcome → CShaped
+shapedOf o = record { refusal = refusalOf (o .answer); job = mirrorOf (o .job) }
+
+abbrev pub answeredOf : Outcome → CAnswer
+answeredOf o =
+    record
+    { refusal = refusalOf (o .answer); count = countOf (o .answer); marks = o .marks .words; job = mirrorOf (o .job) }
