@@ -10,10 +10,10 @@ use lib.Seq.{take-at, drop-at}
 use borrow.Rule.Slice.PartMut.{midOf, putMid, mid-len, same-len-mid}
 use Rattle.lists.specs.Tabulate.{tabulate, joined}
 use Rattle.lists.proofs.Joined.{joined-zero, joined-more}
-use Rattle.lists.proofs.Tabulated.{length-tabulate}
 use Rattle.frame.specs.Frame.{row, checkSums, sequences, heldSums}
 use Rattle.frame.specs.Shape.{checksOf}
 use Rattle.frame.specs.declared.Shape.{Shape}
+use Rattle.codec.proofs.RowSums.{length-checkSums}
 use Rattle.codec.proofs.RowPlace.{RowPlace}
 
 zeros : ℕ → List ℕ
@@ -24,10 +24,6 @@ unfolding zeros
 drop-zeros m k =
     let none : ℕ = 0 in
     ap (drop m) (sym (replicate-append-replicate m k none)) ∙ drop-at (zeros m) (zeros k) m (length-replicate m none)
-
-length-checkSums : (n m : ℕ) (x : List ℕ) → length (checkSums n m x) ≡ m
-unfolding checkSums
-length-checkSums n m x = length-tabulate m _
 
 module _ (s : Shape) (f : List ℕ) where
   -- the check sums of row h

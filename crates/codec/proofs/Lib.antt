@@ -7,5 +7,9 @@ pub mod Multiplication
 pub mod PowerTable
 pub mod Quotient
 pub mod ReadOff
+pub mod Reading
 pub mod RowPlace
+pub mod RowSums
+pub mod Symbols
 pub mod WeightTable
+pub mod Writing

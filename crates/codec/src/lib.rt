@@ -1,4 +1,5 @@
 // The encoder and the check sums of frames over the field of 257.
+pub mod complete;
 pub mod locator;
 pub mod powers;
 pub mod sums;

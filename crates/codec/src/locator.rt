@@ -1,6 +1,8 @@
 // The locator polynomial of a set of columns: the product of 1 - 3^i z over its columns i.
-use crate::powers::{entry, wide};
-use columns::{Columns, next};
+use crate::powers::entry;
+use crate::powers::wide;
+use columns::Columns;
+use columns::next;
 ghost use mathlib.Core.Path.{_≡_};
 ghost use Prim.Native.Nat.{ℕ, _≤_, _<_};
 ghost use lib.ListN.{length, getD};

@@ -19,7 +19,7 @@ fn check_sum(powers: &[u16; 256], x: &[u16], j: usize) -> u16
 }
 
 // The check sums S_1, S_2, .. of a row x, as many as there are places for them.
-fn row_sums(powers: &[u16; 256], x: &[u16], sums: &mut [u16])
+pub fn row_sums(powers: &[u16; 256], x: &[u16], sums: &mut [u16])
     requires { ⌜ (now powers ≡ table) × (length (now x) ≤ 256) ⌝ }
     ensures { λ r. ⌜ now (sums .exit) ≡ checkSums (length (now (x .entry))) (length (now (sums .entry))) (now (x .entry)) ⌝ }
 {

@@ -1,10 +1,15 @@
 // The coefficients with which the symbols at a set of columns are read off the check sums, shared by all rows that are
 // completed at the same set.
 use crate::locator::locator_polynomial;
-use crate::powers::{entry, wide};
+use crate::powers::entry;
+use crate::powers::wide;
 use crate::values::value_at;
-use columns::{Columns, next, size};
-use field::residue::{difference, inverse, product};
+use columns::Columns;
+use columns::next;
+use columns::size;
+use field::residue::difference;
+use field::residue::inverse;
+use field::residue::product;
 ghost use mathlib.Core.Path.{_≡_};
 ghost use Prim.Native.Nat.{ℕ, suc, _≤_, _<_};
 ghost use lib.ListN.{length, getD};
@@ -56,12 +61,10 @@ fn factor(powers: &[u16; 256], others: &[u16], i: usize) -> u32
 // The coefficients of column i of a set with the locator polynomial f, as many as the set has columns.
 fn weigh(powers: &[u16; 256], f: &[u16; 65], i: usize, row: &mut [u16])
     requires { ⌜ (now powers ≡ table) × (i < 256) × (length (now row) ≤ 64) ⌝ }
-    ensures {
-        λ r. ⌜
-            now (row .exit) ≡ tabulate (length (now (row .entry)))
-            (readOff (length (now (row .entry))) i (tabulate (length (now (row .entry))) (λ k. carried (now (f .entry)) (locatorOf i) (suc k))))
-        ⌝
-    }
+    ensures { λ r. ⌜
+        now (row .exit) ≡ tabulate (length (now (row .entry)))
+        (readOff (length (now (row .entry))) i (tabulate (length (now (row .entry))) (λ k. carried (now (f .entry)) (locatorOf i) (suc k))))
+        ⌝ }
 {
     divide(f, entry(powers, i), row);
     let c = factor(powers, row, i);

@@ -24,7 +24,7 @@ module _ (c : Columns) where
     pub place : count i (has c) ≡ d
 
   -- the next marked column at or after `from`
-  abbrev nextAt : ℕ → ℕ
+  abbrev pub nextAt : ℕ → ℕ
   nextAt from = least 256 (λ k. leb from k && has c k)
 
   pub none-between : (from k : ℕ) → from ≤ k → k < nextAt from → has c k ≡ false

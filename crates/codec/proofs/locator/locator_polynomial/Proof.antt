@@ -41,28 +41,27 @@ next-requires-2 : tie.Need-next-requires-2 Inv-loop μ-loop
 next-requires-2 c κs = omega arith
 
 loop-less : tie.Need-loop-less Inv-loop μ-loop
-loop-less c = 
+loop-less c =
     let at = c .before .before .before .before .before .before in
     let r = walk-rises _ _ _ (at .loop .inv .1) _ (c .before .before .before .before .before .loop-test .taken) (c .next2 .ensures) in
     let w = c .before in
     omega arith
 
 loop-again : tie.Need-loop-again Inv-loop μ-loop
-loop-again c = 
+loop-again c =
     let at = c .before .before .before .before .before .before in
     let set = at .before .before .args .set in
     let (d, walk, building) = at .loop .inv in
     let inside = c .before .before .before .before .before .loop-test .taken in
-    let (less, here) = walk-member set d (at .loop .i) walk inside in
-    (
+    let (less, here) = walk-member set d (at .loop .i) walk inside in (
       d + 1,
       walk-next set d (at .loop .i) walk (c .next2 .result) inside (c .next2 .ensures),
       building-more set d (at .loop .f) building (at .loop .i) (c .before .before .multiply .last .0) (at .before .before .pre .1) less here
-      (c .before .before .multiply .ensures ∙ ap (λ (x : ℕ). reduced 257 64 (at .loop .f) x 1 (at .loop .f)) (c .before .before .before .entry .ensures)),
+          (c .before .before .multiply .ensures ∙ ap (λ (x : ℕ). reduced 257 64 (at .loop .f) x 1 (at .loop .f)) (c .before .before .before .entry .ensures)),
     )
 
 returns : tie.Need-returns Inv-loop μ-loop
-returns c = 
+returns c =
     let (d, walk, building) = c .before .loop .inv in
     building-all _ d _ building (walk-end _ _ _ walk (c .loop-test .left))
 

@@ -26,7 +26,7 @@ wide-requires : tie.Need-wide-requires Inv-loop μ-loop
 wide-requires c κs = search needs
 
 mul-f : tie.Need-mul-f Inv-loop μ-loop
-mul-f c = 
+mul-f c =
     let at = c .before .before .before in
     omega (arith, product-fits _ _ _ _ _ (at .loop .inv) (at .before .before .pre .1))
 
@@ -52,7 +52,7 @@ loop-less : tie.Need-loop-less Inv-loop μ-loop
 loop-less c = omega arith
 
 loop-again : tie.Need-loop-again Inv-loop μ-loop
-loop-again c = 
+loop-again c =
     let at = c .before .before .before in
     multiplied-more (at .before .before .args .f .now) (at .before .before .args .x) (at .loop .k) (at .loop .below) (at .loop .f) (at .loop .inv)
     (c .wide .result) (omega arith) (c .wide .ensures .0) (omega arith)

@@ -27,12 +27,12 @@ wide-requires : tie.Need-wide-requires Inv-loop μ-loop
 wide-requires c κs = search needs
 
 mul-carry : tie.Need-mul-carry Inv-loop μ-loop
-mul-carry c = 
+mul-carry c =
     let at = c .before .before .before in
     omega (arith, carry-fits _ _ _ _ _ _ (at .loop .inv) (at .before .before .pre .0))
 
 add-carry : tie.Need-add-carry Inv-loop μ-loop
-add-carry c = 
+add-carry c =
     let at = c .before .before .before in
     omega (arith, carry-fits _ _ _ _ _ _ (at .loop .inv) (at .before .before .pre .0))
 
@@ -52,7 +52,7 @@ loop-less : tie.Need-loop-less Inv-loop μ-loop
 loop-less c = omega arith
 
 loop-again : tie.Need-loop-again Inv-loop μ-loop
-loop-again c = 
+loop-again c =
     let at = c .before .before .before in
     divided-more _ _ _ _ _ _ (at .loop .inv) (c .wide .result) (omega arith) (c .wide .ensures .0)
 

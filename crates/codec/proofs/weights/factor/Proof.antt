@@ -17,7 +17,7 @@ value-at-requires : tie.Need-value-at-requires
 value-at-requires c κs = search needs
 
 mul-entry : tie.Need-mul-entry
-mul-entry c = 
+mul-entry c =
     let start = c .before .before in
     let less : start .args .i ≤ 255 = omega (arith, start .pre .1) in
     let few : length (start .args .others .now) ≤ 64 = start .pre .2 in
@@ -39,14 +39,13 @@ difference-requires : tie.Need-difference-requires
 difference-requires c κs = search needs
 
 returns : tie.Need-returns
-returns c = 
+returns c =
     let start = c .before .before .before .before .before .before .before in
-    let wide = c .before .before .before in
-    (
+    let wide = c .before .before .before in (
       factor-is (length (start .args .others .now)) (start .args .i) _ (wide .before .before .value-at .result) (wide .before .entry .result) (c .before .before .product .result)
-      (c .before .inverse .result) (c .difference .result) (omega (arith, start .pre .1)) (wide .before .before .value-at .ensures .0) (wide .before .entry .ensures)
-      (c .before .before .product .ensures .0 ∙ ap (times 257 (wide .before .entry .result)) (wide .wide .ensures .0)) (c .before .inverse .ensures .0)
-      (c .difference .ensures .0),
+          (c .before .inverse .result) (c .difference .result) (omega (arith, start .pre .1)) (wide .before .before .value-at .ensures .0) (wide .before .entry .ensures)
+          (c .before .before .product .ensures .0 ∙ ap (times 257 (wide .before .entry .result)) (wide .wide .ensures .0)) (c .before .inverse .ensures .0)
+          (c .difference .ensures .0),
       c .difference .ensures .1,
     )
 

@@ -29,7 +29,7 @@ wide-requires : tie.Need-wide-requires Inv-loop μ-loop
 wide-requires c κs = search needs
 
 mul-row : tie.Need-mul-row Inv-loop μ-loop
-mul-row c = 
+mul-row c =
     let at = c .before .before .before in
     let less : at .before .before .args .c ≤ 256 = omega arith in
     let small : c .wide .result ≤ 65535 = omega arith in
@@ -51,7 +51,7 @@ loop-less : tie.Need-loop-less Inv-loop μ-loop
 loop-less c = omega arith
 
 loop-again : tie.Need-loop-again Inv-loop μ-loop
-loop-again c = 
+loop-again c =
     let at = c .before .before .before in
     let row = at .before .before .args .row .now in
     filled-more _ _ _ _ _ (at .loop .inv) (omega arith)

@@ -28,7 +28,7 @@ same-length : tie.Need-same-length
 same-length c = search needs
 
 returns : tie.Need-returns
-returns c = 
+returns c =
     let scaled = c .before .before in
     let found = scaled .before .before in
     let divided = found .before .before .before .before in

@@ -56,13 +56,19 @@ part-weights-end : tie.Need-part-weights-end Inv-loop μ-loop
 part-weights-end c = let r = room (c .before) in omega arith
 
 weigh-requires : tie.Need-weigh-requires Inv-loop μ-loop
-weigh-requires c κs = 
+weigh-requires c κs =
     let inside = c .before .before in
     let at = inside .before in
     let r = room inside in
-    let m = at .before .before .before .size .result in
-    (at .before .before .before .before .pre .0, inside .loop-test .taken, omega (arith, mid-len (at .loop .a * 64) (at .loop .a * 64 + m) (at .loop .weights)
-    (let s = at .loop .inv .1 .size in omega arith)))
+    let m = at .before .before .before .size .result in (
+      at .before .before .before .before .pre .0,
+      inside .loop-test .taken,
+      omega (
+        arith,
+        mid-len (at .loop .a * 64) (at .loop .a * 64 + m) (at .loop .weights)
+            (let s = at .loop .inv .1 .size in omega arith),
+      ),
+    )
 
 add-a : tie.Need-add-a Inv-loop μ-loop
 add-a c = let r = room (c .before .before .before .before) in omega arith
@@ -74,24 +80,23 @@ next-requires-2 : tie.Need-next-requires-2 Inv-loop μ-loop
 next-requires-2 c κs = search needs
 
 loop-less : tie.Need-loop-less Inv-loop μ-loop
-loop-less c = 
+loop-less c =
     let inside = c .before .before .before .before .before in
     let r = walk-rises _ _ _ (inside .before .loop .inv .0) _ (inside .loop-test .taken) (c .next2 .ensures) in
     let t = inside .loop-test .taken in
     omega arith
 
 loop-again : tie.Need-loop-again Inv-loop μ-loop
-loop-again c = 
+loop-again c =
     let inside = c .before .before .before .before .before in
     let at = inside .before in
     let sized = at .before .before .before in
     let set = sized .before .args .set in
     let (walk, weighed) = at .loop .inv in
-    let (less, here) = walk-member set (at .loop .a) (at .loop .i) walk (inside .loop-test .taken) in
-    (
+    let (less, here) = walk-member set (at .loop .a) (at .loop .i) walk (inside .loop-test .taken) in (
       walk-next set (at .loop .a) (at .loop .i) walk (c .next2 .result) (inside .loop-test .taken) (c .next2 .ensures),
       weighed-more set (at .loop .a) (at .loop .i) (at .loop .weights) (at .before .before .locator-polynomial .result) weighed (sized .before .pre .1) less here
-      (at .before .before .locator-polynomial .ensures) (sized .size .result) (c .before .before .weigh .last .1 .1 .1 .0) (sized .size .ensures) (c .before .before .weigh .ensures),
+          (at .before .before .locator-polynomial .ensures) (sized .size .result) (c .before .before .weigh .last .1 .1 .1 .0) (sized .size .ensures) (c .before .before .weigh .ensures),
     )
 
 returns : tie.Need-returns Inv-loop μ-loop
