@@ -1,6 +1,6 @@
 -- The largest of a list of lengths, found from the front: what is passed and what is to come. Assumes nothing.
 use mathlib.Core.Path.{_≡_, ap}
-use mathlib.Core.List.{List}
+use mathlib.Core.List.{List, [], _∷_}
 use Prim.Native.Nat.{ℕ, suc, _+_, _≤_, _<_, max}
 use native.Mathlib.Numerals.{add-one}
 use native.Mathlib.Omega.{arith}
@@ -20,3 +20,8 @@ unfolding largest
 largest-all l h most b e =
     let none : largest (drop h l) ≡ 0 = ap largest (drop-of-length-le l {i = h} b) in
     omega arith
+
+pub largest-bound : (B : ℕ) (l : List ℕ) → ((h : ℕ) → h < length l → getD l h 0 ≤ B) → largest l ≤ B
+unfolding largest
+largest-bound B [] small = omega arith
+largest-bound B (x ∷ xs) small = omega (arith, small 0 (omega arith), largest-bound B xs (λ h b. small (suc h) (omega arith)))

@@ -19,11 +19,9 @@ use Rattle.finder.proofs.Insertion.{length-within}
 
 module _ (o : Order) (k : ℕ) (symbols : List ℕ) where
   pub length-sequences : length (sequencesAt o k symbols) ≡ k
-  unfolding sequencesAt
   length-sequences = length-tabulate k (sequenceAt o symbols)
 
   pub sequence-at : (h : ℕ) → h < k → getD (sequencesAt o k symbols) h [] ≡ sequenceAt o symbols h
-  unfolding sequencesAt
   sequence-at h b = getD-tabulate k (sequenceAt o symbols) h [] b
 
 rounds-suc : (p N : ℕ) (ss : List (List ℕ)) (n : ℕ) → rounds p N ss (suc n) ≡ turn p N ss (suc n) (length ss) (rounds p N ss n)

@@ -1,4 +1,5 @@
 -- What the finder answers and leaves in the lent tap buffer, for every input (document 01, "Registers" and the refusals 1, 2, 3, 8, 4 in this order).
+use mathlib.Core.Path.{_≡_}
 use mathlib.Core.Bool.{Bool, not, _&&_}
 use mathlib.Core.List.{List, [], _∷_, _++_}
 use Prim.Native.Nat.{ℕ, suc}
@@ -50,3 +51,8 @@ tapsLeft p lengths symbols buffer =
     let ss : List (List ℕ) = split lengths symbols in
     let taps : List ℕ = found p ss (longest ss) .taps in
     firstOf (λ k. buffer) (tests p lengths symbols (length buffer)) (taps ++ drop (length taps) buffer)
+
+-- what the finder does: its answer, and the tap buffer that it leaves
+pub record Finds (p : ℕ) (lengths symbols buffer left : List ℕ) (r : Found) : Type 0 where
+  pub answers : answerOf r ≡ answer p lengths symbols (length buffer)
+  pub leaves : left ≡ tapsLeft p lengths symbols buffer

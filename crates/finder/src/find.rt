@@ -1,1 +1,55 @@
-// The finder.
+// The finder: the shortest register of the sequences lent, or why the input is refused.
+use crate::Found;
+use crate::check::check;
+use crate::check::longest;
+use crate::reduce::copy;
+use crate::rounds::alone;
+use crate::rounds::rounds;
+use crate::rounds::start;
+use crate::sort::by_length;
+use refusal::Verdict;
+ghost use mathlib.Core.Path.{_≡_};
+ghost use lib.ListN.{length};
+ghost use Rattle.refusal.specs.Outcome.{passed, outcome};
+ghost use Rattle.finder.specs.Finder.{tests, Finds};
+
+// The search itself, on input that no test refuses.
+fn synthesize(p: u32, lengths: &[u16], symbols: &[u16], taps: &mut [u16]) -> Found
+    requires { ⌜ outcome (tests p (now lengths) (now symbols) (length (now taps))) ≡ passed ⌝ }
+    ensures { λ r. ⌜ Finds p (now (lengths .entry)) (now (symbols .entry)) (now (taps .entry)) (now (taps .exit)) r ⌝ }
+{
+    let count = lengths.len();
+    let most = longest(lengths);
+    let order = by_length(lengths, symbols);
+    let mut sigma = [0u16; 129];
+    sigma[0] = 1;
+    let mut saved = [0u16; 1032];
+    let before = start(most, order, count);
+    let g = rounds(
+        p,
+        most,
+        symbols,
+        order,
+        count,
+        before,
+        &mut sigma,
+        &mut saved,
+    );
+    let l = g.length;
+    let e = l + 1;
+    copy(&mut taps[0..e], &sigma[0..e]);
+    Found::Register {
+        length: l,
+        alone: alone(most, order, count, g),
+    }
+}
+
+pub fn find(p: u32, lengths: &[u16], symbols: &[u16], taps: &mut [u16]) -> Found
+    ensures { λ r. ⌜ Finds p (now (lengths .entry)) (now (symbols .entry)) (now (taps .entry)) (now (taps .exit)) r ⌝ }
+{
+    let verdict = check(p, lengths, symbols, taps.len());
+    match verdict {
+        Verdict::Refuse(why) => Found::Refused(why),
+        Verdict::Pass => synthesize(p, lengths, symbols, taps),
+    }
+}

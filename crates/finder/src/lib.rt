@@ -1,11 +1,11 @@
 // The shortest register of up to eight sequences (document 01, "Registers").
 mod check;
 mod discrepancy;
-mod find;
+pub mod find;
 mod reduce;
 mod rounds;
 mod sort;
-mod step;
+pub mod step;
 
 use refusal::Refusal;
 

@@ -31,7 +31,7 @@ pub fn reduce(
     }
 }
 
-fn copy(to: &mut [u16], from: &[u16])
+pub fn copy(to: &mut [u16], from: &[u16])
     requires { ⌜ length (now to) ≡ length (now from) ⌝ }
     ensures { λ _. ⌜ now (to .exit) ≡ now (from .entry) ⌝ }
 {

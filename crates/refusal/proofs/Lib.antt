@@ -1,1 +1,3 @@
 pub mod Orders
+pub mod Outcomes
+pub mod Ranges

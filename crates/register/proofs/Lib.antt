@@ -1,5 +1,6 @@
 pub mod Abstract
 pub mod Aligned
+pub mod AllRounds
 pub mod Bounds
 pub mod Cases
 pub mod Coefficients

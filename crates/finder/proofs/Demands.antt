@@ -1,0 +1,125 @@
+-- Demands 1 and 2 of the finder. Assumes nothing.
+use mathlib.Core.Path.{_≡_, sym, ap, subst, _∙_}
+use mathlib.Core.Logic.{_↔_, _≢_}
+use mathlib.Core.Bool.{Bool}
+use mathlib.Core.List.{List, [], _∷_, _++_, append-nil}
+use Prim.Native.Nat.{ℕ, zero, suc, _+_, _<_}
+use native.Mathlib.Nat.{not-suc-le-zero, le-of-suc-le-suc}
+use native.Mathlib.Omega.{arith}
+use lib.ListN.{length, getD, take, drop, length-take, length-drop, length-map}
+use lib.Seq.{getD-take, getD-drop, take-at, drop-at}
+use Rattle.refusal.proofs.Orders.{by-tests, pass-otherwise, gives-first, outcome-refused}
+use Rattle.refusal.proofs.Outcomes.{given-passed, given-refused}
+use Rattle.refusal.specs.Order.{Reason, First, Test}
+use Rattle.refusal.specs.Outcome.{outcome}
+use Rattle.refusal.specs.Outcome as Outcome
+use Rattle.register.proofs.AllRounds.{all-rounds}
+use Rattle.register.specs.Algorithm4.{found, foundAlone}
+use Rattle.register.specs.EachRound.{IsShortest}
+use Rattle.register.specs.Sequences.{Below, longest, split}
+use Rattle.finder.specs.Demands.{Demand1, Demand2, Written, reasons}
+use Rattle.finder.specs.Finder.{register, refused, tests, answer, tapsLeft}
+use Rattle.finder.proofs.Accepted.{accepted, lengths-split}
+use Rattle.finder.proofs.Reasons.{finder-says}
+
+-- ---- demand 1
+
+refused-tells : (k m : ℕ) → (refused m ≡ refused k) ↔ (k ≡ m)
+refused-tells k m = (λ e. cc, λ e. cc)
+
+register-differs : (l : ℕ) (a : Bool) (k : ℕ) → register l a ≢ refused k
+register-differs l a k e = let z : _≡_ {A = ℕ} 0 1 = cc in omega arith
+
+registers-same : (l m : ℕ) (a b : Bool) → register l a ≡ register m b → (l ≡ m) × (a ≡ b)
+registers-same l m a b e = (cc, cc)
+
+module _ (p : ℕ) (lengths symbols : List ℕ) (room : ℕ) where
+  answer-refused : (k : ℕ) → (answer p lengths symbols room ≡ refused k) ↔ First k (reasons p lengths symbols room)
+  unfolding answer
+  answer-refused k =
+      subst (λ (rs : List Reason). (answer p lengths symbols room ≡ refused k) ↔ First k rs) (append-nil (reasons p lengths symbols room))
+      (gives-first (λ a. a ≡ refused k) k refused (refused-tells k) (tests p lengths symbols room) (reasons p lengths symbols room) _ [] (finder-says p lengths symbols room)
+      (λ _. (register-differs _ _ k, λ e. absurd e)))
+
+pub demand-1 : Demand1
+unfolding tapsLeft
+demand-1 =
+    record {
+      refusal = λ p lengths symbols room k. answer-refused p lengths symbols room k .0;
+      reason = λ p lengths symbols room k. answer-refused p lengths symbols room k .1;
+      untouched = λ p lengths symbols buffer k e.
+          let room : ℕ = length buffer in
+          given-refused (λ _. buffer) _ (tests p lengths symbols room) k
+          (outcome-refused (tests p lengths symbols room) (reasons p lengths symbols room) (finder-says p lengths symbols room) k .1
+          (answer-refused p lengths symbols room k .0 e));
+    }
+
+-- ---- demand 2
+
+below-split : (p : ℕ) (lengths symbols : List ℕ) → ((i : ℕ) → i < length symbols → getD symbols i 0 < p) → Below p (split lengths symbols)
+unfolding split
+below-split p [] symbols below h b = absurd (not-suc-le-zero b)
+below-split p (n ∷ ns) symbols below zero b = λ i inside.
+    let short = length-take n symbols in
+    rw (getD-take n symbols i 0 (omega arith)) (below i (omega arith))
+below-split p (n ∷ ns) symbols below (suc h) b =
+    below-split p ns (drop n symbols) (λ j m. rw (getD-drop n symbols j 0) (below (n + j) (omega (arith, length-drop n symbols)))) h (le-of-suc-le-suc b)
+
+module _ (p : ℕ) (lengths symbols buffer : List ℕ) (l : ℕ) (mark : Bool) (e : answer p lengths symbols (length buffer) ≡ register l mark) where
+  abbrev ss : List (List ℕ)
+  ss = split lengths symbols
+
+  abbrev ts : List Test
+  ts = tests p lengths symbols (length buffer)
+
+  -- what is found, and whether it is alone
+  abbrev size : ℕ
+  size = found p ss (longest ss) .size
+
+  abbrev alone : Bool
+  alone = foundAlone p ss (longest ss)
+
+  -- a register is answered only where no test fails
+  ok : outcome ts ≡ Outcome.passed
+  unfolding answer
+  ok =
+      by-tests refused (register size alone) (λ a. a ≡ register l mark → outcome ts ≡ Outcome.passed) ts
+      (λ k _ f. absurd (register-differs l mark k (sym f))) (λ pass _. pass-otherwise Outcome.refused Outcome.passed ts pass) e
+
+  is-found : register size alone ≡ register l mark
+  unfolding answer
+  is-found = sym (given-passed refused (register size alone) ts ok) ∙ e
+
+  shortest : IsShortest p size ss (found p ss (longest ss) .taps) alone
+  shortest =
+      let fine = accepted p lengths symbols (length buffer) ok in
+      let many : length ss ≡ length lengths = sym (length-map ss length) ∙ ap length (lengths-split lengths symbols (omega (arith, fine .whole))) in
+      all-rounds p ss (fine .prime) (omega (arith, fine .one-or-more)) (below-split p lengths symbols (fine .below))
+
+  abbrev σ : List ℕ
+  σ = found p ss (longest ss) .taps
+
+  same-size : size ≡ l
+  same-size = registers-same size l alone mark is-found .0
+
+  same-mark : alone ≡ mark
+  same-mark = registers-same size l alone mark is-found .1
+
+  taps : length σ ≡ suc l
+  taps = omega (arith, shortest .shortest .generator .register .taps, same-size)
+
+  left : tapsLeft p lengths symbols buffer ≡ σ ++ drop (suc l) buffer
+  unfolding tapsLeft
+  left = given-passed (λ _. buffer) _ ts ok ∙ ap (λ (n : ℕ). σ ++ drop n buffer) taps
+
+  written : Written p lengths symbols buffer l mark
+  written =
+      record {
+        found =
+            rw (ap (take (suc l)) left ∙ take-at σ (drop (suc l) buffer) (suc l) taps, ← same-mark)
+            (subst (λ (m : ℕ). IsShortest p m ss σ alone) same-size shortest);
+        kept = ap (drop (suc l)) left ∙ drop-at σ (drop (suc l) buffer) (suc l) taps;
+      }
+
+pub demand-2 : Demand2
+demand-2 = written

@@ -1,0 +1,42 @@
+-- `find` answers and leaves what the definitions say. Assumes nothing.
+use mathlib.Core.Path.{sym, ap, _∙_}
+use borrow.Author.Needs.{needs}
+use Rattle.refusal.specs.Outcome.{outcomeOf}
+use Rattle.finder.proofs.Refusing.{refuses}
+use Rattle.finder.proofs.find.find.Statement.{statement}
+use Rattle.finder.proofs.find.find.Tie as tie
+
+check-requires : tie.Need-check-requires
+check-requires c κs = search needs
+
+enum-known-verdict : tie.Need-enum-known-verdict
+enum-known-verdict c = search needs
+
+enum-told : tie.Need-enum-told
+enum-told c = search needs
+
+synthesize-requires : tie.Need-synthesize-requires
+synthesize-requires c κs = sym (c .before .before .before .check .ensures) ∙ ap outcomeOf (c .before .enum-told .given .1)
+
+returns : tie.Need-returns
+returns c =
+    let args = c .before .before .before .before .before .before .before .args in
+    refuses (args .p) (args .lengths .now) (args .symbols .now) (args .taps .now) _ (sym (c .before .before .before .check .ensures) ∙ ap outcomeOf (c .before .verdict .given .1))
+
+same-length : tie.Need-same-length
+same-length c = search needs
+
+returns-2 : tie.Need-returns-2
+returns-2 c = c .before .before .synthesize .ensures
+
+pub find-spec : {M : Type 1} → statement M
+find-spec =
+    tie.close
+    (tie.spec
+    check-requires
+    enum-known-verdict
+    enum-told
+    synthesize-requires
+    returns
+    same-length
+    returns-2)

@@ -1,0 +1,27 @@
+-- A test of a range says its reason: it fails exactly where the number is outside of the range. Assumes nothing.
+use mathlib.Core.Path.{_≡_, sym, ap₂, _∙_}
+use mathlib.Core.Logic.{_⊎_, inl, inr}
+use mathlib.Core.Bool.{true, false, not, _&&_, and-eq-true-iff, false≢true}
+use Prim.Native.Nat.{ℕ, _≤_, _<_}
+use native.Mathlib.Decide.{decLt}
+use native.Mathlib.Omega.{arith}
+use borrow.Author.Tests.{leb-true, le-leb}
+use lib.Dec.{leb}
+use Rattle.refusal.proofs.Orders.{Says, says-not}
+
+pub outside-says : (k lo hi n : ℕ)
+    → Says (record { number = k; fails = not (leb lo n && leb n hi) }) (record { number = k; holds = (n < lo) ⊎ (hi < n) })
+outside-says k lo hi n = says-not k (leb lo n && leb n hi) ((n < lo) ⊎ (hi < n)) never (λ e. pick e (decLt n lo) (decLt hi n))
+  where
+    never : (leb lo n && leb n hi) ≡ true → (n < lo) ⊎ (hi < n) → ⊥
+    never e o = let (l, h) = and-eq-true-iff (leb lo n) (leb n hi) .0 e in off (leb-true lo n l) (leb-true n hi h) o
+      where
+        off : lo ≤ n → n ≤ hi → (n < lo) ⊎ (hi < n) → ⊥
+        off a b (inl c) = omega arith
+        off a b (inr c) = omega arith
+
+    pick : (leb lo n && leb n hi) ≡ false → Dec (n < lo) → Dec (hi < n) → (n < lo) ⊎ (hi < n)
+    pick e (yes l) d = inl l
+    pick e (no l) (yes h) = inr h
+    pick e (no l) (no h) =
+        absurd (false≢true (sym e ∙ ap₂ _&&_ (le-leb lo n (omega arith)) (le-leb n hi (omega arith))))

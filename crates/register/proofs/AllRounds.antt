@@ -1,0 +1,25 @@
+-- What Algorithm 4 has found after all of its rounds: a shortest register of the sequences themselves. Assumes nothing.
+use mathlib.Core.Path.{_≡_, refl, ap, ap₂, subst, _∙_}
+use mathlib.Core.List.{List, [], _∷_}
+use Prim.Native.Nat.{ℕ, _<_}
+use native.Mathlib.Nat.{le-refl, sub-self, sub-zero}
+use lib.ListN.{length, take}
+use lib.Seq.{take-length}
+use Rattle.field.specs.Prime.{Prime}
+use Rattle.register.proofs.EachRound.{each-round}
+use Rattle.register.specs.Algorithm4.{found, foundAlone}
+use Rattle.register.specs.EachRound.{IsShortest}
+use Rattle.register.specs.Sequences.{Below, longest, shortened}
+
+-- without their last 0 symbols the sequences are as they were
+shortened-none : (ss : List (List ℕ)) → shortened 0 ss ≡ ss
+unfolding shortened
+shortened-none [] = refl
+shortened-none (s ∷ ss) = ap₂ _∷_ (ap (λ (n : ℕ). take n s) (sub-zero (length s)) ∙ take-length s) (shortened-none ss)
+
+pub all-rounds : (p : ℕ) (ss : List (List ℕ)) → Prime p → 0 < length ss → Below p ss →
+    IsShortest p (found p ss (longest ss) .size) ss (found p ss (longest ss) .taps) (foundAlone p ss (longest ss))
+all-rounds p ss prime some below =
+    subst (λ (rest : List (List ℕ)). IsShortest p (found p ss (longest ss) .size) rest (found p ss (longest ss) .taps) (foundAlone p ss (longest ss)))
+    (ap (λ (k : ℕ). shortened k ss) (sub-self (longest ss)) ∙ shortened-none ss)
+    (each-round p ss (longest ss) prime some below (le-refl (longest ss)))
