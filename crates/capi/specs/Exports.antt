@@ -1,0 +1,24 @@
+-- What the exported functions do: what they return, and the lent buffer that they leave, by the definitions of the finder and of the calls on a job.
+use mathlib.Core.Path.{_≡_}
+use mathlib.Core.List.{List}
+use Prim.Native.Nat.{ℕ}
+use lib.ListN.{length}
+use Rattle.finder.specs.Finder.{answer, tapsLeft}
+use Rattle.job.specs.Calls.{Call, Outcome}
+use Rattle.capi.specs.Mirror.{registerOf, refusalOf, answeredOf}
+use Rattle.capi.specs.declared.CAnswer.{CAnswer}
+use Rattle.capi.specs.declared.CRegister.{CRegister}
+
+pub record CFinds (p : ℕ) (lengths symbols buffer left : List ℕ) (r : CRegister) : Type 0 where
+  pub answers : r ≡ registerOf (answer p lengths symbols (length buffer))
+  pub leaves : left ≡ tapsLeft p lengths symbols buffer
+
+-- of encode: the refusal or 0, and the frame
+pub record CEncodes (o : Outcome) (r : ℕ) (left : List ℕ) : Type 0 where
+  pub answers : r ≡ refusalOf (o .answer)
+  pub leaves : left ≡ o .frame
+
+-- of locate and repair
+pub record CAnswers (o : Outcome) (r : CAnswer) (left : List ℕ) : Type 0 where
+  pub answers : r ≡ answeredOf o
+  pub leaves : left ≡ o .frame
