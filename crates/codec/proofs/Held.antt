@@ -5,25 +5,17 @@ use Prim.Native.Nat.{ℕ, suc, _+_, _-_, _*_, _≤_, _<_, zero-le}
 use native.Mathlib.Nat.{le-antisymm}
 use native.Mathlib.Numerals.{add-one}
 use native.Mathlib.Omega.{arith}
-use lib.ListN.{length, take, drop, replicate, length-append, length-replicate, replicate-append-replicate}
+use lib.ListN.{length, take, drop, replicate, length-append}
 use lib.Seq.{take-at, drop-at}
 use borrow.Rule.Slice.PartMut.{midOf, putMid, mid-len, same-len-mid}
 use Rattle.lists.specs.Tabulate.{tabulate, joined}
+use Rattle.lists.proofs.Zeros.{zeros, drop-zeros}
 use Rattle.lists.proofs.Joined.{joined-zero, joined-more}
 use Rattle.frame.specs.Frame.{row, checkSums, sequences, heldSums}
 use Rattle.frame.specs.Shape.{checksOf}
 use Rattle.frame.specs.declared.Shape.{Shape}
 use Rattle.codec.proofs.RowSums.{length-checkSums}
 use Rattle.codec.proofs.RowPlace.{RowPlace}
-
-zeros : ℕ → List ℕ
-zeros n = replicate n 0
-
-drop-zeros : (m k : ℕ) → drop m (zeros (m + k)) ≡ zeros k
-unfolding zeros
-drop-zeros m k =
-    let none : ℕ = 0 in
-    ap (drop m) (sym (replicate-append-replicate m k none)) ∙ drop-at (zeros m) (zeros k) m (length-replicate m none)
 
 module _ (s : Shape) (f : List ℕ) where
   -- the check sums of row h
@@ -82,7 +74,6 @@ module _ (s : Shape) (f : List ℕ) where
 
     pub held-more : (y : List ℕ) → h < s .rows → y ≡ checkSums (length place-of-row) (length (midOf at (to - at) sums)) place-of-row
         → Held (h + 1) to (putMid at (to - at) sums y)
-    unfolding zeros
     held-more y l e = record {
       rows-passed = omega arith;
       room = (let q = a .room in let c = r .checks .most in omega arith);

@@ -10,6 +10,7 @@ pub mod ReadOff
 pub mod Reading
 pub mod RowPlace
 pub mod RowSums
+pub mod ShapeTests
 pub mod Symbols
 pub mod WeightTable
 pub mod Writing

@@ -16,6 +16,7 @@ use Rattle.columns.specs.declared.Columns.{Columns}
 use Rattle.field.specs.Coefficients.{reduced}
 use Rattle.field.proofs.Bridge.{res-zero, res-one}
 use Rattle.field.proofs.Prime257.{prime-257}
+use Rattle.lists.proofs.Zeros.{zeros-entry}
 use Rattle.lists.proofs.Tabulated.{length-tabulate, getD-tabulate}
 use Rattle.frame.specs.Completion.{locatorPolynomial}
 use Rattle.frame.specs.Powers.{locatorOf}
@@ -44,11 +45,6 @@ polynomial-below [] zero = lit< tt
 polynomial-below [] (suc k) = lit< tt
 polynomial-below (i ∷ is) k = reduced-below _ (locatorPolynomial is) (locatorOf i) k
 
-pub zeros : (n k : ℕ) → getD {A = ℕ} (replicate n 0) k 0 ≡ 0
-zeros zero k = refl
-zeros (suc n) zero = refl
-zeros (suc n) (suc k) = zeros n k
-
 module _ (J : Columns) where
   -- the polynomial of the first d members
   abbrev firsts : ℕ → ℕ → R257 .car
@@ -65,11 +61,11 @@ module _ (J : Columns) where
     where
       small : (k : ℕ) → getD (1 ∷ replicate 64 0) k 0 < 257
       small zero = lit< tt
-      small (suc k) = rw (zeros 64 k) (lit< tt)
+      small (suc k) = rw (zeros-entry 64 k) (lit< tt)
 
       entries : (k : ℕ) → symbols (1 ∷ replicate 64 0) k ≡ firsts 0 k
       entries zero = res-one 257 prime-257
-      entries (suc k) = ap res257 (zeros 64 k) ∙ res-zero 257 prime-257
+      entries (suc k) = ap res257 (zeros-entry 64 k) ∙ res-zero 257 prime-257
 
   module _ (d : ℕ) (f : List ℕ) (b : Building d f) where
     pub building-more : (i : ℕ) (g : List ℕ) → length (members J) ≤ 64 → d < length (members J) → getD (members J) d 0 ≡ i

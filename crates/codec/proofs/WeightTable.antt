@@ -19,9 +19,9 @@ use Rattle.frame.proofs.LocatorPolynomial.{length-locatorPolynomial}
 use Rattle.lists.specs.Tabulate.{tabulate}
 use Rattle.lists.proofs.Filling.{by-entries}
 use Rattle.lists.proofs.Parts.{replaced-before, replaced-in, replaced-after}
+use Rattle.lists.proofs.Zeros.{zeros-entry}
 use Rattle.lists.proofs.Tabulated.{getD-tabulate, length-tabulate}
 use Rattle.codec.specs.Weights.{carried, factorOf, readOff, coefficient, weightsOf}
-use Rattle.codec.proofs.LocatorBuilding.{zeros}
 use Rattle.codec.proofs.Quotient.{length-others, quotient-others}
 
 module _ (J : Columns) where
@@ -45,7 +45,7 @@ module _ (J : Columns) where
   pub weighed-none : Weighed 0 (replicate 4096 0)
   weighed-none = record {
     size = refl;
-    entries = by-entries 4096 (entryAt 0) (replicate 4096 0) refl (λ t h. zeros 4096 t ∙ sym (not-there 0 t (omega arith)));
+    entries = by-entries 4096 (entryAt 0) (replicate 4096 0) refl (λ t h. zeros-entry 4096 t ∙ sym (not-there 0 t (omega arith)));
   }
 
   pub weighed-all : (a : ℕ) (weights : List ℕ) → Weighed a weights → a ≡ m → weights ≡ weightsOf J

@@ -2,6 +2,7 @@
 pub mod complete;
 pub mod locator;
 pub mod powers;
+pub mod shape;
 pub mod sums;
 pub mod values;
 pub mod weights;

@@ -24,13 +24,13 @@ use Rattle.frame.specs.declared.Shape.{Shape}
 
 -- ---- the columns below m
 
-abbrev firstColumns : ℕ → Columns
+abbrev pub firstColumns : ℕ → Columns
 firstColumns m = columnsOf (λ i. ltb i m)
 
-size-first : (m : ℕ) → m ≤ 256 → size (firstColumns m) ≡ m
+pub size-first : (m : ℕ) → m ≤ 256 → size (firstColumns m) ≡ m
 size-first m le = ap length (members-columnsOf (λ i. ltb i m)) ∙ length-listed 256 (λ i. ltb i m) ∙ count-below m 256 le
 
-has-first : (m i : ℕ) → has (firstColumns m) i ≡ true → i < m
+pub has-first : (m i : ℕ) → has (firstColumns m) i ≡ true → i < m
 has-first m i e = pick (decLt i 256)
   where
     pick : Dec (i < 256) → i < m

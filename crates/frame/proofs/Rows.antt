@@ -91,7 +91,7 @@ module _ (n : ℕ) (f : List ℕ) (h : ℕ) (x : List ℕ) (inside : h * n + n �
 
 -- ---- every row changed
 
-eachRow-zero : (n : ℕ) (g : ℕ → List ℕ → List ℕ) (f : List ℕ) → eachRow n g 0 f ≡ f
+pub eachRow-zero : (n : ℕ) (g : ℕ → List ℕ → List ℕ) (f : List ℕ) → eachRow n g 0 f ≡ f
 unfolding eachRow
 eachRow-zero n g f = refl
 

@@ -5,3 +5,4 @@ pub mod Joined
 pub mod Parts
 pub mod Put
 pub mod Tabulated
+pub mod Zeros

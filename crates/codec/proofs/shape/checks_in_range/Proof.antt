@@ -1,0 +1,88 @@
+-- `codec::shape::checks_in_range` meets its contract. Assumes nothing.
+use mathlib.Core.Path.{_≡_, sym, ap, _∙_}
+use mathlib.Core.Bool.{true, false}
+use Prim.Native.Nat.{ℕ, _-_, _≤_, _<_}
+use native.Mathlib.Omega.{arith}
+use lib.ListN.{getD}
+use borrow.Author.Count.{below-none, below-more}
+use Rattle.frame.specs.Shape.{checksInRange}
+use Rattle.codec.proofs.ShapeTests.{countTest, no-check, many-checks, no-data, count-taken, checks-fail, checks-pass}
+use borrow.Author.Needs.{needs}
+use Rattle.codec.proofs.shape.checks_in_range.Statement.{statement}
+use Rattle.codec.proofs.shape.checks_in_range.Tie as tie
+
+abbrev Inv-loop : tie.InvT-loop
+Inv-loop columns rows checks h₀ h = (h ≤ rows) × ((k : ℕ) → k < h → countTest columns (getD checks k 0) ≡ true)
+
+abbrev μ-loop : tie.MeasureT-loop
+μ-loop columns rows checks h₀ h = rows - h
+
+loop-holds : tie.Need-loop-holds Inv-loop μ-loop
+loop-holds c = (omega arith, below-none _)
+
+mul-wide : tie.Need-mul-wide Inv-loop μ-loop
+mul-wide c = omega arith
+
+shared-slice-read-wide : tie.Need-shared-slice-read-wide Inv-loop μ-loop
+shared-slice-read-wide c = omega arith
+
+wide-requires : tie.Need-wide-requires Inv-loop μ-loop
+wide-requires c κs = search needs
+
+cast-count : tie.Need-cast-count Inv-loop μ-loop
+cast-count c = omega arith
+
+-- one check count that is out of range decides it
+refused : (c : tie.After-wide Inv-loop μ-loop) → countTest (c .before .before .before .before .before .args .columns) (c .wide .result) ≡ false
+    → (let args = c .before .before .before .before .before .args in false ≡ checksInRange (args .columns) (args .rows) (args .checks .now))
+refused c e =
+    let inside = c .before .before in
+    sym (checks-fail _ _ _ (inside .before .loop .h) (inside .loop-test .taken) (ap (countTest _) (sym (c .wide .ensures .0)) ∙ e))
+
+returns : tie.Need-returns Inv-loop μ-loop
+returns c = refused (c .before) (no-check _ _ (c .if1 .taken))
+
+returns-2 : tie.Need-returns-2 Inv-loop μ-loop
+returns-2 c = refused (c .before .before) (many-checks _ _ (c .if2 .taken))
+
+returns-3 : tie.Need-returns-3 Inv-loop μ-loop
+returns-3 c = refused (c .before .before .before) (no-data _ _ (c .if3 .taken))
+
+add-h : tie.Need-add-h Inv-loop μ-loop
+add-h c = omega arith
+
+loop-less : tie.Need-loop-less Inv-loop μ-loop
+loop-less c = omega arith
+
+loop-again : tie.Need-loop-again Inv-loop μ-loop
+loop-again c = 
+    let read = c .before .before .before in
+    let at = read .before .before .before in
+    let start = at .before .before in
+    (
+      omega arith,
+      below-more (λ k. countTest (start .args .columns) (getD (start .args .checks .now) k 0) ≡ true) (at .loop .h) (at .loop .inv .1)
+      (ap (countTest (start .args .columns)) (sym (read .wide .ensures .0)) ∙ count-taken _ _ (c .before .before .if1 .left) (c .before .if2 .left) (c .if3 .left)),
+    )
+
+returns-4 : tie.Need-returns-4 Inv-loop μ-loop
+returns-4 c = sym (checks-pass _ _ _ (λ k l. c .before .loop .inv .1 k (omega arith)))
+
+pub checks-in-range-spec : {M : Type 1} → statement M
+checks-in-range-spec =
+    tie.close
+    (tie.spec
+    Inv-loop
+    μ-loop
+    loop-holds
+    mul-wide
+    shared-slice-read-wide
+    wide-requires
+    cast-count
+    returns
+    returns-2
+    returns-3
+    add-h
+    loop-less
+    loop-again
+    returns-4)

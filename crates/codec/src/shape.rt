@@ -1,0 +1,94 @@
+// Which shapes there are.
+use crate::powers::wide;
+use frame::Shape;
+use refusal::{Refusal, Verdict};
+ghost use mathlib.Core.Path.{_≡_};
+ghost use Prim.Native.Nat.{_≤_};
+ghost use lib.ListN.{length};
+ghost use Rattle.frame.specs.Shape.{checksInRange, isShape, shapeOf, shapeTests};
+ghost use Rattle.refusal.specs.Outcome.{outcome, outcomeOf};
+
+// Whether the first check counts, as many as there are rows, are in range.
+fn checks_in_range(columns: usize, rows: usize, checks: &[u16]) -> bool
+    requires { ⌜ rows ≤ length (now checks) ⌝ }
+    ensures { λ r. ⌜ r ≡ checksInRange columns rows (now (checks .entry)) ⌝ }
+{
+    let mut h = 0;
+    while h < rows {
+        let count = wide(checks[h]) as usize;
+        if count < 1 {
+            return false;
+        }
+        if count > 64 {
+            return false;
+        }
+        if count >= columns {
+            return false;
+        }
+        h += 1;
+    }
+    true
+}
+
+// The refusals of a shape.
+pub fn check_shape(columns: usize, checks: &[u16]) -> Verdict
+    ensures { λ r. ⌜ outcomeOf r ≡ outcome (shapeTests columns (now (checks .entry))) ⌝ }
+{
+    let rows = checks.len();
+    if rows < 1 {
+        return Verdict::Refuse(Refusal::Count);
+    }
+    if rows > 8 {
+        return Verdict::Refuse(Refusal::Count);
+    }
+    if columns < 2 {
+        return Verdict::Refuse(Refusal::Columns);
+    }
+    if columns > 256 {
+        return Verdict::Refuse(Refusal::Columns);
+    }
+    if checks_in_range(columns, rows, checks) {
+        return Verdict::Pass;
+    }
+    Verdict::Refuse(Refusal::Checks)
+}
+
+// The shape of the columns and check counts given, of which there are not too many.
+pub fn shape_of(columns: usize, checks: &[u16]) -> Shape
+    requires { ⌜ length (now checks) ≤ 8 ⌝ }
+    ensures { λ r. ⌜ r ≡ shapeOf columns (now (checks .entry)) ⌝ }
+{
+    let rows = checks.len();
+    let mut held = [0u16; 8];
+    let mut h = 0;
+    while h < rows {
+        held[h] = checks[h];
+        h += 1;
+    }
+    Shape {
+        rows,
+        columns,
+        checks: held,
+    }
+}
+
+// Whether a value of the struct is a shape.
+pub fn is_shape(s: Shape) -> bool
+    ensures { λ r. ⌜ r ≡ isShape s ⌝ }
+{
+    let rows = s.rows;
+    let columns = s.columns;
+    if rows < 1 {
+        return false;
+    }
+    if rows > 8 {
+        return false;
+    }
+    if columns < 2 {
+        return false;
+    }
+    if columns > 256 {
+        return false;
+    }
+    checks_in_range(columns, rows, &s.checks)
+}
