@@ -1,5 +1,7 @@
 pub mod Accumulation
+pub mod CheckColumns
 pub mod Division
+pub mod FrameTests
 pub mod Held
 pub mod LocatorBuilding
 pub mod LocatorOrder
@@ -7,10 +9,11 @@ pub mod Multiplication
 pub mod PowerTable
 pub mod Quotient
 pub mod ReadOff
+pub mod ReadSymbols
 pub mod Reading
 pub mod RowPlace
 pub mod RowSums
+pub mod RowsEncoded
 pub mod ShapeTests
-pub mod Symbols
 pub mod WeightTable
 pub mod Writing

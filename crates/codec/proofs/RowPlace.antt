@@ -15,13 +15,17 @@ pub record RowPlace (s : Shape) (size h : ℕ) : Type 0 where
   pub row-number : h < 8
   pub checks : RowRanges s h
 
+-- a frame has at most 2048 symbols
+pub frame-small : (s : Shape) → isShape s ≡ true → s .rows * s .columns ≤ 8 * 256
+frame-small s shape = let r = shape-ranges s shape in mul-le-mul (r .rows-most) (r .columns-most)
+
 pub row-place : (s : Shape) (size h : ℕ) → isShape s ≡ true → size ≡ s .rows * s .columns → h < s .rows → RowPlace s size h
 row-place s size h shape e l =
     let r = shape-ranges s shape in
     let rows = r .rows-most in
     let columns = r .columns-most in
     let up : suc h * s .columns ≤ s .rows * s .columns = mul-le-mul-right (s .columns) l in
-    let most : s .rows * s .columns ≤ 8 * 256 = mul-le-mul rows columns in
+    let most = frame-small s shape in
     record {
       inside = (let q = suc-mul h (s .columns) in omega arith);
       small = omega arith;

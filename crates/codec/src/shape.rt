@@ -1,7 +1,8 @@
 // Which shapes there are.
 use crate::powers::wide;
 use frame::Shape;
-use refusal::{Refusal, Verdict};
+use refusal::Refusal;
+use refusal::Verdict;
 ghost use mathlib.Core.Path.{_≡_};
 ghost use Prim.Native.Nat.{_≤_};
 ghost use lib.ListN.{length};

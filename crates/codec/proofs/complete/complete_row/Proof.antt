@@ -3,7 +3,7 @@ use Prim.Native.Nat.{ℕ, _≤_}
 use native.Mathlib.Omega.{arith}
 use lib.ListN.{length, replicate}
 use borrow.Rule.Slice.PartMut.{mid-len}
-use Rattle.codec.proofs.Symbols.{completed-by}
+use Rattle.codec.proofs.ReadSymbols.{completed-by}
 use borrow.Author.Needs.{needs}
 use Rattle.codec.proofs.complete.complete_row.Statement.{statement}
 use Rattle.codec.proofs.complete.complete_row.Tie as tie

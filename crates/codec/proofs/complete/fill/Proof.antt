@@ -6,7 +6,7 @@ use lib.ListN.{length}
 use borrow.Rule.Slice.PartMut.{mid-len}
 use Rattle.columns.proofs.Walk.{walk-member, walk-rises}
 use Rattle.codec.specs.Weights.{symbolAt}
-use Rattle.codec.proofs.Symbols.{length-weights, symbol-read}
+use Rattle.codec.proofs.ReadSymbols.{length-weights, symbol-read}
 use Rattle.codec.proofs.Writing.{Written, written-none, written-more, written-all}
 use borrow.Author.Needs.{needs}
 use Rattle.codec.proofs.complete.fill.Statement.{statement}

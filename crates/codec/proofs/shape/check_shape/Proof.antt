@@ -16,7 +16,7 @@ returns-3 : tie.Need-returns-3
 returns-3 c = shape-outcome _ _ true false _ (rows-taken _ (c .before .before .if1 .left) (c .before .if2 .left)) (few-columns _ (c .if3 .taken)) refl
 
 returns-4 : tie.Need-returns-4
-returns-4 c = 
+returns-4 c =
     let rows = c .before .before in
     shape-outcome _ _ true false _ (rows-taken _ (rows .before .if1 .left) (rows .if2 .left)) (many-columns _ (c .if4 .taken)) refl
 
@@ -24,14 +24,14 @@ checks-in-range-requires : tie.Need-checks-in-range-requires
 checks-in-range-requires c κs = search needs
 
 returns-5 : tie.Need-returns-5
-returns-5 c = 
+returns-5 c =
     let columns = c .before .before in
     let rows = columns .before .before in
     shape-outcome _ _ true true true (rows-taken _ (rows .before .if1 .left) (rows .if2 .left)) (columns-taken _ (columns .before .if3 .left) (columns .if4 .left))
     (sym (c .before .checks-in-range .ensures) ∙ c .if5 .taken)
 
 returns-6 : tie.Need-returns-6
-returns-6 c = 
+returns-6 c =
     let columns = c .before .before in
     let rows = columns .before .before in
     shape-outcome _ _ true true false (rows-taken _ (rows .before .if1 .left) (rows .if2 .left)) (columns-taken _ (columns .before .if3 .left) (columns .if4 .left))

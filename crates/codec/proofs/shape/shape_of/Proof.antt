@@ -37,12 +37,12 @@ loop-less : tie.Need-loop-less Inv-loop μ-loop
 loop-less c = omega arith
 
 loop-again : tie.Need-loop-again Inv-loop μ-loop
-loop-again c = 
+loop-again c =
     let at = c .before .before in
     (omega arith, copied-more (zeros 8) (at .before .args .checks .now) (at .loop .h) 0 (at .loop .inv .1) (omega arith) (omega arith))
 
 returns : tie.Need-returns Inv-loop μ-loop
-returns c = 
+returns c =
     let start = c .before .before in
     let at = c .before .loop in
     shape-held (start .args .columns) (start .args .checks .now) (at .held) (start .pre)

@@ -1,0 +1,122 @@
+-- `codec::symbols::data_below` meets its contract. Assumes nothing.
+use mathlib.Core.Path.{_≡_, sym, _∙_}
+use mathlib.Core.Bool.{true}
+use Prim.Native.Nat.{ℕ, _-_, _≤_, _<_}
+use native.Mathlib.Omega.{arith}
+use lib.ListN.{length}
+use borrow.Author.Count.{below-none, below-more}
+use borrow.Author.Tests.{not-true, not-false}
+use Rattle.codec.proofs.FrameTests.{rowTest, row-tested, data-fails, data-passes}
+use Rattle.codec.proofs.RowPlace.{RowPlace, row-place}
+use borrow.Author.Needs.{needs}
+use Rattle.codec.proofs.symbols.data_below.Statement.{statement}
+use Rattle.codec.proofs.symbols.data_below.Tie as tie
+
+abbrev Inv-loop : tie.InvT-loop
+Inv-loop frame s rows columns h₀ h = (h ≤ rows) × ((k : ℕ) → k < h → rowTest s frame k ≡ true)
+
+abbrev μ-loop : tie.MeasureT-loop
+μ-loop frame s rows columns h₀ h = rows - h
+
+place : (c : tie.In-loop Inv-loop μ-loop) →
+    RowPlace (c .before .before .before .args .t1) (length (c .before .before .before .args .frame .now)) (c .before .loop .h)
+place c =
+    let start = c .before .before .before in
+    row-place (start .args .t1) (length (start .args .frame .now)) (c .before .loop .h) (start .pre .0) (start .pre .1) (c .loop-test .taken)
+
+-- what the test of the data cells says of the row
+tested : (c : tie.After-all-below Inv-loop μ-loop) →
+    let at = c .before .before .before .before .before in
+    let args = at .before .before .args in
+    rowTest (args .t1) (args .frame .now) (at .loop .h) ≡ c .all-below .result
+tested c =
+    let read = c .before .before in
+    row-tested _ _ _ (read .wide .result) _ (place (read .before .before)) (read .wide .ensures .0) (c .all-below .ensures)
+
+loop-holds : tie.Need-loop-holds Inv-loop μ-loop
+loop-holds c = (omega arith, below-none _)
+
+mul-from : tie.Need-mul-from Inv-loop μ-loop
+mul-from c = let p = place c in omega arith
+
+mul-wide : tie.Need-mul-wide Inv-loop μ-loop
+mul-wide c = let p = place c in omega arith
+
+element-copy-out-wide : tie.Need-element-copy-out-wide Inv-loop μ-loop
+element-copy-out-wide c = let p = place c in omega arith
+
+wide-requires : tie.Need-wide-requires Inv-loop μ-loop
+wide-requires c κs = search needs
+
+cast-from : tie.Need-cast-from Inv-loop μ-loop
+cast-from c = let p = place (c .before .before) in let w = c .wide .ensures in omega arith
+
+add-from : tie.Need-add-from Inv-loop μ-loop
+add-from c = let p = place (c .before .before) in let w = c .wide .ensures in omega arith
+
+mul-to : tie.Need-mul-to Inv-loop μ-loop
+mul-to c = let p = place (c .before .before) in let w = c .wide .ensures in omega arith
+
+add-to : tie.Need-add-to Inv-loop μ-loop
+add-to c = let p = place (c .before .before) in let w = c .wide .ensures in omega arith
+
+mul-all-below : tie.Need-mul-all-below Inv-loop μ-loop
+mul-all-below c = let p = place (c .before .before) in let w = c .wide .ensures in omega arith
+
+sub-all-below : tie.Need-sub-all-below Inv-loop μ-loop
+sub-all-below c = let p = place (c .before .before) in let w = c .wide .ensures in omega arith
+
+part-all-below-start : tie.Need-part-all-below-start Inv-loop μ-loop
+part-all-below-start c = let p = place (c .before .before) in let w = c .wide .ensures in omega arith
+
+part-all-below-end : tie.Need-part-all-below-end Inv-loop μ-loop
+part-all-below-end c = let p = place (c .before .before) in let w = c .wide .ensures in omega arith
+
+all-below-requires : tie.Need-all-below-requires Inv-loop μ-loop
+all-below-requires c κs = search needs
+
+returns : tie.Need-returns Inv-loop μ-loop
+returns c =
+    let inside = c .before .before .before .before .before in
+    sym (data-fails _ _ (inside .before .loop .h) (inside .loop-test .taken) (tested (c .before) ∙ not-true _ (c .if1 .taken)))
+
+add-h : tie.Need-add-h Inv-loop μ-loop
+add-h c = omega arith
+
+loop-less : tie.Need-loop-less Inv-loop μ-loop
+loop-less c = omega arith
+
+loop-again : tie.Need-loop-again Inv-loop μ-loop
+loop-again c =
+    let at = c .before .before .before .before .before .before in
+    let start = at .before .before in
+    (omega arith, below-more (λ k. rowTest (start .args .t1) (start .args .frame .now) k ≡ true) (at .loop .h) (at .loop .inv .1) (tested (c .before) ∙ not-false _ (c .if1 .left)))
+
+returns-2 : tie.Need-returns-2 Inv-loop μ-loop
+returns-2 c = sym (data-passes _ _ (λ k l. c .before .loop .inv .1 k (omega arith)))
+
+pub data-below-spec : {M : Type 1} → statement M
+data-below-spec =
+    tie.close
+    (tie.spec
+    Inv-loop
+    μ-loop
+    loop-holds
+    mul-from
+    mul-wide
+    element-copy-out-wide
+    wide-requires
+    cast-from
+    add-from
+    mul-to
+    add-to
+    mul-all-below
+    sub-all-below
+    part-all-below-start
+    part-all-below-end
+    all-below-requires
+    returns
+    add-h
+    loop-less
+    loop-again
+    returns-2)
