@@ -1,6 +1,8 @@
 pub mod Accumulation
 pub mod CheckColumns
 pub mod Division
+pub mod FoldedSums
+pub mod Folding
 pub mod FrameTests
 pub mod Held
 pub mod LocatorBuilding

@@ -1,2 +1,3 @@
+pub mod Folded
 pub mod Table
 pub mod Weights

@@ -4,6 +4,7 @@ pub mod encode;
 pub mod locator;
 pub mod powers;
 pub mod shape;
+pub mod stages;
 pub mod sums;
 pub mod symbols;
 pub mod values;

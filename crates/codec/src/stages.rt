@@ -1,0 +1,115 @@
+// Check sums of a row in two stages of 16: the row is folded into 16 columns in each of the 16 ways that there are, and each
+// check sum is that of a folded row. A row of 256 columns and 64 sums takes 5,120 products instead of 16,384.
+use crate::values::{times, value_at};
+ghost use mathlib.Core.Path.{_≡_};
+ghost use Prim.Native.Nat.{ℕ, suc, _+_, _*_, _%_, _≤_, _<_};
+ghost use lib.ListN.{length, getD, take, drop};
+ghost use Rattle.lists.specs.Tabulate.{tabulate};
+ghost use Rattle.codec.specs.Folded.{gathered, folded};
+ghost use Rattle.codec.specs.Table.{table};
+ghost use Rattle.frame.specs.Frame.{checkSums};
+
+// The row with zeros after it.
+fn padded(x: &[u16]) -> [u16; 256]
+    requires { ⌜ length (now x) ≤ 256 ⌝ }
+    ensures { λ r. ⌜ ((k : ℕ) → getD r k 0 ≡ getD (now (x .entry)) k 0) ⌝ }
+{
+    let mut y = [0u16; 256];
+    let mut i = 0;
+    while i < x.len() {
+        y[i] = x[i];
+        i += 1;
+    }
+    y
+}
+
+// Adds w times x to the cells.
+fn add_multiple(cells: &mut [u32], x: &[u16], w: u16)
+    requires {
+        ⌜ (length (now cells) ≡ length (now x))
+            × ((k : ℕ) → k < length (now x) → getD (now cells) k 0 + getD (now x) k 0 * w < 4294967296) ⌝
+    }
+    ensures {
+        λ r. ⌜ now (cells .exit)
+            ≡ tabulate (length (now (x .entry))) (λ k. getD (now (cells .entry)) k 0 + getD (now (x .entry)) k 0 * w) ⌝
+    }
+{
+    let mut a = 0;
+    while a < x.len() {
+        cells[a] += times(x[a], w);
+        a += 1;
+    }
+}
+
+// The columns of the row folded for check sum j, not reduced: 16 products of 65535 and 256 fit each.
+fn gather(powers: &[u16; 256], x: &[u16], blocks: usize, j: usize) -> [u32; 16]
+    requires { ⌜ (now powers ≡ table) × (16 * blocks ≤ length (now x)) × (blocks ≤ 16) × (j ≤ 16) ⌝ }
+    ensures { λ r. ⌜ r ≡ tabulate 16 (gathered blocks (now (x .entry)) j) ⌝ }
+{
+    let mut cells = [0u32; 16];
+    let mut b: usize = 0;
+    while b < blocks {
+        let a = 16 * b;
+        let e = a + 16;
+        add_multiple(&mut cells, &x[a..e], powers[(a * j) % 256]);
+        b += 1;
+    }
+    cells
+}
+
+// The row folded for check sum j.
+fn fold(powers: &[u16; 256], x: &[u16], blocks: usize, j: usize, y: &mut [u16])
+    requires {
+        ⌜ (now powers ≡ table) × (16 * blocks ≤ length (now x)) × (blocks ≤ 16) × (j ≤ 16) × (length (now y) ≡ 16) ⌝
+    }
+    ensures { λ r. ⌜ now (y .exit) ≡ folded blocks (now (x .entry)) j ⌝ }
+{
+    let cells = gather(powers, x, blocks, j);
+    let mut a = 0;
+    while a < y.len() {
+        y[a] = (cells[a] % 257) as u16;
+        a += 1;
+    }
+}
+
+// The row folded for each of the first check sums, one after the other.
+fn fold_each(powers: &[u16; 256], x: &[u16], blocks: usize, ways: usize) -> [u16; 256]
+    requires { ⌜ (now powers ≡ table) × (16 * blocks ≤ length (now x)) × (blocks ≤ 16) × (ways ≤ 16) ⌝ }
+    ensures { λ r. ⌜ ((k : ℕ) → k < ways → take 16 (drop (16 * k) r) ≡ folded blocks (now (x .entry)) (suc k)) ⌝ }
+{
+    let mut rows = [0u16; 256];
+    let mut k: usize = 0;
+    while k < ways {
+        let a = 16 * k;
+        let e = a + 16;
+        fold(powers, x, blocks, k + 1, &mut rows[a..e]);
+        k += 1;
+    }
+    rows
+}
+
+fn at_most_16(n: usize) -> usize
+    ensures within { λ r. ⌜ r ≤ 16 ⌝ }
+    ensures enough { λ r. ⌜ ((k : ℕ) → k < n → k % 16 < r) ⌝ }
+{
+    if n < 16 {
+        return n;
+    }
+    16
+}
+
+// The check sums S_1, S_2, .. of a row x, as many as there are places for them.
+pub fn staged_sums(powers: &[u16; 256], x: &[u16], sums: &mut [u16])
+    requires { ⌜ (now powers ≡ table) × (length (now x) ≤ 256) ⌝ }
+    ensures { λ r. ⌜ now (sums .exit) ≡ checkSums (length (now (x .entry))) (length (now (sums .entry))) (now (x .entry)) ⌝ }
+{
+    let y = padded(x);
+    let rows = fold_each(powers, &y, (x.len() + 15) / 16, at_most_16(sums.len()));
+    let mut k = 0;
+    while k < sums.len() {
+        let a = 16 * (k % 16);
+        let e = a + 16;
+        sums[k] = value_at(powers, &rows[a..e], k + 1);
+        k += 1;
+    }
+}
