@@ -2,8 +2,8 @@
 -- the folded row; and the powers of 3 come round after 256, so that rows are folded in 16 ways only. Assumes nothing.
 use mathlib.Core.Path.{_≡_, sym, ap, ap₂, _∙_}
 use mathlib.Core.List.{List}
-use Prim.Native.Nat.{ℕ, zero, suc, _+_, _-_, _*_, _/_, _%_, _≤_, _<_}
-use native.Mathlib.Nat.{add-mul, add-mul-mod-self-right, add-zero, mod-add-div, mul-assoc, mul-zero, zero-mul}
+use Prim.Native.Nat.{ℕ, suc, _+_, _-_, _*_, _/_, _%_, _≤_, _<_}
+use native.Mathlib.Nat.{add-mul, add-mul-mod-self-right, mod-add-div, mul-assoc, zero-mul}
 use native.Mathlib.Numerals.{add-one}
 use native.Mathlib.Omega.{arith}
 use borrow.Rule.Slice.PartMut.{midOf}
@@ -12,39 +12,14 @@ use lib.Pow.{pow-add}
 use Rattle.field.specs.Coefficients.{value}
 use Rattle.field.specs.Total.{total}
 use Rattle.field.proofs.Remainders.{mod-mul-mod, mul-mod-mod}
-use Rattle.field.proofs.Totals.{total-zero, total-suc, total-ext, total-bound, total-add, total-mul, total-split, total-mod}
+use Rattle.field.proofs.Totals.{total-ext, total-mul, total-mod}
 use Rattle.lists.proofs.Tabulated.{getD-tabulate, length-tabulate, tabulate-ext}
 use Rattle.frame.specs.Frame.{checkSum}
 use Rattle.frame.specs.Powers.{powerOf3, weight}
 use Rattle.frame.proofs.Locators.{power-mod}
 use Rattle.codec.specs.Folded.{gathered, folded}
 use Rattle.codec.proofs.Accumulation.{check-sum-value}
-
--- terms that are 0
-total-none : (n : ℕ) (f : ℕ → ℕ) → ((k : ℕ) → k < n → f k ≡ 0) → total n f ≡ 0
-total-none n f none = omega (arith, total-bound n 0 f (λ k h. let e = none k h in omega arith), mul-zero n)
-
-total-swap : (m n : ℕ) (f : ℕ → ℕ → ℕ) → total m (λ b. total n (f b)) ≡ total n (λ a. total m (λ b. f b a))
-total-swap zero n f =
-    total-zero (λ b. total n (f b)) ∙ sym (total-none n (λ a. total 0 (λ b. f b a)) (λ a h. total-zero (λ b. f b a)))
-total-swap (suc m) n f =
-    total-suc m (λ b. total n (f b)) ∙ ap (λ (t : ℕ). t + total n (f m)) (total-swap m n f)
-    ∙ sym (total-add n (λ a. total m (λ b. f b a)) (f m))
-    ∙ total-ext n (λ a. total m (λ b. f b a) + f m a) (λ a. total (suc m) (λ b. f b a)) (λ a h. sym (total-suc m (λ b. f b a)))
-
-total-blocks : (n blocks : ℕ) (f : ℕ → ℕ) → total (n * blocks) f ≡ total blocks (λ b. total n (λ a. f (n * b + a)))
-total-blocks n zero f =
-    ap (λ (k : ℕ). total k f) (mul-zero n) ∙ total-zero f ∙ sym (total-zero (λ b. total n (λ a. f (n * b + a))))
-total-blocks n (suc blocks) f =
-    ap (λ (k : ℕ). total k f) (let e : n * suc blocks ≡ n * blocks + n = omega arith in e)
-    ∙ total-split (n * blocks) n f ∙ ap (λ (t : ℕ). t + total n (λ a. f (n * blocks + a))) (total-blocks n blocks f)
-    ∙ sym (total-suc blocks (λ b. total n (λ a. f (n * b + a))))
-
--- terms from n on that are 0
-total-rest : (n m : ℕ) (f : ℕ → ℕ) → n ≤ m → ((k : ℕ) → n ≤ k → f k ≡ 0) → total m f ≡ total n f
-total-rest n m f le none =
-    ap (λ (k : ℕ). total k f) (let e : m ≡ n + (m - n) = omega arith in e) ∙ total-split n (m - n) f
-    ∙ ap (λ (t : ℕ). total n f + t) (total-none (m - n) (λ k. f (n + k)) (λ k h. none (n + k) (omega arith))) ∙ add-zero (total n f)
+use Rattle.codec.proofs.BlockSums.{total-swap, total-blocks, total-rest}
 
 weight-add : (i k j : ℕ) → weight (i + k) j ≡ weight i j * weight k j
 unfolding weight
@@ -79,28 +54,37 @@ module _ (x : List ℕ) (j blocks : ℕ) where
   unfolding checkSum
   folded-sum le =
       sym (total-mod 16 257 (λ a. getD (folded blocks x j) a 0 * weight a j))
-      ∙ ap (λ (t : ℕ). t % 257) (total-ext 16 (λ a. (getD (folded blocks x j) a 0 * weight a j) % 257) (λ a. total blocks (λ b. term (16 * b + a)) % 257) column)
+      ∙ ap (λ (t : ℕ). t % 257)
+      (total-ext 16 (λ a. (getD (folded blocks x j) a 0 * weight a j) % 257) (λ a. total blocks (λ b. term (16 * b + a)) % 257) column)
       ∙ total-mod 16 257 (λ a. total blocks (λ b. term (16 * b + a)))
       ∙ ap (λ (t : ℕ). t % 257)
       (sym (total-swap blocks 16 (λ b a. term (16 * b + a))) ∙ sym (total-blocks 16 blocks term)
-      ∙ total-rest (length x) (16 * blocks) term le (λ k h. ap (λ (v : ℕ). v * weight k j) (List·getD-eq-default x 0 h) ∙ zero-mul (weight k j)))
+      ∙ total-rest (length x) (16 * blocks) term le past)
+    where
+      past : (k : ℕ) → length x ≤ k → term k ≡ 0
+      past k h = ap (λ (v : ℕ). v * weight k j) (List·getD-eq-default x 0 h) ∙ zero-mul (weight k j)
 
 -- 3^(16 b j) depends on j modulo 16 only
 power-class : (b i j : ℕ) → i % 16 ≡ j % 16 → powerOf3 (16 * b * i) ≡ powerOf3 (16 * b * j)
-power-class b i j e = power-mod (16 * b * i) ∙ ap powerOf3 (round i ∙ ap (λ (r : ℕ). (16 * b * r) % 256) e ∙ sym (round j)) ∙ sym (power-mod (16 * b * j))
+power-class b i j e =
+    power-mod (16 * b * i) ∙ ap powerOf3 (round i ∙ ap (λ (r : ℕ). (16 * b * r) % 256) e ∙ sym (round j)) ∙ sym (power-mod (16 * b * j))
   where
+    rounds : (r q : ℕ) → 16 * b * (r + 16 * q) ≡ 16 * b * r + b * q * 256
+    rounds r q = omega arith
+
     round : (k : ℕ) → (16 * b * k) % 256 ≡ (16 * b * (k % 16)) % 256
     round k =
-        ap (λ (m : ℕ). m % 256)
-        (ap (λ (m : ℕ). 16 * b * m) (sym (mod-add-div k 16)) ∙ (let q : 16 * b * (k % 16 + 16 * (k / 16)) ≡ 16 * b * (k % 16) + b * (k / 16) * 256 = omega arith in q))
+        ap (λ (m : ℕ). m % 256) (ap (λ (m : ℕ). 16 * b * m) (sym (mod-add-div k 16)) ∙ rounds (k % 16) (k / 16))
         ∙ add-mul-mod-self-right (16 * b * (k % 16)) (b * (k / 16)) 256
 
 -- rows with the same entries, one of them longer
-pub folded-same : (blocks : ℕ) (x y : List ℕ) (i j : ℕ) → ((k : ℕ) → getD x k 0 ≡ getD y k 0) → i % 16 ≡ j % 16 → folded blocks x i ≡ folded blocks y j
+folded-same : (blocks : ℕ) (x y : List ℕ) (i j : ℕ) → ((k : ℕ) → getD x k 0 ≡ getD y k 0) → i % 16 ≡ j % 16
+    → folded blocks x i ≡ folded blocks y j
 unfolding folded gathered
 folded-same blocks x y i j same e =
     tabulate-ext 16 (λ a. gathered blocks x i a % 257) (λ a. gathered blocks y j a % 257)
-    (λ a h. ap (λ (t : ℕ). t % 257) (total-ext blocks (λ b. getD x (16 * b + a) 0 * powerOf3 (16 * b * i)) (λ b. getD y (16 * b + a) 0 * powerOf3 (16 * b * j))
+    (λ a h. ap (λ (t : ℕ). t % 257)
+    (total-ext blocks (λ b. getD x (16 * b + a) 0 * powerOf3 (16 * b * i)) (λ b. getD y (16 * b + a) 0 * powerOf3 (16 * b * j))
     (λ b l. ap₂ _*_ (same (16 * b + a)) (power-class b i j e))))
 
 pub length-folded : (blocks : ℕ) (x : List ℕ) (j : ℕ) → length (folded blocks x j) ≡ 16

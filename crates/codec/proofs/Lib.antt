@@ -1,13 +1,17 @@
 pub mod Accumulation
+pub mod BlockSums
 pub mod CheckColumns
 pub mod Division
+pub mod FoldedRows
 pub mod FoldedSums
 pub mod Folding
 pub mod FrameTests
+pub mod Gathering
 pub mod Held
 pub mod LocatorBuilding
 pub mod LocatorOrder
 pub mod Multiplication
+pub mod Padding
 pub mod PowerTable
 pub mod Quotient
 pub mod ReadOff

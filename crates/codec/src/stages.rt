@@ -1,6 +1,7 @@
 // Check sums of a row in two stages of 16: the row is folded into 16 columns in each of the 16 ways that there are, and each
 // check sum is that of a folded row. A row of 256 columns and 64 sums takes 5,120 products instead of 16,384.
-use crate::values::{times, value_at};
+use crate::values::times;
+use crate::values::value_at;
 ghost use mathlib.Core.Path.{_≡_};
 ghost use Prim.Native.Nat.{ℕ, suc, _+_, _*_, _%_, _≤_, _<_};
 ghost use lib.ListN.{length, getD, take, drop};
@@ -25,14 +26,10 @@ fn padded(x: &[u16]) -> [u16; 256]
 
 // Adds w times x to the cells.
 fn add_multiple(cells: &mut [u32], x: &[u16], w: u16)
-    requires {
-        ⌜ (length (now cells) ≡ length (now x))
-            × ((k : ℕ) → k < length (now x) → getD (now cells) k 0 + getD (now x) k 0 * w < 4294967296) ⌝
-    }
-    ensures {
-        λ r. ⌜ now (cells .exit)
-            ≡ tabulate (length (now (x .entry))) (λ k. getD (now (cells .entry)) k 0 + getD (now (x .entry)) k 0 * w) ⌝
-    }
+    requires { ⌜ (length (now cells) ≡ length (now x))
+        × ((k : ℕ) → k < length (now x) → getD (now cells) k 0 + getD (now x) k 0 * w < 4294967296) ⌝ }
+    ensures { λ r. ⌜ now (cells .exit)
+        ≡ tabulate (length (now (x .entry))) (λ k. getD (now (cells .entry)) k 0 + getD (now (x .entry)) k 0 * w) ⌝ }
 {
     let mut a = 0;
     while a < x.len() {
@@ -59,9 +56,7 @@ fn gather(powers: &[u16; 256], x: &[u16], blocks: usize, j: usize) -> [u32; 16]
 
 // The row folded for check sum j.
 fn fold(powers: &[u16; 256], x: &[u16], blocks: usize, j: usize, y: &mut [u16])
-    requires {
-        ⌜ (now powers ≡ table) × (16 * blocks ≤ length (now x)) × (blocks ≤ 16) × (j ≤ 16) × (length (now y) ≡ 16) ⌝
-    }
+    requires { ⌜ (now powers ≡ table) × (16 * blocks ≤ length (now x)) × (blocks ≤ 16) × (j ≤ 16) × (length (now y) ≡ 16) ⌝ }
     ensures { λ r. ⌜ now (y .exit) ≡ folded blocks (now (x .entry)) j ⌝ }
 {
     let cells = gather(powers, x, blocks, j);

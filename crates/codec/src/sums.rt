@@ -1,5 +1,6 @@
 // Check sums of a row and of a frame.
 use crate::powers::powers;
+use crate::stages::staged_sums;
 use crate::values::value_at;
 use frame::Shape;
 ghost use mathlib.Core.Path.{_≡_};
@@ -18,8 +19,8 @@ fn check_sum(powers: &[u16; 256], x: &[u16], j: usize) -> u16
     value_at(powers, x, j)
 }
 
-// The check sums S_1, S_2, .. of a row x, as many as there are places for them.
-pub fn row_sums(powers: &[u16; 256], x: &[u16], sums: &mut [u16])
+// The check sums S_1, S_2, .. of a row x, as many as there are places for them, one after the other.
+fn plain_sums(powers: &[u16; 256], x: &[u16], sums: &mut [u16])
     requires { ⌜ (now powers ≡ table) × (length (now x) ≤ 256) ⌝ }
     ensures { λ r. ⌜ now (sums .exit) ≡ checkSums (length (now (x .entry))) (length (now (sums .entry))) (now (x .entry)) ⌝ }
 {
@@ -28,6 +29,18 @@ pub fn row_sums(powers: &[u16; 256], x: &[u16], sums: &mut [u16])
         sums[j] = check_sum(powers, x, j + 1);
         j += 1;
     }
+}
+
+// The same, in two stages from 64 columns on: measured, shorter rows gain nothing by them.
+pub fn row_sums(powers: &[u16; 256], x: &[u16], sums: &mut [u16])
+    requires { ⌜ (now powers ≡ table) × (length (now x) ≤ 256) ⌝ }
+    ensures { λ r. ⌜ now (sums .exit) ≡ checkSums (length (now (x .entry))) (length (now (sums .entry))) (now (x .entry)) ⌝ }
+{
+    if x.len() < 64 {
+        plain_sums(powers, x, sums);
+        return;
+    }
+    staged_sums(powers, x, sums);
 }
 
 // The check sums of the rows of a frame, row after row, and zeros after them.

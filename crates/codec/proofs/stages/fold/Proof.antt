@@ -60,7 +60,8 @@ unfolding folded
 returns c =
     let start = c .before .before .before .before .before in
     filled-all _ _ _ _ (c .before .loop .inv) (omega arith)
-    ∙ ap (λ (n : ℕ). tabulate n (λ k. gathered (start .args .blocks) (start .args .x .now) (start .args .j) k % 257)) (let q : length (start .args .y .now) ≡ 16 = omega arith in q)
+    ∙ ap (λ (n : ℕ). tabulate n (λ k. gathered (start .args .blocks) (start .args .x .now) (start .args .j) k % 257))
+    (let q : length (start .args .y .now) ≡ 16 = omega arith in q)
 
 pub fold-spec : {M : Type 1} → statement M
 fold-spec =

@@ -1,7 +1,7 @@
 -- `codec::stages::fold_each` meets its contract. Assumes nothing.
 use Prim.Native.Nat.{_-_, _≤_}
 use native.Mathlib.Omega.{arith}
-use Rattle.codec.proofs.Folding.{Each, each-none, each-more}
+use Rattle.codec.proofs.FoldedRows.{Each, each-none, each-more}
 use borrow.Author.Needs.{needs}
 use Rattle.codec.proofs.stages.fold_each.Statement.{statement}
 use Rattle.codec.proofs.stages.fold_each.Tie as tie

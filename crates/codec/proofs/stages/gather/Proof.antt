@@ -7,7 +7,7 @@ use lib.ListN.{length}
 use Rattle.lists.specs.Tabulate.{tabulate}
 use Rattle.lists.proofs.Tabulated.{length-tabulate}
 use Rattle.codec.specs.Folded.{gathered}
-use Rattle.codec.proofs.Folding.{gathered-none, same-size, gathered-more, gathered-fits}
+use Rattle.codec.proofs.Gathering.{gathered-none, same-size, gathered-more, gathered-fits}
 use Rattle.codec.proofs.stages.gather.Statement.{statement}
 use Rattle.codec.proofs.stages.gather.Tie as tie
 
@@ -55,9 +55,10 @@ element-copy-out-add-multiple c = omega arith
 add-multiple-requires : tie.Need-add-multiple-requires Inv-loop μ-loop
 add-multiple-requires c κs =
     let at = c .before .before .before .before in
-    let start = at .before .before in
-    (same-size _ _ (at .loop .b) _ _ (start .pre .0) (at .loop .inv .1) (omega arith),
-    gathered-fits _ _ (at .loop .b) _ _ (start .pre .0) (at .loop .inv .1) (omega arith) (at .before .shared-slice-known .given) (omega arith))
+    let start = at .before .before in (
+      same-size _ _ (at .loop .b) _ _ (start .pre .0) (at .loop .inv .1) (omega arith),
+      gathered-fits _ _ (at .loop .b) _ _ (start .pre .0) (at .loop .inv .1) (omega arith) (at .before .shared-slice-known .given) (omega arith),
+    )
 
 add-b : tie.Need-add-b Inv-loop μ-loop
 add-b c = omega arith
@@ -75,7 +76,8 @@ returns : tie.Need-returns Inv-loop μ-loop
 returns c =
     let start = c .before .before .before in
     c .before .loop .inv .1
-    ∙ ap (λ (b : ℕ). tabulate 16 (gathered b (start .args .x .now) (start .args .j))) (let q : c .before .loop .b ≡ start .args .blocks = omega arith in q)
+    ∙ ap (λ (b : ℕ). tabulate 16 (gathered b (start .args .x .now) (start .args .j)))
+    (let q : c .before .loop .b ≡ start .args .blocks = omega arith in q)
 
 pub gather-spec : {M : Type 1} → statement M
 gather-spec =

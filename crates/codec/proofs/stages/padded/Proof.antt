@@ -4,7 +4,7 @@ use Prim.Native.Nat.{_-_, _≤_}
 use native.Mathlib.Omega.{arith}
 use lib.ListN.{length, replicate}
 use Rattle.lists.proofs.Copy.{copied, copied-more}
-use Rattle.codec.proofs.Folding.{padded-entries}
+use Rattle.codec.proofs.Padding.{padded-entries}
 use Rattle.codec.proofs.stages.padded.Statement.{statement}
 use Rattle.codec.proofs.stages.padded.Tie as tie
 

@@ -1,4 +1,4 @@
--- `codec::sums::row_sums` meets its contract. The loop fills the list with the check sums. Assumes nothing.
+-- `codec::sums::plain_sums` meets its contract. The loop fills the list with the check sums. Assumes nothing.
 use Prim.Native.Nat.{ℕ, suc, _-_}
 use mathlib.Core.Path.{ap, _∙_}
 use native.Mathlib.Numerals.{add-one}
@@ -7,8 +7,8 @@ use lib.ListN.{length}
 use Rattle.lists.proofs.Filling.{Filled, filled-none, filled-more, filled-all}
 use Rattle.frame.specs.Frame.{checkSum, checkSums}
 use borrow.Author.Needs.{needs}
-use Rattle.codec.proofs.sums.row_sums.Statement.{statement}
-use Rattle.codec.proofs.sums.row_sums.Tie as tie
+use Rattle.codec.proofs.sums.plain_sums.Statement.{statement}
+use Rattle.codec.proofs.sums.plain_sums.Tie as tie
 
 abbrev Inv-loop : tie.InvT-loop
 Inv-loop powers x sums₀ j₀ sums j = Filled (λ k. checkSum (length x) x (suc k)) sums₀ j sums
@@ -51,8 +51,8 @@ returns : tie.Need-returns Inv-loop μ-loop
 unfolding checkSums
 returns c = filled-all _ _ _ _ (c .before .loop .inv) (c .loop-test .left)
 
-pub row-sums-spec : {M : Type 1} → statement M
-row-sums-spec =
+pub plain-sums-spec : {M : Type 1} → statement M
+plain-sums-spec =
     tie.close
     (tie.spec
     Inv-loop

@@ -1,0 +1,78 @@
+-- The columns of a folded row gathered block by block: what they are after some blocks, and that they fit 32 bits. Assumes nothing.
+use mathlib.Core.Path.{_≡_, refl, sym, ap, ap₂, _∙_}
+use mathlib.Core.List.{List}
+use Prim.Native.Nat.{ℕ, _+_, _-_, _*_, _%_, _≤_, _<_}
+use native.Mathlib.Nat.{mod-lt, mul-le-mul}
+use native.Mathlib.Numerals.{add-one}
+use native.Mathlib.Omega.{arith}
+use borrow.Rule.Slice.PartMut.{midOf, mid-len}
+use mir.Syntax.{w16}
+use mir.Val.{Fits}
+use lib.ListN.{length, getD, replicate}
+use Rattle.lists.proofs.Entries.{getD-part}
+use Rattle.lists.proofs.Filling.{by-entries}
+use Rattle.lists.proofs.Joined.{replicate-each}
+use Rattle.lists.proofs.Tabulated.{getD-tabulate, length-tabulate, tabulate-ext}
+use Rattle.lists.specs.Tabulate.{tabulate}
+use Rattle.field.proofs.Totals.{total-zero, total-suc, total-bound}
+use Rattle.frame.specs.Powers.{powerOf3}
+use Rattle.frame.proofs.Locators.{power-mod}
+use Rattle.codec.specs.Folded.{gathered}
+use Rattle.codec.specs.Table.{table}
+use Rattle.codec.proofs.PowerTable.{table-power}
+
+module _ (x : List ℕ) (j : ℕ) where
+  gathered-zero : (a : ℕ) → gathered 0 x j a ≡ 0
+  unfolding gathered
+  gathered-zero a = total-zero (λ b. getD x (16 * b + a) 0 * powerOf3 (16 * b * j))
+
+  gathered-suc : (b a : ℕ) → gathered (b + 1) x j a ≡ gathered b x j a + getD x (16 * b + a) 0 * powerOf3 (16 * b * j)
+  unfolding gathered
+  gathered-suc b a = rw add-one (total-suc b (λ b. getD x (16 * b + a) 0 * powerOf3 (16 * b * j)))
+
+  gathered-bound : ((k : ℕ) → Fits w16 (getD x k 0)) → (b a : ℕ) → gathered b x j a ≤ b * (65535 * 256)
+  unfolding gathered
+  gathered-bound known b a =
+      total-bound b (65535 * 256) (λ b. getD x (16 * b + a) 0 * powerOf3 (16 * b * j))
+      (λ b h. mul-le-mul (let f = known (16 * b + a) in let l : getD x (16 * b + a) 0 ≤ 65535 = omega arith in l)
+      (let l : powerOf3 (16 * b * j) ≤ 256 = omega arith in l))
+
+  pub gathered-none : replicate 16 0 ≡ tabulate 16 (gathered 0 x j)
+  gathered-none =
+      by-entries 16 (gathered 0 x j) (replicate 16 0) refl (λ a h. replicate-each (λ (v : ℕ). v ≡ 0) 0 refl 16 a ∙ sym (gathered-zero a))
+
+  -- block b of the row is added, with its factor
+  module _ (b : ℕ) (powers cells : List ℕ) (t : powers ≡ table) (e : cells ≡ tabulate 16 (gathered b x j)) (inside : 16 * b + 16 ≤ length x) where
+    abbrev pub block : List ℕ
+    block = midOf (16 * b) (16 * b + 16 - 16 * b) x
+
+    abbrev pub factor : ℕ
+    factor = getD powers ((16 * b * j) % 256) 0
+
+    abbrev added : ℕ → ℕ
+    added a = getD cells a 0 + getD block a 0 * factor
+
+    length-block : length block ≡ 16
+    length-block = let l = mid-len (16 * b) (16 * b + 16) x inside in omega arith
+
+    factor-power : factor ≡ powerOf3 (16 * b * j)
+    factor-power =
+        ap (λ (l : List ℕ). getD l ((16 * b * j) % 256) 0) t ∙ table-power ((16 * b * j) % 256) (mod-lt (16 * b * j) (omega arith))
+        ∙ sym (power-mod (16 * b * j))
+
+    one-more : (a : ℕ) → a < 16 → added a ≡ gathered (b + 1) x j a
+    one-more a h =
+        ap₂ _+_ (ap (λ (l : List ℕ). getD l a 0) e ∙ getD-tabulate 16 (gathered b x j) a 0 h)
+        (ap₂ _*_ (getD-part (16 * b) (16 * b + 16 - 16 * b) x a 0 (omega arith)) factor-power)
+        ∙ sym (gathered-suc b a)
+
+    pub same-size : length cells ≡ length block
+    same-size = ap length e ∙ length-tabulate 16 (gathered b x j) ∙ sym length-block
+
+    pub gathered-more : tabulate (length block) added ≡ tabulate 16 (gathered (b + 1) x j)
+    gathered-more = ap (λ (n : ℕ). tabulate n added) length-block ∙ tabulate-ext 16 added (gathered (b + 1) x j) one-more
+
+    pub gathered-fits : ((k : ℕ) → Fits w16 (getD x k 0)) → b < 16 → (a : ℕ) → a < length block → added a < 4294967296
+    gathered-fits known less a h =
+        let l = length-block in
+        omega (arith, one-more a (omega arith), gathered-bound known (b + 1) a)
