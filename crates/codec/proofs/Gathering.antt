@@ -8,11 +8,11 @@ use native.Mathlib.Omega.{arith}
 use borrow.Rule.Slice.PartMut.{midOf, mid-len}
 use mir.Syntax.{w16}
 use mir.Val.{Fits}
-use lib.ListN.{length, getD, replicate}
+use lib.ListN.{length, getD}
 use Rattle.lists.proofs.Entries.{getD-part}
 use Rattle.lists.proofs.Filling.{by-entries}
-use Rattle.lists.proofs.Joined.{replicate-each}
 use Rattle.lists.proofs.Tabulated.{getD-tabulate, length-tabulate, tabulate-ext}
+use Rattle.lists.proofs.Zeros.{zeros, zeros-entry}
 use Rattle.lists.specs.Tabulate.{tabulate}
 use Rattle.field.proofs.Totals.{total-zero, total-suc, total-bound}
 use Rattle.frame.specs.Powers.{powerOf3}
@@ -37,9 +37,9 @@ module _ (x : List ℕ) (j : ℕ) where
       (λ b h. mul-le-mul (let f = known (16 * b + a) in let l : getD x (16 * b + a) 0 ≤ 65535 = omega arith in l)
       (let l : powerOf3 (16 * b * j) ≤ 256 = omega arith in l))
 
-  pub gathered-none : replicate 16 0 ≡ tabulate 16 (gathered 0 x j)
+  pub gathered-none : zeros 16 ≡ tabulate 16 (gathered 0 x j)
   gathered-none =
-      by-entries 16 (gathered 0 x j) (replicate 16 0) refl (λ a h. replicate-each (λ (v : ℕ). v ≡ 0) 0 refl 16 a ∙ sym (gathered-zero a))
+      by-entries 16 (gathered 0 x j) (zeros 16) refl (λ a h. zeros-entry 16 a ∙ sym (gathered-zero a))
 
   -- block b of the row is added, with its factor
   module _ (b : ℕ) (powers cells : List ℕ) (t : powers ≡ table) (e : cells ≡ tabulate 16 (gathered b x j)) (inside : 16 * b + 16 ≤ length x) where

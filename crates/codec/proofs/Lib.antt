@@ -4,7 +4,6 @@ pub mod CheckColumns
 pub mod Division
 pub mod FoldedRows
 pub mod FoldedSums
-pub mod Folding
 pub mod FrameTests
 pub mod Gathering
 pub mod Held

@@ -2,14 +2,15 @@
 use mathlib.Core.Path.{_≡_, refl}
 use Prim.Native.Nat.{_-_, _≤_}
 use native.Mathlib.Omega.{arith}
-use lib.ListN.{length, replicate}
+use lib.ListN.{length}
 use Rattle.lists.proofs.Copy.{copied, copied-more}
+use Rattle.lists.proofs.Zeros.{zeros}
 use Rattle.codec.proofs.Padding.{padded-entries}
 use Rattle.codec.proofs.stages.padded.Statement.{statement}
 use Rattle.codec.proofs.stages.padded.Tie as tie
 
 abbrev Inv-loop : tie.InvT-loop
-Inv-loop x y₀ i₀ y i = (i ≤ length x) × (y ≡ copied (replicate 256 0) x i)
+Inv-loop x y₀ i₀ y i = (i ≤ length x) × (y ≡ copied (zeros 256) x i)
 
 abbrev μ-loop : tie.MeasureT-loop
 μ-loop x y₀ i₀ y i = length x - i
@@ -38,7 +39,7 @@ loop-less c = omega arith
 loop-again : tie.Need-loop-again Inv-loop μ-loop
 loop-again c =
     let at = c .before .before in
-    (omega arith, copied-more (replicate 256 0) _ (at .loop .i) 0 (at .loop .inv .1) (omega arith) (omega arith))
+    (omega arith, copied-more (zeros 256) _ (at .loop .i) 0 (at .loop .inv .1) (omega arith) (omega arith))
 
 returns : tie.Need-returns Inv-loop μ-loop
 returns c = padded-entries 256 _ _ _ (c .before .loop .inv .1) (c .loop-test .left)
