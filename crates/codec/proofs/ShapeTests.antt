@@ -1,13 +1,13 @@
 -- The tests of a shape as the code makes them, one comparison after the other. Assumes nothing.
 use mathlib.Core.Path.{_≡_, refl, sym, ap, ap₂, _∙_}
-use mathlib.Core.Bool.{Bool, true, false, not, cond, _&&_, and-false}
+use mathlib.Core.Bool.{Bool, true, false, not, cond, _&&_, and-eq-true-iff, and-false}
 use mathlib.Core.List.{List, _++_}
 use Prim.Native.Nat.{ℕ, _+_, _-_, _≤_, _<_}
 use native.Mathlib.Omega.{arith}
 use lib.Dec.{leb, ltb}
 use lib.ListN.{length, getD, drop}
 use lib.Seq.{take-length}
-use borrow.Author.Tests.{le-leb, lt-leb, lt-ltb, le-ltb}
+use borrow.Author.Tests.{le-leb, lt-leb, lt-ltb, le-ltb, leb-true}
 use Rattle.frame.specs.Shape.{checksInRange, columnsInRange, isShape, rowsInRange, shapeOf, shapeTests}
 use Rattle.frame.specs.declared.Shape.{Shape}
 use Rattle.lists.proofs.Copy.{copied}
@@ -39,6 +39,10 @@ module _ (k : ℕ) where
   pub rows-taken : 1 ≤ k → k ≤ 8 → rowsInRange k ≡ true
   unfolding rowsInRange
   rows-taken = in-range 1 8 k
+
+  pub few-rows : rowsInRange k ≡ true → k ≤ 8
+  unfolding rowsInRange
+  few-rows e = leb-true k 8 (and-eq-true-iff (leb 1 k) (leb k 8) .0 e .1)
 
   pub few-columns : k < 2 → columnsInRange k ≡ false
   unfolding columnsInRange

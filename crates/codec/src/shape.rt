@@ -6,8 +6,32 @@ use refusal::Verdict;
 ghost use mathlib.Core.Path.{_≡_};
 ghost use Prim.Native.Nat.{_≤_};
 ghost use lib.ListN.{length};
-ghost use Rattle.frame.specs.Shape.{checksInRange, isShape, shapeOf, shapeTests};
+ghost use Rattle.frame.specs.Shape.{checksInRange, columnsInRange, isShape, rowsInRange, shapeOf, shapeTests};
 ghost use Rattle.refusal.specs.Outcome.{outcome, outcomeOf};
+
+fn rows_in_range(rows: usize) -> bool
+    ensures { λ r. ⌜ r ≡ rowsInRange rows ⌝ }
+{
+    if rows < 1 {
+        return false;
+    }
+    if rows > 8 {
+        return false;
+    }
+    true
+}
+
+fn columns_in_range(columns: usize) -> bool
+    ensures { λ r. ⌜ r ≡ columnsInRange columns ⌝ }
+{
+    if columns < 2 {
+        return false;
+    }
+    if columns > 256 {
+        return false;
+    }
+    true
+}
 
 // Whether the first check counts, as many as there are rows, are in range.
 fn checks_in_range(columns: usize, rows: usize, checks: &[u16]) -> bool
@@ -36,22 +60,16 @@ pub fn check_shape(columns: usize, checks: &[u16]) -> Verdict
     ensures { λ r. ⌜ outcomeOf r ≡ outcome (shapeTests columns (now (checks .entry))) ⌝ }
 {
     let rows = checks.len();
-    if rows < 1 {
+    if !rows_in_range(rows) {
         return Verdict::Refuse(Refusal::Count);
     }
-    if rows > 8 {
-        return Verdict::Refuse(Refusal::Count);
-    }
-    if columns < 2 {
+    if !columns_in_range(columns) {
         return Verdict::Refuse(Refusal::Columns);
     }
-    if columns > 256 {
-        return Verdict::Refuse(Refusal::Columns);
+    if !checks_in_range(columns, rows, checks) {
+        return Verdict::Refuse(Refusal::Checks);
     }
-    if checks_in_range(columns, rows, checks) {
-        return Verdict::Pass;
-    }
-    Verdict::Refuse(Refusal::Checks)
+    Verdict::Pass
 }
 
 // The shape of the columns and check counts given, of which there are not too many.
@@ -79,16 +97,10 @@ pub fn is_shape(s: Shape) -> bool
 {
     let rows = s.rows;
     let columns = s.columns;
-    if rows < 1 {
+    if !rows_in_range(rows) {
         return false;
     }
-    if rows > 8 {
-        return false;
-    }
-    if columns < 2 {
-        return false;
-    }
-    if columns > 256 {
+    if !columns_in_range(columns) {
         return false;
     }
     checks_in_range(columns, rows, &s.checks)

@@ -1,43 +1,56 @@
 -- `codec::shape::check_shape` meets its contract. Assumes nothing.
-use mathlib.Core.Path.{refl, sym, _∙_}
-use mathlib.Core.Bool.{true, false}
-use Rattle.codec.proofs.ShapeTests.{no-row, many-rows, rows-taken, few-columns, many-columns, columns-taken, shape-outcome}
+use mathlib.Core.Path.{_≡_, refl, sym, _∙_}
+use mathlib.Core.Bool.{Bool, true, false, not, cond}
+use borrow.Author.Tests.{not-true, not-false}
+use Rattle.frame.specs.Shape.{shapeTests}
+use Rattle.refusal.specs.Outcome.{outcome, passed, refused}
+use Rattle.codec.proofs.ShapeTests.{shape-outcome}
 use borrow.Author.Needs.{needs}
 use Rattle.codec.proofs.shape.check_shape.Statement.{statement}
 use Rattle.codec.proofs.shape.check_shape.Tie as tie
 
+-- the answer, once the check counts are tested
+by-checks : (c : tie.After-checks-in-range) (b : Bool) → c .checks-in-range .result ≡ b →
+    let args = c .before .before .before .before .before .before .args in
+    cond (not b) (refused 6) passed ≡ outcome (shapeTests (args .columns) (args .checks .now))
+by-checks c b e =
+    let columns = c .before in
+    let rows = columns .before .before in
+    shape-outcome _ _ true true b (sym (rows .before .rows-in-range .ensures) ∙ not-false _ (rows .if1 .left))
+    (sym (columns .before .columns-in-range .ensures) ∙ not-false _ (columns .if2 .left)) (sym (c .checks-in-range .ensures) ∙ e)
+
+rows-in-range-requires : tie.Need-rows-in-range-requires
+rows-in-range-requires c κs = search needs
+
 returns : tie.Need-returns
-returns c = shape-outcome _ _ false _ _ (no-row _ (c .if1 .taken)) refl refl
+returns c = shape-outcome _ _ false _ _ (sym (c .before .rows-in-range .ensures) ∙ not-true _ (c .if1 .taken)) refl refl
+
+columns-in-range-requires : tie.Need-columns-in-range-requires
+columns-in-range-requires c κs = search needs
 
 returns-2 : tie.Need-returns-2
-returns-2 c = shape-outcome _ _ false _ _ (many-rows _ (c .if2 .taken)) refl refl
-
-returns-3 : tie.Need-returns-3
-returns-3 c = shape-outcome _ _ true false _ (rows-taken _ (c .before .before .if1 .left) (c .before .if2 .left)) (few-columns _ (c .if3 .taken)) refl
-
-returns-4 : tie.Need-returns-4
-returns-4 c =
-    let rows = c .before .before in
-    shape-outcome _ _ true false _ (rows-taken _ (rows .before .if1 .left) (rows .if2 .left)) (many-columns _ (c .if4 .taken)) refl
+returns-2 c =
+    let tested = c .before .before in
+    shape-outcome _ _ true false _ (sym (tested .before .rows-in-range .ensures) ∙ not-false _ (tested .if1 .left))
+    (sym (c .before .columns-in-range .ensures) ∙ not-true _ (c .if2 .taken)) refl
 
 checks-in-range-requires : tie.Need-checks-in-range-requires
 checks-in-range-requires c κs = search needs
 
-returns-5 : tie.Need-returns-5
-returns-5 c =
-    let columns = c .before .before in
-    let rows = columns .before .before in
-    shape-outcome _ _ true true true (rows-taken _ (rows .before .if1 .left) (rows .if2 .left)) (columns-taken _ (columns .before .if3 .left) (columns .if4 .left))
-    (sym (c .before .checks-in-range .ensures) ∙ c .if5 .taken)
+returns-3 : tie.Need-returns-3
+returns-3 c = by-checks (c .before) false (not-true _ (c .if3 .taken))
 
-returns-6 : tie.Need-returns-6
-returns-6 c =
-    let columns = c .before .before in
-    let rows = columns .before .before in
-    shape-outcome _ _ true true false (rows-taken _ (rows .before .if1 .left) (rows .if2 .left)) (columns-taken _ (columns .before .if3 .left) (columns .if4 .left))
-    (sym (c .before .checks-in-range .ensures) ∙ c .if5 .left)
+returns-4 : tie.Need-returns-4
+returns-4 c = by-checks (c .before) true (not-false _ (c .if3 .left))
 
 pub check-shape-spec : {M : Type 1} → statement M
 check-shape-spec =
     tie.close
-    (tie.spec returns returns-2 returns-3 returns-4 checks-in-range-requires returns-5 returns-6)
+    (tie.spec
+    rows-in-range-requires
+    returns
+    columns-in-range-requires
+    returns-2
+    checks-in-range-requires
+    returns-3
+    returns-4)

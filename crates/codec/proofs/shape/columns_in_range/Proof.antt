@@ -1,0 +1,17 @@
+-- `codec::shape::columns_in_range` meets its contract. Assumes nothing.
+use mathlib.Core.Path.{sym}
+use Rattle.codec.proofs.ShapeTests.{few-columns, many-columns, columns-taken}
+use Rattle.codec.proofs.shape.columns_in_range.Statement.{statement}
+use Rattle.codec.proofs.shape.columns_in_range.Tie as tie
+
+returns : tie.Need-returns
+returns c = sym (few-columns _ (c .if1 .taken))
+
+returns-2 : tie.Need-returns-2
+returns-2 c = sym (many-columns _ (c .if2 .taken))
+
+returns-3 : tie.Need-returns-3
+returns-3 c = sym (columns-taken _ (c .before .if1 .left) (c .if2 .left))
+
+pub columns-in-range-spec : {M : Type 1} → statement M
+columns-in-range-spec = tie.close (tie.spec returns returns-2 returns-3)
