@@ -15,7 +15,7 @@ ghost use Rattle.lists.specs.Tabulate.{every};
 ghost use Rattle.refusal.specs.Outcome.{outcome, outcomeOf};
 
 // Whether every cell holds a symbol.
-fn all_below(cells: &[u16]) -> bool
+pub fn all_below(cells: &[u16]) -> bool
     ensures { λ r. ⌜ r ≡ every (length (now (cells .entry))) (λ k. ltb (getD (now (cells .entry)) k 0) 257) ⌝ }
 {
     let mut k = 0;

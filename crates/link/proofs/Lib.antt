@@ -1,0 +1,10 @@
+pub mod Outside
+pub mod Searching
+pub mod Splitting
+pub mod Lending
+pub mod Emptiness
+pub mod Locating
+pub mod Steps
+pub mod Orders
+pub mod EachRow
+pub mod Marked

@@ -1,0 +1,138 @@
+-- What each call gives after each of its tests, and the answers that it makes of it.
+-- Assumes nothing.
+use mathlib.Core.Path.{_≡_, refl, sym, ap, ap₂, _∙_}
+use mathlib.Core.Bool.{true, false, cond, not}
+use mathlib.Core.List.{List, [], _∷_, _++_}
+use Prim.Native.Nat.{ℕ, _*_, _≤_}
+use lib.ListN.{length}
+use Rattle.decoding.specs.Locating.{repaired}
+use Rattle.frame.specs.Encode.{encoded, encodeTests}
+use Rattle.frame.specs.Frame.{heldSums, frameTests}
+use Rattle.frame.specs.Shape.{shapeOf, shapeTests}
+use Rattle.frame.specs.declared.Shape.{Shape}
+use Rattle.frame.proofs.Reasons.{shape-passes, frame-passes}
+use Rattle.frame.proofs.Shapes.{shape-ranges}
+use Rattle.job.specs.Answers.{shapeOutcome, encodeOutcome, answeredOutcome}
+use Rattle.job.specs.Calls.{shape, encode, locate, repair, step, shapeCall, encodeCall, locateCall, repairCall, refusing, locates, registerTests, repairs, repairTests, sameSums}
+use Rattle.job.specs.Job.{isEmpty, isLocatedPhase, lengthOf, shapedJob}
+use Rattle.job.specs.declared.Answered.{Answered}
+use Rattle.job.specs.declared.Job.{Job}
+use Rattle.refusal.specs.Number.{number}
+use Rattle.refusal.specs.declared.Refusal.{Refusal}
+use Rattle.refusal.specs.declared.Refusal.the-variants.{Empty}
+use Rattle.refusal.specs.declared.Verdict.{Verdict}
+use Rattle.refusal.specs.declared.Verdict.the-variants.{Pass, Refuse}
+use Rattle.refusal.specs.Order.{Test, firstOf}
+use Rattle.refusal.specs.Outcome.{passed, refused, outcome, outcomeOf}
+use Rattle.link.specs.Answered as answer-of
+use Rattle.link.proofs.Orders.{first-refused, first-passed, passed-pass}
+
+-- a refusal of the calls' answer, with the job that it leaves
+pub refusal-outcome : (f : List ℕ) {r : Answered} {i j : Job} (why : Refusal) → r ≡ answer-of.refusal i why → i ≡ j
+    → answeredOutcome r f ≡ refusing j f (number why)
+refusal-outcome f why e g = ap (λ x. answeredOutcome x f) (e ∙ ap (λ k. answer-of.refusal k why) g)
+
+-- a repair's answer and frame
+pub mended-outcome : (j : Job) (f : List ℕ) {r : Answered} {c : ℕ} {left : List ℕ} → r ≡ answer-of.repair (j .shape) c (j .findings .columns)
+    → c ≡ lengthOf (j .phase) → left ≡ repaired (j .shape) (j .findings .columns) f → answeredOutcome r left ≡ repairs j f
+mended-outcome j f e n l = cc
+
+pub passed-size : (s : Shape) (f : List ℕ) → outcome (frameTests s f) ≡ passed → length f ≡ s .rows * s .columns
+passed-size s f e = frame-passes s f (passed-pass (frameTests s f) e) .size
+
+-- ---- shape
+
+pub passed-rows : (n : ℕ) (checks : List ℕ) → outcome (shapeTests n checks) ≡ passed → length checks ≤ 8
+unfolding shapeOf
+passed-rows n checks e = shape-ranges (shapeOf n checks) (shape-passes n checks (passed-pass (shapeTests n checks) e)) .rows-most
+
+module _ (j : Job) (n : ℕ) (checks : List ℕ) where
+  pub shape-refused : {v : Verdict} (why : Refusal) → outcomeOf v ≡ outcome (shapeTests n checks) → v ≡ Refuse why
+      → shapeOutcome (record { verdict = v; job = j }) ≡ step j (shape n checks)
+  unfolding step shapeCall
+  shape-refused why e r =
+      ap (λ x. shapeOutcome (record { verdict = x; job = j })) r
+      ∙ first-refused (refusing j []) _ (shapeTests n checks) (number why) (sym e ∙ ap outcomeOf r)
+
+  pub shape-given : {v : Verdict} {i : Job} → outcomeOf v ≡ outcome (shapeTests n checks) → v ≡ Pass → i ≡ shapedJob (shapeOf n checks)
+      → shapeOutcome (record { verdict = v; job = i }) ≡ step j (shape n checks)
+  unfolding step shapeCall
+  shape-given e r s =
+      ap₂ (λ x y. shapeOutcome (record { verdict = x; job = y })) r s
+      ∙ first-passed (refusing j []) _ (shapeTests n checks) (sym e ∙ ap outcomeOf r)
+
+-- ---- encode
+
+module _ (j : Job) (f : List ℕ) where
+  pub encode-empty : isEmpty j ≡ true → encodeOutcome j (Refuse Empty) f ≡ step j (encode f)
+  unfolding step encodeCall
+  encode-empty e = rw e refl
+
+  abbrev leaves : List ℕ
+  leaves = firstOf (λ k. f) (encodeTests (j .shape) f) (encoded (j .shape) f)
+
+  pub encode-given : isEmpty j ≡ false → (v : Verdict) {left : List ℕ} → outcomeOf v ≡ outcome (encodeTests (j .shape) f) → left ≡ leaves
+      → encodeOutcome j v left ≡ step j (encode f)
+  unfolding step encodeCall
+  encode-given full Pass e l =
+      ap (encodeOutcome j Pass) (l ∙ sym (first-passed (λ k. f) _ (encodeTests (j .shape) f) (sym e)))
+      ∙ rw full (first-passed (refusing j f) _ (encodeTests (j .shape) f) (sym e))
+  encode-given full (Refuse why) e l =
+      ap (encodeOutcome j (Refuse why)) (l ∙ sym (first-refused (λ k. f) _ (encodeTests (j .shape) f) (number why) (sym e)))
+      ∙ rw full (first-refused (refusing j f) _ (encodeTests (j .shape) f) (number why) (sym e))
+
+-- ---- locate
+
+module _ (j : Job) (f : List ℕ) where
+  pub locate-empty : isEmpty j ≡ true → refusing j f 21 ≡ step j (locate f)
+  unfolding step locateCall
+  locate-empty e = rw e refl
+
+  module _ (full : isEmpty j ≡ false) where
+    pub locate-refused : (k : ℕ) → outcome (frameTests (j .shape) f) ≡ refused k → refusing j f k ≡ step j (locate f)
+    unfolding step locateCall
+    locate-refused k e = rw full (first-refused (refusing j f) _ (frameTests (j .shape) f) k e)
+
+    pub locate-goes-on : outcome (frameTests (j .shape) f) ≡ passed
+        → firstOf (refusing (shapedJob (j .shape)) f) (registerTests (shapedJob (j .shape)) f) (locates (j .shape) f) ≡ step j (locate f)
+    unfolding step locateCall registerTests shapedJob
+    locate-goes-on e = rw full (first-passed (refusing j f) _ (frameTests (j .shape) f) e)
+
+-- ---- repair
+
+-- one order after another
+after : {A : Type 0} (refuse : ℕ → A) (ts us : List Test) (otherwise : A) → firstOf refuse (ts ++ us) otherwise ≡ firstOf refuse ts (firstOf refuse us otherwise)
+after refuse [] us otherwise = refl
+after refuse (t ∷ ts) us otherwise = ap (λ later. cond (t .fails) (refuse (t .number)) later) (after refuse ts us otherwise)
+
+module _ (j : Job) (f : List ℕ) where
+  abbrev sumsTest : List Test
+  sumsTest = record { number = 23; fails = not (sameSums (heldSums (j .shape) f) (j .findings .sums)) } ∷ []
+
+  pub repair-empty : isEmpty j ≡ true → refusing j f 21 ≡ step j (repair f)
+  unfolding step repairCall repairTests
+  repair-empty e = rw e refl
+
+  module _ (full : isEmpty j ≡ false) where
+    pub repair-unlocated : isLocatedPhase (j .phase) ≡ false → refusing j f 22 ≡ step j (repair f)
+    unfolding step repairCall repairTests
+    repair-unlocated e = rw (full, e) refl
+
+    module _ (located : isLocatedPhase (j .phase) ≡ true) where
+      -- the tests of the frame come next, then that of the sums
+      next : step j (repair f) ≡ firstOf (refusing j f) (frameTests (j .shape) f) (firstOf (refusing j f) sumsTest (repairs j f))
+      unfolding step repairCall repairTests
+      next = rw (full, located) (after (refusing j f) (frameTests (j .shape) f) sumsTest (repairs j f))
+
+      pub repair-refused : (k : ℕ) → outcome (frameTests (j .shape) f) ≡ refused k → refusing j f k ≡ step j (repair f)
+      repair-refused k e = first-refused (refusing j f) _ (frameTests (j .shape) f) k e ∙ sym next
+
+      module _ (well-formed : outcome (frameTests (j .shape) f) ≡ passed) where
+        goes-on : firstOf (refusing j f) sumsTest (repairs j f) ≡ step j (repair f)
+        goes-on = first-passed (refusing j f) _ (frameTests (j .shape) f) well-formed ∙ sym next
+
+        pub repair-differs : sameSums (heldSums (j .shape) f) (j .findings .sums) ≡ false → refusing j f 23 ≡ step j (repair f)
+        repair-differs e = rw e at goes-on
+
+        pub repair-mends : sameSums (heldSums (j .shape) f) (j .findings .sums) ≡ true → repairs j f ≡ step j (repair f)
+        repair-mends e = rw e at goes-on

@@ -1,0 +1,18 @@
+// Encoding: the job is read for its shape, and kept.
+use crate::sound::counts_as_empty;
+use codec::encode::encode_frame;
+use job::Job;
+use refusal::Refusal;
+use refusal::Verdict;
+ghost use mathlib.Core.Path.{_≡_};
+ghost use Rattle.job.specs.Answers.{encodeOutcome};
+ghost use Rattle.job.specs.Calls.{encode, step};
+
+pub fn encode(j: Job, frame: &mut [u16]) -> Verdict
+    ensures { λ r. ⌜ encodeOutcome j r (now (frame .exit)) ≡ step j (encode (now (frame .entry))) ⌝ }
+{
+    if counts_as_empty(j) {
+        return Verdict::Refuse(Refusal::Empty);
+    }
+    encode_frame(j.shape, frame)
+}

@@ -1,0 +1,43 @@
+// The search for the columns that a register names.
+use codec::powers::powers;
+use codec::values::value_at;
+use columns::Columns;
+use frame::Shape;
+ghost use mathlib.Core.Path.{_≡_};
+ghost use Prim.Native.Nat.{_≤_};
+ghost use lib.Dec.{eqb};
+ghost use lib.ListN.{length, getD};
+ghost use Rattle.codec.specs.Table.{table};
+ghost use Rattle.decoding.specs.Locating.{namedColumns};
+ghost use Rattle.field.specs.Coefficients.{value};
+ghost use Rattle.field.specs.Residue.{inverse};
+ghost use Rattle.frame.specs.Powers.{locatorOf};
+
+// The inverse of the locator of column i is a root of the taps. The inverse of 3^i is 3^(256 − i).
+fn is_root(powers: &[u16; 256], taps: &[u16], i: usize) -> bool
+    requires { ⌜ (now powers ≡ table) × (length (now taps) ≤ 256) × (i ≤ 256) ⌝ }
+    ensures { λ r. ⌜ r ≡ eqb (value 257 (now (taps .entry)) (inverse 257 (locatorOf i))) 0 ⌝ }
+{
+    value_at(powers, taps, 256 - i) == 0
+}
+
+// The columns of the shape that a register names. One of length 0 names none, and nothing is searched.
+pub fn named_columns(s: Shape, taps: &[u16]) -> Columns
+    requires { ⌜ (s .columns ≤ 256) × (length (now taps) ≤ 256) × (getD (now taps) 0 0 ≡ 1) ⌝ }
+    ensures { λ r. ⌜ r ≡ namedColumns s (now (taps .entry)) ⌝ }
+{
+    let mut found = columns::empty();
+    if taps.len() < 2 {
+        return found;
+    }
+    let powers = powers();
+    let n = s.columns;
+    let mut i = 0;
+    while i < n {
+        if is_root(&powers, taps, i) {
+            found = columns::with(found, i);
+        }
+        i += 1;
+    }
+    found
+}
