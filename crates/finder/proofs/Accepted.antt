@@ -16,9 +16,9 @@ use Rattle.refusal.proofs.Orders.{Pass, no-fail, none-pass, outcome-passed}
 use Rattle.refusal.specs.Outcome.{passed, outcome}
 use Rattle.register.specs.Sequences.{largest, split}
 use Rattle.finder.specs.Demands.{reasons}
-use Rattle.finder.specs.Finder.{tests}
+use Rattle.finder.specs.Finder.{isShort, tests}
 use Rattle.finder.proofs.Checks.{counted-bounds}
-use Rattle.finder.proofs.Reasons.{short, whole, finder-says}
+use Rattle.finder.proofs.Reasons.{whole, finder-says}
 
 pub record Accepted (p : ℕ) (lengths symbols : List ℕ) (room : ℕ) : Type 0 where
   pub prime : Prime p
@@ -39,7 +39,7 @@ module _ (p : ℕ) (lengths symbols : List ℕ) (room : ℕ) where
       let ok : Pass ts = none-pass ts (reasons p lengths symbols room) says (outcome-passed ts (reasons p lengths symbols room) says .0 e) in
       let taken = modulus-prime p (no-fail _ (ok .0)) in
       let counted = counted-bounds (length lengths) (no-fail _ (ok .1 .0)) in
-      let measured = and-eq-true-iff (short lengths symbols) (whole lengths symbols) .0 (no-fail _ (ok .1 .1 .0)) in
+      let measured = and-eq-true-iff (isShort lengths) (whole lengths symbols) .0 (no-fail _ (ok .1 .1 .0)) in
       record {
         prime = taken .0;
         modulus = taken .1;
@@ -52,9 +52,12 @@ module _ (p : ℕ) (lengths symbols : List ℕ) (room : ℕ) where
       }
 
 -- the sequences have the lengths given
-pub lengths-split : (lengths symbols : List ℕ) → total (length lengths) (λ h. getD lengths h 0) ≤ length symbols → map length (split lengths symbols) ≡ lengths
+pub lengths-split : (lengths symbols : List ℕ) → total (length lengths) (λ h. getD lengths h 0) ≤ length symbols →
+    map length (split lengths symbols) ≡ lengths
 unfolding split
 lengths-split [] symbols h = refl
 lengths-split (n ∷ ns) symbols h =
-    let parted : total (length (n ∷ ns)) (λ k. getD (n ∷ ns) k 0) ≡ n + total (length ns) (λ k. getD ns k 0) = total-head (length ns) (λ k. getD (n ∷ ns) k 0) in
+    let parted : total (length (n ∷ ns)) (λ k. getD (n ∷ ns) k 0) ≡ n + total (length ns) (λ k. getD ns k 0) =
+    total-head (length ns) (λ k. getD (n ∷ ns) k 0)
+    in
     ap₂ _∷_ (length-take-le n symbols (omega arith)) (lengths-split ns (drop n symbols) (omega (arith, length-drop n symbols)))

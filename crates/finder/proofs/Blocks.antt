@@ -39,7 +39,8 @@ module _ (h : ℕ) (y saved : List ℕ) (len : length y ≡ 129) (whole : length
 
   pub block-other : (g : ℕ) → g ≢ h → block g (put (h * 129) 129 y saved) ≡ block g saved
   block-other g ne =
-      ext-getD 0 (block g (put (h * 129) 129 y saved)) (block g saved) (length-block (put (h * 129) 129 y saved) ∙ ap (λ (n : ℕ). min 129 (n - g * 129)) (put-whole ∙ sym whole) ∙ sym (length-block saved))
+      ext-getD 0 (block g (put (h * 129) 129 y saved)) (block g saved)
+      (length-block (put (h * 129) 129 y saved) ∙ ap (λ (n : ℕ). min 129 (n - g * 129)) (put-whole ∙ sym whole) ∙ sym (length-block saved))
       (λ i b.
       let small : i < 129 = omega (arith, length-block (put (h * 129) 129 y saved)) in
       getD-part (g * 129) 129 (put (h * 129) 129 y saved) i 0 small ∙ other-entry g ne i small ∙ sym (getD-part (g * 129) 129 saved i 0 small))

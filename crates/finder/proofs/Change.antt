@@ -84,6 +84,9 @@ replaced-other : (saved : ℕ → Saved) (h : ℕ) (v : Saved) (k : ℕ) → k �
 unfolding replaced
 replaced-other saved h v k ne = rw (ne-eqb k h ne)
 
+abbrev pub Lengths : Progress → Type 0
+Lengths g = (length (g .places) ≡ 8) × (length (g .sizes) ≡ 8) × (length (g .discs) ≡ 8)
+
 -- the struct once the register of length g .length is saved for h
 abbrev pub saving : (n h d : ℕ) → Progress → Progress
 saving n h d g =
@@ -94,7 +97,8 @@ saving n h d g =
       discs = set (g .discs) h d;
     }
 
-module _ (p n h d : ℕ) (g : Progress) (taps saved : List ℕ) (c : Changeable p n h d (stateOf g taps saved)) (z : Ended g taps saved) where
+module _ {p n h d : ℕ} {g : Progress} {taps saved : List ℕ}
+    (c : Changeable p n h d (stateOf g taps saved)) (z : Ended g taps saved) where
   abbrev place : ℕ
   place = getD (g .places) h 0
 
@@ -123,12 +127,13 @@ module _ (p n h d : ℕ) (g : Progress) (taps saved : List ℕ) (c : Changeable 
         saved-residues = c .saved-residues;
       }
 
-  module _ (q : ℕ) (now : List ℕ) (factor : q ≡ quotient p d (getD (g .discs) h 0)) (eq : now ≡ changedArray q) where
+  module _ {q : ℕ} {now : List ℕ} (factor : q ≡ quotient p d (getD (g .discs) h 0)) (eq : now ≡ changedArray q) where
     width : length now ≡ 129
     width = ap length eq ∙ length-reduced p 128 taps q (n - place) (take (suc size) (block h saved))
 
     -- the taps of a new length m, and the zeros past it
-    narrowed : (m : ℕ) → m ≤ 128 → take (suc m) now ≡ reduced p m (take (suc (g .length)) taps) (quotient p d (getD (g .discs) h 0)) (n - place) (take (suc size) (block h saved))
+    narrowed : (m : ℕ) → m ≤ 128 →
+        take (suc m) now ≡ reduced p m (take (suc (g .length)) taps) (quotient p d (getD (g .discs) h 0)) (n - place) (take (suc size) (block h saved))
     narrowed m le =
         ap (λ (l : List ℕ). take (suc m) l) eq ∙ reduced-narrow p (g .length) taps (z .zeros) q (n - place) (take (suc size) (block h saved)) 128 m le
         ∙ ap (λ (x : ℕ). reduced p m (take (suc (g .length)) taps) x (n - place) (take (suc size) (block h saved))) factor
@@ -148,11 +153,13 @@ module _ (p n h d : ℕ) (g : Progress) (taps saved : List ℕ) (c : Changeable 
     unfolding stateOf
     stays short =
         record {
-          state = changed-cases p n h d (stateOf g taps saved) (λ s. stateOf g now saved ≡ s) (λ more. absurd (let no : ⊥ = omega arith in no)) (λ _. same-length);
+          state =
+              changed-cases p n h d (stateOf g taps saved) (λ s. stateOf g now saved ≡ s)
+              (λ more. absurd (let no : ⊥ = omega arith in no)) (λ _. same-length);
           ended = record { width = width; saved-width = z .saved-width; zeros = zeros-past (g .length) (omega arith) (omega (arith, bounds)) };
         }
 
-    module _ (lengths : (length (g .places) ≡ 8) × (length (g .sizes) ≡ 8) × (length (g .discs) ≡ 8)) (kept : List ℕ) (put-in : kept ≡ put (h * 129) 129 taps saved) where
+    module _ (lengths : Lengths g) {kept : List ℕ} (put-in : kept ≡ put (h * 129) 129 taps saved) where
       new : Saved
       new = record { place = n; size = g .length; disc = d; taps = take (suc (g .length)) taps }
 
@@ -190,7 +197,9 @@ module _ (p n h d : ℕ) (g : Progress) (taps saved : List ℕ) (c : Changeable 
       unfolding stateOf
       grows long =
           record {
-            state = changed-cases p n h d (stateOf g taps saved) (λ s. stateOf (saving n h d g) now kept ≡ s) (λ _. new-length) (λ short. absurd (let no : ⊥ = omega arith in no));
+            state =
+                changed-cases p n h d (stateOf g taps saved) (λ s. stateOf (saving n h d g) now kept ≡ s)
+                (λ _. new-length) (λ short. absurd (let no : ⊥ = omega arith in no));
             ended =
                 record {
                   width = width;

@@ -1,12 +1,13 @@
 -- The tests of the input read as bounds. Assumes nothing.
 use mathlib.Core.Path.{_≡_}
-use mathlib.Core.Bool.{true, false, _&&_, and-eq-true-iff}
+use mathlib.Core.Bool.{true, false, and-eq-true-iff}
 use Prim.Native.Nat.{ℕ, suc, _≤_, _<_}
 use native.Mathlib.Omega.{arith}
 use borrow.Author.Tests.{leb-true, lt-ltb, le-ltb}
 use lib.Dec.{leb, ltb}
+use Rattle.finder.specs.Finder.{isCounted}
 
-pub counted-bounds : (n : ℕ) → (leb 1 n && leb n 8) ≡ true → (1 ≤ n) × (n ≤ 8)
+pub counted-bounds : (n : ℕ) → isCounted n ≡ true → (1 ≤ n) × (n ≤ 8)
 counted-bounds n e =
     let both = and-eq-true-iff (leb 1 n) (leb n 8) .0 e in
     (leb-true 1 n (both .0), leb-true n 8 (both .1))

@@ -38,7 +38,8 @@ module _ (p : ℕ) (lengths symbols : List ℕ) (room : ℕ) where
   unfolding answer
   answer-refused k =
       subst (λ (rs : List Reason). (answer p lengths symbols room ≡ refused k) ↔ First k rs) (append-nil (reasons p lengths symbols room))
-      (gives-first (λ a. a ≡ refused k) k refused (refused-tells k) (tests p lengths symbols room) (reasons p lengths symbols room) _ [] (finder-says p lengths symbols room)
+      (gives-first (λ a. a ≡ refused k) k refused (refused-tells k) (tests p lengths symbols room) (reasons p lengths symbols room)
+      _ [] (finder-says p lengths symbols room)
       (λ _. (register-differs _ _ k, λ e. absurd e)))
 
 pub demand-1 : Demand1

@@ -8,7 +8,8 @@ use lib.ListN.{length, getD, drop, drop-of-length-le}
 use lib.Seq.{drop-cons}
 use Rattle.register.specs.Sequences.{largest}
 
-pub largest-next : (l : List ℕ) (h m most : ℕ) → h < length l → max m (largest (drop h l)) ≡ largest l → most ≡ max m (getD l h 0) → max most (largest (drop (h + 1) l)) ≡ largest l
+pub largest-next : (l : List ℕ) (h m most : ℕ) → h < length l → max m (largest (drop h l)) ≡ largest l → most ≡ max m (getD l h 0) →
+    max most (largest (drop (h + 1) l)) ≡ largest l
 unfolding largest
 largest-next l h m most b e new =
     let parted : largest (drop h l) ≡ max (getD l h 0) (largest (drop (suc h) l)) = ap largest (drop-cons l h 0 b) in

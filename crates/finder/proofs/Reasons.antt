@@ -7,18 +7,17 @@ use Prim.Native.Nat.{ℕ, suc, _≤_, _<_}
 use native.Mathlib.Decide.{decLt}
 use native.Mathlib.Omega.{arith}
 use borrow.Author.Tests.{ltb-true, ltb-false, leb-true, leb-false, eqb-true, eqb-false, lt-ltb}
-use lib.Dec.{leb, ltb, eqb}
+use lib.Dec.{eqb}
 use lib.ListN.{length, getD}
 use Rattle.field.proofs.Modulus.{modulus-prime, modulus-taken}
 use Rattle.field.specs.Prime.{Prime, isModulus}
 use Rattle.field.specs.Total.{total}
 use Rattle.lists.proofs.Tabulated.{every-at, every-witness}
-use Rattle.lists.specs.Tabulate.{every}
 use Rattle.refusal.proofs.Orders.{SayAll, says-not}
 use Rattle.refusal.proofs.Ranges.{outside-says}
 use Rattle.register.specs.Sequences.{largest}
 use Rattle.finder.specs.Demands.{reasons}
-use Rattle.finder.specs.Finder.{tests}
+use Rattle.finder.specs.Finder.{isShort, isMeasured, isBelow, tests}
 
 module _ (p : ℕ) where
   not-modulus : isModulus p ≡ true → (p < 2) ⊎ ((65521 < p) ⊎ (Prime p → ⊥)) → ⊥
@@ -38,10 +37,7 @@ module _ (p : ℕ) where
       pick (no a) (no b) = inr (inr (λ prime. false≢true (sym e ∙ modulus-taken p prime (omega arith))))
 
 module _ (lengths symbols : List ℕ) where
-  -- the two tests of refusal 3
-  abbrev pub short : Bool
-  short = every (length lengths) (λ h. leb (getD lengths h 0) 128)
-
+  -- the second test of refusal 3
   abbrev pub whole : Bool
   whole = eqb (total (length lengths) (λ h. getD lengths h 0)) (length symbols)
 
@@ -50,17 +46,17 @@ module _ (lengths symbols : List ℕ) where
       ((h : ℕ) × (h < length lengths) × (128 < getD lengths h 0)) ⊎
       (total (length lengths) (λ h. getD lengths h 0) ≡ length symbols → ⊥)
 
-  not-measured : (short && whole) ≡ true → Mismeasured → ⊥
-  not-measured e = off (and-eq-true-iff short whole .0 e)
+  not-measured : isMeasured lengths (length symbols) ≡ true → Mismeasured → ⊥
+  not-measured e = off (and-eq-true-iff (isShort lengths) whole .0 e)
     where
-      off : (short ≡ true) × (whole ≡ true) → Mismeasured → ⊥
+      off : (isShort lengths ≡ true) × (whole ≡ true) → Mismeasured → ⊥
       off both (inl (h, b, large)) = omega (arith, leb-true (getD lengths h 0) 128 (every-at (length lengths) _ (both .0) h b))
       off both (inr apart) = apart (eqb-true _ _ (both .1))
 
-  why-measured : (short && whole) ≡ false → Mismeasured
-  why-measured e = pick short refl whole refl
+  why-measured : isMeasured lengths (length symbols) ≡ false → Mismeasured
+  why-measured e = pick (isShort lengths) refl whole refl
     where
-      pick : (a : Bool) → short ≡ a → (b : Bool) → whole ≡ b → Mismeasured
+      pick : (a : Bool) → isShort lengths ≡ a → (b : Bool) → whole ≡ b → Mismeasured
       pick false s b w = let k = every-witness (length lengths) _ s in inl (k .0, k .1, leb-false (getD lengths (k .0) 0) 128 (k .2))
       pick true s false w = inr (eqb-false _ _ w)
       pick true s true w = absurd (false≢true (sym e ∙ ap₂ _&&_ s w))
@@ -72,11 +68,11 @@ finder-says p lengths symbols room = (
   (
     outside-says 2 1 8 (length lengths),
     (
-      says-not 3 (short lengths symbols && whole lengths symbols) _ (not-measured lengths symbols) (why-measured lengths symbols),
+      says-not 3 (isMeasured lengths (length symbols)) _ (not-measured lengths symbols) (why-measured lengths symbols),
       (
         record { number = refl; reason = ltb-true room (suc (largest lengths)); fails = lt-ltb room (suc (largest lengths)) },
         (
-          says-not 4 (every (length symbols) (λ i. ltb (getD symbols i 0) p)) _
+          says-not 4 (isBelow p symbols) _
               (λ e (i, b, large). omega (arith, ltb-true (getD symbols i 0) p (every-at (length symbols) _ e i b)))
               (λ e. let k = every-witness (length symbols) _ e in (k .0, k .1, ltb-false (getD symbols (k .0) 0) p (k .2))),
           tt,

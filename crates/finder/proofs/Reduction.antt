@@ -30,7 +30,9 @@ minus-scaled p a q b pos h =
     let r : ℕ = (q * b) % p in
     let t : ℕ = q * b / p in
     let fewer : t ≤ b = div-le-of-le-mul p (mul-le-mul-right b (let e : q ≤ p = omega arith in e)) in
-    let apart : a + (p - q) * b + p ≡ a + (p - r) + (b - t) * p = scaled-apart p a (p - q) q b (b - t) t r (omega arith) (omega arith) (div-add-mod' (q * b) p) (omega (arith, mod-lt (q * b) pos)) in
+    let apart : a + (p - q) * b + p ≡ a + (p - r) + (b - t) * p =
+    scaled-apart p a (p - q) q b (b - t) t r (omega arith) (omega arith) (div-add-mod' (q * b) p) (omega (arith, mod-lt (q * b) pos))
+    in
     sym (add-mod-right (a + (p - q) * b) p) ∙ ap (λ (x : ℕ). x % p) apart ∙ add-mul-mod-self-right (a + (p - r)) (b - t) p
 
 pub minus-zero : (p a q : ℕ) → a < p → minus p a (times p q 0) ≡ a
@@ -68,11 +70,13 @@ module _ (p l : ℕ) (σ : List ℕ) (q e : ℕ) where
       ext-getD 0 σ (reduced p l σ q e []) (len ∙ sym (length-reduced p l σ q e []))
       (λ i h. sym (getD-reduced p l σ q e [] i (omega arith) ∙ tap-kept [] i (shifted-none e i) (less i)))
 
-  pub reduced-all : (τ : List ℕ) (i n : ℕ) {now : List ℕ} → now ≡ reduced p l σ q e (take i (take n τ)) → n ≤ i → now ≡ reduced p l σ q e (take n τ)
+  pub reduced-all : (τ : List ℕ) (i n : ℕ) {now : List ℕ} →
+      now ≡ reduced p l σ q e (take i (take n τ)) → n ≤ i → now ≡ reduced p l σ q e (take n τ)
   reduced-all τ i n eq h = eq ∙ ap (λ (ρ : List ℕ). reduced p l σ q e ρ) (take-all i (take n τ) (omega (arith, length-take n τ)))
 
   -- the tap at which one more entry of τ comes into play
-  pub next-tap : (τ : List ℕ) (i : ℕ) {now : List ℕ} → now ≡ reduced p l σ q e (take i τ) → e + i < suc l → getD σ (e + i) 0 < p → getD now (e + i) 0 ≡ getD σ (e + i) 0
+  pub next-tap : (τ : List ℕ) (i : ℕ) {now : List ℕ} → now ≡ reduced p l σ q e (take i τ) →
+      e + i < suc l → getD σ (e + i) 0 < p → getD now (e + i) 0 ≡ getD σ (e + i) 0
   next-tap τ i eq h less =
       ap (λ (s : List ℕ). getD s (e + i) 0) eq ∙ getD-reduced p l σ q e (take i τ) (e + i) (omega arith)
       ∙ tap-kept (take i τ) (e + i) (shifted-past e (take i τ) (e + i) (omega (arith, length-take i τ))) less
@@ -82,7 +86,9 @@ module _ (p l : ℕ) (σ : List ℕ) (q e : ℕ) where
       set now (e + i) ((getD σ (e + i) 0 + (p - q) * getD τ i 0) % p) ≡ reduced p l σ q e (take (suc i) τ)
   reduced-more τ i {now} eq h pos less-q less =
       ext-getD 0 (set now (e + i) v) (reduced p l σ q e (take (suc i) τ)) (length-set now (e + i) v ∙ len ∙ sym (length-reduced p l σ q e (take (suc i) τ)))
-      (λ k b. at k (omega (arith, len, length-set now (e + i) v)) (ℕ-discrete k (e + i)) ∙ sym (getD-reduced p l σ q e (take (suc i) τ) k (omega (arith, len, length-set now (e + i) v))))
+      (λ k b.
+      let inside : k < suc l = omega (arith, len, length-set now (e + i) v) in
+      at k inside (ℕ-discrete k (e + i)) ∙ sym (getD-reduced p l σ q e (take (suc i) τ) k (omega arith)))
     where
       v : ℕ
       v = (getD σ (e + i) 0 + (p - q) * getD τ i 0) % p
@@ -92,7 +98,9 @@ module _ (p l : ℕ) (σ : List ℕ) (q e : ℕ) where
 
       entry : shifted e (take (suc i) τ) (e + i) ≡ getD τ i 0
       entry =
-          shifted-above e (take (suc i) τ) (e + i) (omega arith) ∙ ap (λ (j : ℕ). getD (take (suc i) τ) j 0) (add-sub-cancel-left e i) ∙ getD-take (suc i) τ i 0 (omega arith)
+          shifted-above e (take (suc i) τ) (e + i) (omega arith)
+          ∙ ap (λ (j : ℕ). getD (take (suc i) τ) j 0) (add-sub-cancel-left e i)
+          ∙ getD-take (suc i) τ i 0 (omega arith)
 
       other : (k : ℕ) → k ≢ e + i → shifted e (take i τ) k ≡ shifted e (take (suc i) τ) k
       other k ne = pick (decLt k e)
@@ -110,11 +118,15 @@ module _ (p l : ℕ) (σ : List ℕ) (q e : ℕ) where
           (getD-set-same now (e + i) v 0 (omega (arith, len)) ∙ minus-scaled p (getD σ (e + i) 0) q (getD τ i 0) pos less-q
           ∙ ap (λ (x : ℕ). minus p (getD σ (e + i) 0) (times p q x)) (sym entry))
       at k b (no ne) =
-          getD-set-other now (e + i) k v 0 ne ∙ ap (λ (s : List ℕ). getD s k 0) eq ∙ getD-reduced p l σ q e (take i τ) k (omega arith) ∙ tap-same (take i τ) (take (suc i) τ) k (other k ne)
+          getD-set-other now (e + i) k v 0 ne
+          ∙ ap (λ (s : List ℕ). getD s k 0) eq
+          ∙ getD-reduced p l σ q e (take i τ) k (omega arith)
+          ∙ tap-same (take i τ) (take (suc i) τ) k (other k ne)
 
 -- ---- a turn of the code's loop, at entry i of what is saved for h
 
-module _ {p : ℕ} {σ : List ℕ} {q e m : ℕ} {saved : List ℕ} {h : ℕ} (r : Reducible p σ q e m saved h) (i : ℕ) {now : List ℕ} (le : i ≤ m) (eq : now ≡ reduced p 128 σ q e (take i (take (suc m) (block h saved)))) where
+module _ {p : ℕ} {σ : List ℕ} {q e m : ℕ} {saved : List ℕ} {h : ℕ} (r : Reducible p σ q e m saved h) (i : ℕ) {now : List ℕ} (le : i ≤ m)
+    (eq : now ≡ reduced p 128 σ q e (take i (take (suc m) (block h saved)))) where
   within : e + i < 129
   within = let b : e + m ≤ 128 = r .reach in omega arith
 
@@ -139,7 +151,9 @@ module _ {p : ℕ} {σ : List ℕ} {q e m : ℕ} {saved : List ℕ} {h : ℕ} (r
       let fits = r .modulus in
       omega (arith, mod-lt (getD now (e + i) 0 + (p - q) * getD saved (h * 129 + i) 0) (let pos : 0 < p = omega arith in pos))
 
-  pub turn-reduces : set now (e + i) ((getD now (e + i) 0 + (p - q) * getD saved (h * 129 + i) 0) % p) ≡ reduced p 128 σ q e (take (i + 1) (take (suc m) (block h saved)))
+  pub turn-reduces :
+      set now (e + i) ((getD now (e + i) 0 + (p - q) * getD saved (h * 129 + i) 0) % p)
+      ≡ reduced p 128 σ q e (take (i + 1) (take (suc m) (block h saved)))
   turn-reduces =
       ap₂ (λ (x y : ℕ). set now (e + i) ((x + (p - q) * y) % p)) kept-tap saved-tap
       ∙ reduced-more p 128 σ q e (take (suc m) (block h saved)) i eq within (let b = r .two-or-more in omega arith) (r .factor) (r .residues (e + i))

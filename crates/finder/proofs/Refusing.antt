@@ -11,7 +11,8 @@ use Rattle.refusal.specs.declared.Refusal.{Refusal}
 use Rattle.finder.specs.Finder.{refused, tests, answer, tapsLeft, Finds}
 use Rattle.finder.specs.declared.Found.the-variants.{Refused}
 
-pub refuses : (p : ℕ) (lengths symbols buffer : List ℕ) (r : Refusal) → outcome (tests p lengths symbols (length buffer)) ≡ Outcome.refused (number r) → Finds p lengths symbols buffer buffer (Refused r)
+pub refuses : (p : ℕ) (lengths symbols buffer : List ℕ) (r : Refusal) →
+    outcome (tests p lengths symbols (length buffer)) ≡ Outcome.refused (number r) → Finds p lengths symbols buffer buffer (Refused r)
 unfolding answer tapsLeft
 refuses p lengths symbols buffer r e =
     let ts = tests p lengths symbols (length buffer) in

@@ -75,7 +75,8 @@ module _ {p N : ℕ} {o : Order} {k : ℕ} {symbols : List ℕ} (r : Running p N
           saved-residues = λ i. rw (ap (λ (w : Saved). w .taps) v) (b .saved-residues h i);
         }
 
-    pub stepped : {g′ : Progress} {taps′ saved′ : List ℕ} → Stepped (step p N (part h) (n + 1) h (stateOf g taps saved)) g′ taps′ saved′ → Reached k (during n (h + 1)) g′ taps′ saved′
+    pub stepped : {g′ : Progress} {taps′ saved′ : List ℕ} →
+        Stepped (step p N (part h) (n + 1) h (stateOf g taps saved)) g′ taps′ saved′ → Reached k (during n (h + 1)) g′ taps′ saved′
     unfolding turn
     stepped {g′} {taps′} {saved′} made =
         let agree : Agree k (step p N (part h) (n + 1) h (stateOf g taps saved)) (step p N (part h) (n + 1) h (during n h)) =
@@ -91,7 +92,8 @@ module _ {p N : ℕ} {o : Order} {k : ℕ} {symbols : List ℕ} (r : Running p N
   round-begins n reached = reached
 
   -- all k sequences have had their step
-  pub round-ends : (n h : ℕ) {g : Progress} {taps saved : List ℕ} → h ≡ k → Reached k (during n h) g taps saved → Reached k (rounds p N ss (n + 1)) g taps saved
+  pub round-ends : (n h : ℕ) {g : Progress} {taps saved : List ℕ} →
+      h ≡ k → Reached k (during n h) g taps saved → Reached k (rounds p N ss (n + 1)) g taps saved
   round-ends n h {g} {taps} {saved} all = subst (λ (st : State). Reached k st g taps saved) (ap (λ (m : ℕ). during n m) all ∙ sym whole)
     where
       whole : rounds p N ss (n + 1) ≡ during n k
@@ -103,5 +105,6 @@ module _ {p N : ℕ} {o : Order} {k : ℕ} {symbols : List ℕ} (r : Running p N
   unfolding rounds
   none-run reached = reached
 
-  pub all-run : (n : ℕ) {g : Progress} {taps saved : List ℕ} → n ≡ N → Reached k (rounds p N ss n) g taps saved → Reached k (rounds p N ss N) g taps saved
+  pub all-run : (n : ℕ) {g : Progress} {taps saved : List ℕ} →
+      n ≡ N → Reached k (rounds p N ss n) g taps saved → Reached k (rounds p N ss N) g taps saved
   all-run n {g} {taps} {saved} all = subst (λ (m : ℕ). Reached k (rounds p N ss m) g taps saved) all

@@ -62,8 +62,9 @@ module _ {p N : ℕ} {o : Order} {k : ℕ} {symbols : List ℕ} (r : Running p N
   unfolding stateOf start
   saved-start h b =
       let small : h < 8 = omega (arith, r .count) in
+      let size = ap length (sequence-at o k symbols h b) ∙ length-within (getD (o .starts) h 0) (getD (o .lengths) h 0) symbols (r .within h b) in
       saved-path
-      (s .place h b ∙ ap (λ (n : ℕ). N - n) (sym (ap length (sequence-at o k symbols h b) ∙ length-within (getD (o .starts) h 0) (getD (o .lengths) h 0) symbols (r .within h b))))
+      (s .place h b ∙ ap (λ (n : ℕ). N - n) (sym size))
       (s .size h small)
       (s .disc h small)
       (ap (λ (n : ℕ). take (suc n) (block h no-taps)) (s .size h small) ∙ zero-block h small)

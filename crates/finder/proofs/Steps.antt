@@ -24,7 +24,8 @@ discrepancy-own p l σ s j =
     (total-ext (suc l) (λ i. getD σ i 0 * symbol s (j - i)) (λ i. getD (take (suc l) σ) i 0 * symbol s (j - i))
     (λ i h. ap (λ (x : ℕ). x * symbol s (j - i)) (sym (getD-take (suc l) σ i 0 h))))
 
-module _ (p N : ℕ) (s : List ℕ) (n h : ℕ) (g : Progress) (taps saved : List ℕ) (ready : Ready p N s n h (stateOf g taps saved)) (z : Ended g taps saved) where
+module _ {p N : ℕ} {s : List ℕ} {n h : ℕ} {g : Progress} {taps saved : List ℕ}
+    (ready : Ready p N s n h (stateOf g taps saved)) (z : Ended g taps saved) where
   abbrev st : State
   st = stateOf g taps saved
 
@@ -37,7 +38,7 @@ module _ (p N : ℕ) (s : List ℕ) (n h : ℕ) (g : Progress) (taps saved : Lis
         ended = z;
       }
 
-  module _ (d : ℕ) (asked : g .length + (N - length s) < n) (eq : d ≡ discrepancy p (g .length) taps s (n - (N - length s))) where
+  module _ {d : ℕ} (asked : g .length + (N - length s) < n) (eq : d ≡ discrepancy p (g .length) taps s (n - (N - length s))) where
     is-discrepancy : d ≡ discrepancy p (st .size) (st .taps) s (n + length s - N)
     unfolding stateOf
     is-discrepancy =
@@ -70,7 +71,8 @@ module _ (p N : ℕ) (s : List ℕ) (n h : ℕ) (g : Progress) (taps saved : Lis
           saved-residues = ready .saved-residues;
         }
 
-    pub changing : d ≢ 0 → {g′ : Progress} {taps′ saved′ : List ℕ} → Stepped (changed p n h d st) g′ taps′ saved′ → Stepped (step p N s n h st) g′ taps′ saved′
+    pub changing : d ≢ 0 → {g′ : Progress} {taps′ saved′ : List ℕ} →
+        Stepped (changed p n h d st) g′ taps′ saved′ → Stepped (step p N s n h st) g′ taps′ saved′
     unfolding stateOf
     changing some {g′} {taps′} {saved′} made =
         step-cases p N s n h st (λ t. Stepped t g′ taps′ saved′)

@@ -24,7 +24,7 @@ use Rattle.finder.specs.Rounds.{Running, Agree, Reached, aloneMark}
 use Rattle.finder.specs.declared.Found.the-variants.{Register}
 use Rattle.finder.specs.declared.Order.{Order}
 use Rattle.finder.specs.declared.Progress.{Progress}
-use Rattle.finder.proofs.Accepted.{Accepted, accepted, lengths-split}
+use Rattle.finder.proofs.Accepted.{Accepted, lengths-split}
 use Rattle.finder.proofs.Insertion.{length-within}
 use Rattle.finder.proofs.Largest.{largest-bound}
 use Rattle.finder.proofs.Running.{length-sequences, sequence-at}
@@ -41,15 +41,12 @@ mark-is N o k symbols g taps saved st within agree =
     (ap₂ (λ (l n : ℕ). max (N - l) (N - n)) (agree .size)
     (sym (ap length (sequence-at o k symbols h b) ∙ length-within (getD (o .starts) h 0) (getD (o .lengths) h 0) symbols (within h b))))))
 
-module _ (p : ℕ) (lengths symbols buffer : List ℕ) (ok : outcome (tests p lengths symbols (length buffer)) ≡ passed) where
+module _ {p : ℕ} {lengths symbols : List ℕ} {room : ℕ} (fine : Accepted p lengths symbols room) where
   abbrev k : ℕ
   k = length lengths
 
   abbrev ss : List (List ℕ)
   ss = split lengths symbols
-
-  fine : Accepted p lengths symbols (length buffer)
-  fine = accepted p lengths symbols (length buffer) ok
 
   pub sortable : (k ≤ 8) × (length symbols ≤ 1024) × (total k (λ h. getD lengths h 0) ≡ length symbols)
   sortable = (
@@ -58,13 +55,15 @@ module _ (p : ℕ) (lengths symbols buffer : List ℕ) (ok : outcome (tests p le
     fine .whole,
   )
 
-  module _ (N : ℕ) (most : N ≡ largest lengths) (o : Order) (stands : Stands o k symbols (ordered ss)) where
+  module _ {N : ℕ} (most : N ≡ largest lengths) {o : Order} (stands : Stands o k symbols (ordered ss)) where
     is-longest : longest ss ≡ N
     is-longest = ap largest (lengths-split lengths symbols (omega (arith, fine .whole))) ∙ sym most
 
     shorter : (h : ℕ) → h < k → getD (o .lengths) h 0 ≤ N
     shorter h b =
-        let here : getD (ordered ss) h [] ≡ sequenceAt o symbols h = ap (λ (l : List (List ℕ)). getD l h []) (sym (stands .sequences)) ∙ sequence-at o k symbols h b in
+        let here : getD (ordered ss) h [] ≡ sequenceAt o symbols h =
+        ap (λ (l : List (List ℕ)). getD l h []) (sym (stands .sequences)) ∙ sequence-at o k symbols h b
+        in
         let size = ap length here ∙ length-within (getD (o .starts) h 0) (getD (o .lengths) h 0) symbols (stands .within h b) in
         let many = sym (ap length (stands .sequences)) ∙ length-sequences o k symbols in
         omega (arith, longest-bounds (ordered ss) h (omega arith), longest-ordered ss, is-longest)
@@ -80,7 +79,7 @@ module _ (p : ℕ) (lengths symbols buffer : List ℕ) (ok : outcome (tests p le
           shorter = shorter;
         }
 
-    module _ (g : Progress) (taps saved : List ℕ) (reached : Reached k (rounds p N (sequencesAt o k symbols) N) g taps saved) where
+    module _ {g : Progress} {taps saved : List ℕ} (reached : Reached k (rounds p N (sequencesAt o k symbols) N) g taps saved) where
       is-found : rounds p N (sequencesAt o k symbols) N ≡ found p ss (longest ss)
       unfolding found
       is-found = ap₂ (λ (m : ℕ) (l : List (List ℕ)). rounds p m l m) (sym is-longest) (stands .sequences)
@@ -92,7 +91,7 @@ module _ (p : ℕ) (lengths symbols buffer : List ℕ) (ok : outcome (tests p le
       pub taps-room : g .length + 1 ≤ length taps
       taps-room = let width = reached .ended .width in omega (arith, size-within, running .longest)
 
-      pub buffer-room : g .length + 1 ≤ length buffer
+      pub buffer-room : g .length + 1 ≤ room
       buffer-room = omega (arith, size-within, fine .enough)
 
       found-size : g .length ≡ found p ss (longest ss) .size
@@ -111,16 +110,17 @@ module _ (p : ℕ) (lengths symbols buffer : List ℕ) (ok : outcome (tests p le
           ∙ ap (isAlone (longest ss) (ordered ss) (longest ss)) is-found
 
       -- w taps are copied to the buffer
-      pub finds : (mark : Bool) (w : ℕ) (copied left : List ℕ) → mark ≡ aloneMark N o k g → w ≡ suc (g .length) → copied ≡ take w taps → left ≡ copied ++ drop w buffer → Finds p lengths symbols buffer left (Register (g .length) mark)
+      pub finds : {buffer : List ℕ} → outcome (tests p lengths symbols (length buffer)) ≡ passed → {mark : Bool} (w : ℕ) {copied : List ℕ} →
+          mark ≡ aloneMark N o k g → w ≡ suc (g .length) → copied ≡ take w taps →
+          Finds p lengths symbols buffer (copied ++ drop w buffer) (Register (g .length) mark)
       unfolding answer tapsLeft
-      finds mark w copied left marked width all made =
+      finds {buffer} ok w {copied} marked width all =
+          let ts = tests p lengths symbols (length buffer) in
           let whole : copied ≡ found p ss (longest ss) .taps = all ∙ ap (λ (n : ℕ). take n taps) width ∙ found-taps in
           let long : length copied ≡ w = ap length all ∙ length-take-le w taps (omega (arith, taps-room)) in
           record {
-            answers =
-                ap₂ register found-size (marked ∙ found-mark)
-                ∙ sym (given-passed refused (register (found p ss (longest ss) .size) (foundAlone p ss (longest ss))) (tests p lengths symbols (length buffer)) ok);
+            answers = ap₂ register found-size (marked ∙ found-mark) ∙ sym (given-passed refused _ ts ok);
             leaves =
-                made ∙ ap₂ (λ (l : List ℕ) (n : ℕ). l ++ drop n buffer) whole (sym long ∙ ap length whole)
-                ∙ sym (given-passed (λ _. buffer) _ (tests p lengths symbols (length buffer)) ok);
+                ap₂ (λ (l : List ℕ) (n : ℕ). l ++ drop n buffer) whole (sym long ∙ ap length whole)
+                ∙ sym (given-passed (λ _. buffer) _ ts ok);
           }

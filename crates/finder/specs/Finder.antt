@@ -24,21 +24,32 @@ abbrev pub answerOf : Found → Answer
 answerOf (Register l a) = register l a
 answerOf (Refused r) = refused (number r)
 
+-- ---- the tests
+
+abbrev pub isCounted : (count : ℕ) → Bool
+isCounted count = leb 1 count && leb count 8
+
+abbrev pub isShort : (lengths : List ℕ) → Bool
+isShort lengths = every (length lengths) (λ h. leb (getD lengths h 0) 128)
+
+-- no length is above 128, and they add up to the number of symbols
+abbrev pub isMeasured : (lengths : List ℕ) (count : ℕ) → Bool
+isMeasured lengths count = isShort lengths && eqb (total (length lengths) (λ h. getD lengths h 0)) count
+
+abbrev pub isBelow : (p : ℕ) (symbols : List ℕ) → Bool
+isBelow p symbols = every (length symbols) (λ i. ltb (getD symbols i 0) p)
+
 -- the refusals in their order; `room` is the number of entries of the tap buffer
 unfoldable pub tests : (p : ℕ) (lengths symbols : List ℕ) (room : ℕ) → List Test
 tests p lengths symbols room =
     record { number = 1; fails = not (isModulus p) } ∷
-    record { number = 2; fails = not (leb 1 (length lengths) && leb (length lengths) 8) } ∷
-    record {
-      number = 3;
-      fails =
-          not
-          (every (length lengths) (λ h. leb (getD lengths h 0) 128) &&
-          eqb (total (length lengths) (λ h. getD lengths h 0)) (length symbols));
-    } ∷
+    record { number = 2; fails = not (isCounted (length lengths)) } ∷
+    record { number = 3; fails = not (isMeasured lengths (length symbols)) } ∷
     record { number = 8; fails = ltb room (suc (largest lengths)) } ∷
-    record { number = 4; fails = not (every (length symbols) (λ i. ltb (getD symbols i 0) p)) } ∷
+    record { number = 4; fails = not (isBelow p symbols) } ∷
     []
+
+-- ---- what it answers and leaves
 
 unfoldable pub answer : (p : ℕ) (lengths symbols : List ℕ) (room : ℕ) → Answer
 answer p lengths symbols room =

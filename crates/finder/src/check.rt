@@ -2,18 +2,15 @@
 use refusal::Refusal;
 use refusal::Verdict;
 ghost use mathlib.Core.Path.{_≡_};
-ghost use mathlib.Core.Bool.{_&&_};
 ghost use Prim.Native.Nat.{_≤_};
-ghost use lib.Dec.{leb, ltb, eqb};
 ghost use lib.ListN.{length, getD};
 ghost use Rattle.field.specs.Total.{total};
-ghost use Rattle.lists.specs.Tabulate.{every};
 ghost use Rattle.refusal.specs.Outcome.{outcomeOf, outcome};
 ghost use Rattle.register.specs.Sequences.{largest};
-ghost use Rattle.finder.specs.Finder.{tests};
+ghost use Rattle.finder.specs.Finder.{isCounted, isShort, isMeasured, isBelow, tests};
 
 fn counted(n: usize) -> bool
-    ensures { λ r. ⌜ r ≡ (leb 1 n && leb n 8) ⌝ }
+    ensures { λ r. ⌜ r ≡ isCounted n ⌝ }
 {
     if n < 1 {
         return false;
@@ -22,7 +19,7 @@ fn counted(n: usize) -> bool
 }
 
 fn short(lengths: &[u16]) -> bool
-    ensures { λ r. ⌜ r ≡ every (length (now (lengths .entry))) (λ h. leb (getD (now (lengths .entry)) h 0) 128) ⌝ }
+    ensures { λ r. ⌜ r ≡ isShort (now (lengths .entry)) ⌝ }
 {
     let mut h = 0;
     while h < lengths.len() {
@@ -47,10 +44,10 @@ fn sum(lengths: &[u16]) -> usize
     all
 }
 
-// Refusal 3 is for lengths above 128 and for lengths that do not add up.
+// Lengths above 128 and lengths that do not add up are one refusal.
 fn measured(lengths: &[u16], count: usize) -> bool
     requires { ⌜ length (now lengths) ≤ 8 ⌝ }
-    ensures { λ r. ⌜ r ≡ (every (length (now (lengths .entry))) (λ h. leb (getD (now (lengths .entry)) h 0) 128) && eqb (total (length (now (lengths .entry))) (λ h. getD (now (lengths .entry)) h 0)) count) ⌝ }
+    ensures { λ r. ⌜ r ≡ isMeasured (now (lengths .entry)) count ⌝ }
 {
     if !short(lengths) {
         return false;
@@ -74,7 +71,7 @@ pub fn longest(lengths: &[u16]) -> usize
 }
 
 fn below(symbols: &[u16], p: u32) -> bool
-    ensures { λ r. ⌜ r ≡ every (length (now (symbols .entry))) (λ i. ltb (getD (now (symbols .entry)) i 0) p) ⌝ }
+    ensures { λ r. ⌜ r ≡ isBelow p (now (symbols .entry)) ⌝ }
 {
     let mut i = 0;
     while i < symbols.len() {
@@ -86,6 +83,7 @@ fn below(symbols: &[u16], p: u32) -> bool
     true
 }
 
+// The refusal of the first test that fails.
 pub fn check(p: u32, lengths: &[u16], symbols: &[u16], room: usize) -> Verdict
     ensures { λ r. ⌜ outcomeOf r ≡ outcome (tests p (now (lengths .entry)) (now (symbols .entry)) room) ⌝ }
 {

@@ -44,6 +44,7 @@ fn synthesize(p: u32, lengths: &[u16], symbols: &[u16], taps: &mut [u16]) -> Fou
     }
 }
 
+// For any input at all: the sequences of the given lengths stand one after the other in `symbols`, and the taps 0 to l go to the front of `taps`.
 pub fn find(p: u32, lengths: &[u16], symbols: &[u16], taps: &mut [u16]) -> Found
     ensures { λ r. ⌜ Finds p (now (lengths .entry)) (now (symbols .entry)) (now (taps .entry)) (now (taps .exit)) r ⌝ }
 {

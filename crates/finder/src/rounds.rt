@@ -9,6 +9,7 @@ ghost use Rattle.register.specs.Algorithm4.{start as startState, rounds as roun
 ghost use Rattle.finder.specs.Places.{sequencesAt};
 ghost use Rattle.finder.specs.Rounds.{Running, Reached, Started, aloneMark};
 
+// Before the first round the place of a sequence is its gap, N − N_h.
 pub fn start(longest: usize, order: Order, count: usize) -> Progress
     requires { ⌜ (longest ≤ 128) × (count ≤ 8) × ((h : ℕ) → h < count → getD (order .lengths) h 0 ≤ longest) ⌝ }
     ensures { λ r. ⌜ Started longest order count r ⌝ }
@@ -89,7 +90,7 @@ fn smaller(a: usize, b: usize) -> usize
     b
 }
 
-// Of n_h − l_h the part past N − l and past N − N_h would be free. Written without differences: N less the smaller of l and N_h is the larger of the two.
+// What n_h − l_h has past N − l and past N − N_h is free. N less the smaller of l and N_h is the larger of these two.
 pub fn alone(longest: usize, order: Order, count: usize, g: Progress) -> bool
     requires { ⌜ (longest ≤ 128) × (count ≤ 8) × (g .length ≤ longest) × ((h : ℕ) → h < count → getD (order .lengths) h 0 ≤ longest) ⌝ }
     ensures { λ r. ⌜ r ≡ aloneMark longest order count g ⌝ }
@@ -99,7 +100,8 @@ pub fn alone(longest: usize, order: Order, count: usize, g: Progress) -> bool
     while h < count {
         let place = g.places[h] as usize;
         let size = g.sizes[h] as usize;
-        if place + smaller(l, order.lengths[h] as usize) > size + longest {
+        let long = order.lengths[h] as usize;
+        if place + smaller(l, long) > size + longest {
             return false;
         }
         h += 1;

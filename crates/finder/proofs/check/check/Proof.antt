@@ -26,25 +26,80 @@ measured-requires c κs = counted-bounds _ (sym (c .before .counted .ensures) �
 
 returns-3 : tie.Need-returns-3
 unfolding tests
-returns-3 c = rw (← c .before .before .before .before .before .is-modulus .ensures, c .before .before .before .before .if1 .left, ← c .before .before .before .counted .ensures, c .before .before .if2 .left, ← c .before .measured .ensures, c .if3 .taken)
+returns-3 c =
+    let test2 = c .before .before in
+    let test1 = test2 .before .before in
+    rw (
+      ← test1 .before .is-modulus .ensures,
+      test1 .if1 .left,
+      ← test2 .before .counted .ensures,
+      test2 .if2 .left,
+      ← c .before .measured .ensures,
+      c .if3 .taken,
+    )
 
 longest-requires : tie.Need-longest-requires
 longest-requires c κs = search needs
 
 returns-4 : tie.Need-returns-4
 unfolding tests
-returns-4 c = rw (← c .before .before .before .before .before .before .before .is-modulus .ensures, c .before .before .before .before .before .before .if1 .left, ← c .before .before .before .before .before .counted .ensures, c .before .before .before .before .if2 .left, ← c .before .before .before .measured .ensures, c .before .before .if3 .left, ← c .before .longest .ensures, room-short (c .if4 .taken))
+returns-4 c =
+    let test3 = c .before .before in
+    let test2 = test3 .before .before in
+    let test1 = test2 .before .before in
+    rw (
+      ← test1 .before .is-modulus .ensures,
+      test1 .if1 .left,
+      ← test2 .before .counted .ensures,
+      test2 .if2 .left,
+      ← test3 .before .measured .ensures,
+      test3 .if3 .left,
+      ← c .before .longest .ensures,
+      room-short (c .if4 .taken),
+    )
 
 below-requires : tie.Need-below-requires
 below-requires c κs = search needs
 
 returns-5 : tie.Need-returns-5
 unfolding tests
-returns-5 c = rw (← c .before .before .before .before .before .before .before .before .before .is-modulus .ensures, c .before .before .before .before .before .before .before .before .if1 .left, ← c .before .before .before .before .before .before .before .counted .ensures, c .before .before .before .before .before .before .if2 .left, ← c .before .before .before .before .before .measured .ensures, c .before .before .before .before .if3 .left, ← c .before .before .before .longest .ensures, room-enough (c .before .before .if4 .left), ← c .before .below .ensures, c .if5 .taken)
+returns-5 c =
+    let test4 = c .before .before in
+    let test3 = test4 .before .before in
+    let test2 = test3 .before .before in
+    let test1 = test2 .before .before in
+    rw (
+      ← test1 .before .is-modulus .ensures,
+      test1 .if1 .left,
+      ← test2 .before .counted .ensures,
+      test2 .if2 .left,
+      ← test3 .before .measured .ensures,
+      test3 .if3 .left,
+      ← test4 .before .longest .ensures,
+      room-enough (test4 .if4 .left),
+      ← c .before .below .ensures,
+      c .if5 .taken,
+    )
 
 returns-6 : tie.Need-returns-6
 unfolding tests
-returns-6 c = rw (← c .before .before .before .before .before .before .before .before .before .is-modulus .ensures, c .before .before .before .before .before .before .before .before .if1 .left, ← c .before .before .before .before .before .before .before .counted .ensures, c .before .before .before .before .before .before .if2 .left, ← c .before .before .before .before .before .measured .ensures, c .before .before .before .before .if3 .left, ← c .before .before .before .longest .ensures, room-enough (c .before .before .if4 .left), ← c .before .below .ensures, c .if5 .left)
+returns-6 c =
+    let test4 = c .before .before in
+    let test3 = test4 .before .before in
+    let test2 = test3 .before .before in
+    let test1 = test2 .before .before in
+    rw (
+      ← test1 .before .is-modulus .ensures,
+      test1 .if1 .left,
+      ← test2 .before .counted .ensures,
+      test2 .if2 .left,
+      ← test3 .before .measured .ensures,
+      test3 .if3 .left,
+      ← test4 .before .longest .ensures,
+      room-enough (test4 .if4 .left),
+      ← c .before .below .ensures,
+      c .if5 .left,
+    )
 
 pub check-spec : {M : Type 1} → statement M
 check-spec =

@@ -1,12 +1,13 @@
--- `synthesize` answers and leaves the register that Algorithm 4 finds. Assumes nothing.
-use mathlib.Core.Path.{refl}
 use Prim.Native.Nat.{_+_, _-_}
 use native.Mathlib.Omega.{arith}
 use borrow.Author.Needs.{needs}
+use Rattle.finder.proofs.Accepted.{accepted}
 use Rattle.finder.proofs.Starting.{reached-start}
 use Rattle.finder.proofs.Synthesis.{sortable, running, size-within, taps-room, buffer-room, finds}
 use Rattle.finder.proofs.find.synthesize.Statement.{statement}
 use Rattle.finder.proofs.find.synthesize.Tie as tie
+
+-- `synthesize` answers and leaves the register that Algorithm 4 finds. Assumes nothing.
 
 longest-requires : tie.Need-longest-requires
 longest-requires c κs = search needs
@@ -14,27 +15,31 @@ longest-requires c κs = search needs
 by-length-requires : tie.Need-by-length-requires
 by-length-requires c κs =
     let at = c .before .before .before .before in
-    sortable (at .args .p) (at .args .lengths .now) (at .args .symbols .now) (at .args .taps .now) (at .pre)
+    sortable (accepted _ _ _ _ (at .pre))
 
 array-write-sigma : tie.Need-array-write-sigma
 array-write-sigma c = search needs
 
 start-requires : tie.Need-start-requires
 start-requires c κs =
-    let at = c .before .before .before .before .before in
-    let r = running (at .args .p) (at .args .lengths .now) (at .args .symbols .now) (at .args .taps .now) (at .pre) (c .before .longest .result) (c .before .longest .ensures) (c .by-length .result) (c .by-length .ensures) in
+    let sorted = c in
+    let at = sorted .before .before .before .before .before in
+    let r = running (accepted _ _ _ _ (at .pre)) (sorted .before .longest .ensures) (sorted .by-length .ensures) in
     (r .longest, r .count, r .shorter)
 
 rounds-requires : tie.Need-rounds-requires
 rounds-requires c κs =
-    let at = c .before .before .before .before .before .before .before .before in
-    let r = running (at .args .p) (at .args .lengths .now) (at .args .symbols .now) (at .args .taps .now) (at .pre) (c .before .before .before .before .longest .result) (c .before .before .before .before .longest .ensures) (c .before .before .before .by-length .result) (c .before .before .before .by-length .ensures) in
+    let sorted = c .before .before .before in
+    let at = sorted .before .before .before .before .before in
+    let r = running (accepted _ _ _ _ (at .pre)) (sorted .before .longest .ensures) (sorted .by-length .ensures) in
     (r, reached-start r (c .before .before .start .ensures))
 
 add-e : tie.Need-add-e
 add-e c =
-    let at = c .before .before .before .before .before .before .before .before .before in
-    omega (arith, buffer-room (at .args .p) (at .args .lengths .now) (at .args .symbols .now) (at .args .taps .now) (at .pre) (c .before .before .before .before .before .longest .result) (c .before .before .before .before .before .longest .ensures) (c .before .before .before .before .by-length .result) (c .before .before .before .before .by-length .ensures) _ _ _ (c .rounds .ensures))
+    let sorted = c .before .before .before .before in
+    let at = sorted .before .before .before .before .before in
+    let size = size-within (accepted _ _ _ _ (at .pre)) (sorted .before .longest .ensures) (sorted .by-length .ensures) (c .rounds .ensures) in
+    omega (arith, running (accepted _ _ _ _ (at .pre)) (sorted .before .longest .ensures) (sorted .by-length .ensures) .longest)
 
 sub-copy : tie.Need-sub-copy
 sub-copy c = search needs
@@ -44,8 +49,9 @@ part-copy-start c = search needs
 
 part-copy-end : tie.Need-part-copy-end
 part-copy-end c =
-    let at = c .before .before .before .before .before .before .before .before .before in
-    buffer-room (at .args .p) (at .args .lengths .now) (at .args .symbols .now) (at .args .taps .now) (at .pre) (c .before .before .before .before .before .longest .result) (c .before .before .before .before .before .longest .ensures) (c .before .before .before .before .by-length .result) (c .before .before .before .before .by-length .ensures) _ _ _ (c .rounds .ensures)
+    let sorted = c .before .before .before .before in
+    let at = sorted .before .before .before .before .before in
+    buffer-room (accepted _ _ _ _ (at .pre)) (sorted .before .longest .ensures) (sorted .by-length .ensures) (c .rounds .ensures)
 
 sub-copy-2 : tie.Need-sub-copy-2
 sub-copy-2 c = search needs
@@ -55,25 +61,31 @@ part-copy-start-2 c = search needs
 
 part-copy-end-2 : tie.Need-part-copy-end-2
 part-copy-end-2 c =
-    let at = c .before .before .before .before .before .before .before .before .before .before .before in
-    taps-room (at .args .p) (at .args .lengths .now) (at .args .symbols .now) (at .args .taps .now) (at .pre) (c .before .before .before .before .before .before .before .longest .result) (c .before .before .before .before .before .before .before .longest .ensures) (c .before .before .before .before .before .before .by-length .result) (c .before .before .before .before .before .before .by-length .ensures) _ _ _ (c .before .before .rounds .ensures)
+    let sorted = c .before .before .before .before .before .before in
+    let at = sorted .before .before .before .before .before in
+    taps-room (accepted _ _ _ _ (at .pre)) (sorted .before .longest .ensures) (sorted .by-length .ensures) (c .before .before .rounds .ensures)
 
 copy-requires : tie.Need-copy-requires
 copy-requires c κs = search needs
 
 alone-requires : tie.Need-alone-requires
 alone-requires c κs =
-    let at = c .before .before .before .before .before .before .before .before .before .before .before .before .before .before .before in
-    let r = running (at .args .p) (at .args .lengths .now) (at .args .symbols .now) (at .args .taps .now) (at .pre) (c .before .before .before .before .before .before .before .before .before .before .before .longest .result) (c .before .before .before .before .before .before .before .before .before .before .before .longest .ensures) (c .before .before .before .before .before .before .before .before .before .before .by-length .result) (c .before .before .before .before .before .before .before .before .before .before .by-length .ensures) in
-    (r .longest, r .count, size-within (at .args .p) (at .args .lengths .now) (at .args .symbols .now) (at .args .taps .now) (at .pre) (c .before .before .before .before .before .before .before .before .before .before .before .longest .result) (c .before .before .before .before .before .before .before .before .before .before .before .longest .ensures) (c .before .before .before .before .before .before .before .before .before .before .by-length .result) (c .before .before .before .before .before .before .before .before .before .before .by-length .ensures) _ _ _ (c .before .before .before .before .before .before .rounds .ensures), r .shorter)
+    let sorted = c .before .before .before .before .before .before .before .before .before .before in
+    let at = sorted .before .before .before .before .before in
+    let r = running (accepted _ _ _ _ (at .pre)) (sorted .before .longest .ensures) (sorted .by-length .ensures) in
+    let size = size-within (accepted _ _ _ _ (at .pre)) (sorted .before .longest .ensures) (sorted .by-length .ensures) (c .before .before .before .before .before .before .rounds .ensures) in
+    (r .longest, r .count, size, r .shorter)
 
 same-length : tie.Need-same-length
 same-length c = search needs
 
 returns : tie.Need-returns
 returns c =
-    let at = c .before .before .before .before .before .before .before .before .before .before .before .before .before .before .before .before in
-    finds (at .args .p) (at .args .lengths .now) (at .args .symbols .now) (at .args .taps .now) (at .pre) (c .before .before .before .before .before .before .before .before .before .before .before .before .longest .result) (c .before .before .before .before .before .before .before .before .before .before .before .before .longest .ensures) (c .before .before .before .before .before .before .before .before .before .before .before .by-length .result) (c .before .before .before .before .before .before .before .before .before .before .before .by-length .ensures) _ _ _ (c .before .before .before .before .before .before .before .rounds .ensures) _ (c .before .before .before .before .before .before .before .rounds .result .length + 1 - 0) _ _ (c .alone .ensures) (omega arith) (c .before .before .before .copy .ensures) refl
+    let sorted = c .before .before .before .before .before .before .before .before .before .before .before in
+    let at = sorted .before .before .before .before .before in
+    let ran = c .before .before .before .before .before .before .before in
+    finds (accepted _ _ _ _ (at .pre)) (sorted .before .longest .ensures) (sorted .by-length .ensures) (ran .rounds .ensures) (at .pre)
+    (ran .rounds .result .length + 1 - 0) (c .alone .ensures) (omega arith) (c .before .before .before .copy .ensures)
 
 pub synthesize-spec : {M : Type 1} → statement M
 synthesize-spec =

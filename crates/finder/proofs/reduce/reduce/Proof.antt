@@ -48,19 +48,27 @@ element-copy-out-y : tie.Need-element-copy-out-y Inv-loop μ-loop
 element-copy-out-y c = search needs
 
 cast-y : tie.Need-cast-y Inv-loop μ-loop
-cast-y c = omega (arith, saved-less (c .before .before .before .before .pre) (c .before .before .before .loop .i) (omega arith) (c .before .before .before .loop .inv .1))
+cast-y c =
+    let at = c .before .before .before in
+    omega (arith, saved-less (at .before .pre) (at .loop .i) (omega arith) (at .loop .inv .1))
 
 mul-taps : tie.Need-mul-taps Inv-loop μ-loop
-mul-taps c = omega (arith, turn-fits (c .before .before .before .before .pre) (c .before .before .before .loop .i) (omega arith) (c .before .before .before .loop .inv .1))
+mul-taps c =
+    let at = c .before .before .before in
+    omega (arith, turn-fits (at .before .pre) (at .loop .i) (omega arith) (at .loop .inv .1))
 
 add-taps : tie.Need-add-taps Inv-loop μ-loop
-add-taps c = omega (arith, turn-fits (c .before .before .before .before .pre) (c .before .before .before .loop .i) (omega arith) (c .before .before .before .loop .inv .1))
+add-taps c =
+    let at = c .before .before .before in
+    omega (arith, turn-fits (at .before .pre) (at .loop .i) (omega arith) (at .loop .inv .1))
 
 rem-taps : tie.Need-rem-taps Inv-loop μ-loop
 rem-taps c = search needs
 
 cast-taps : tie.Need-cast-taps Inv-loop μ-loop
-cast-taps c = record { fits = turn-below (c .before .before .before .before .pre) (c .before .before .before .loop .i) (omega arith) (c .before .before .before .loop .inv .1) }
+cast-taps c =
+    let at = c .before .before .before in
+    record { fits = turn-below (at .before .pre) (at .loop .i) (omega arith) (at .loop .inv .1) }
 
 mul-taps-2 : tie.Need-mul-taps-2 Inv-loop μ-loop
 mul-taps-2 c = search needs
@@ -76,12 +84,14 @@ loop-less c = search needs
 
 loop-again : tie.Need-loop-again Inv-loop μ-loop
 loop-again c =
-    (search needs, turn-reduces (c .before .before .before .before .pre) (c .before .before .before .loop .i) (omega arith) (c .before .before .before .loop .inv .1))
+    let at = c .before .before .before in
+    (search needs, turn-reduces (at .before .pre) (at .loop .i) (omega arith) (at .loop .inv .1))
 
 returns : tie.Need-returns Inv-loop μ-loop
 returns c =
     let args = c .before .before .args in
-    reduced-all (args .p) 128 (args .taps .now) (args .q) (args .e) (block (args .h) (args .saved .now)) (c .before .loop .i) (suc (args .m)) (c .before .loop .inv .1) (omega arith)
+    reduced-all (args .p) 128 (args .taps .now) (args .q) (args .e) (block (args .h) (args .saved .now))
+    (c .before .loop .i) (suc (args .m)) (c .before .loop .inv .1) (omega arith)
 
 pub reduce-spec : {M : Type 1} → statement M
 reduce-spec =

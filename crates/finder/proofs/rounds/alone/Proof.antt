@@ -40,26 +40,28 @@ element-copy-out-size c = search needs
 cast-size : tie.Need-cast-size Inv-loop μ-loop
 cast-size c = search needs
 
-mul-smaller : tie.Need-mul-smaller Inv-loop μ-loop
-mul-smaller c = search needs
+mul-long : tie.Need-mul-long Inv-loop μ-loop
+mul-long c = search needs
 
-element-copy-out-smaller : tie.Need-element-copy-out-smaller Inv-loop μ-loop
-element-copy-out-smaller c = search needs
+element-copy-out-long : tie.Need-element-copy-out-long Inv-loop μ-loop
+element-copy-out-long c = search needs
 
-cast-smaller : tie.Need-cast-smaller Inv-loop μ-loop
-cast-smaller c = search needs
+cast-long : tie.Need-cast-long Inv-loop μ-loop
+cast-long c = search needs
 
 smaller-requires : tie.Need-smaller-requires Inv-loop μ-loop
 smaller-requires c κs = search needs
 
 add-if1 : tie.Need-add-if1 Inv-loop μ-loop
 add-if1 c =
-    let small : Fits w16 (getD (c .before .before .before .before .before .before .args .t4 .places) (c .before .before .before .before .before .loop .h) 0) = search needs in
+    let at = c .before .before .before .before .before in
+    let small : Fits w16 (getD (at .before .args .t4 .places) (at .loop .h) 0) = search needs in
     omega (arith, c .smaller .ensures)
 
 add-if1-2 : tie.Need-add-if1-2 Inv-loop μ-loop
 add-if1-2 c =
-    let small : Fits w16 (getD (c .before .before .before .before .before .before .args .t4 .sizes) (c .before .before .before .before .before .loop .h) 0) = search needs in
+    let at = c .before .before .before .before .before in
+    let small : Fits w16 (getD (at .before .args .t4 .sizes) (at .loop .h) 0) = search needs in
     omega (arith, c .smaller .ensures)
 
 returns : tie.Need-returns Inv-loop μ-loop
@@ -67,7 +69,8 @@ returns c =
     let at = c .before .before .before .before .before .before .loop in
     let args = c .before .before .before .before .before .before .before .args in
     let pre = c .before .before .before .before .before .before .before .pre in
-    mark-fails (args .longest) (args .t2) (args .t4) (at .h) _ (pre .2) (pre .3 (at .h) (search needs)) (c .before .smaller .ensures) (args .count) (search needs) (c .if1 .taken)
+    mark-fails (args .longest) (args .t2) (args .t4) (at .h) _ (pre .2) (pre .3 (at .h) (search needs)) (c .before .smaller .ensures)
+    (args .count) (search needs) (c .if1 .taken)
 
 add-h : tie.Need-add-h Inv-loop μ-loop
 add-h c = search needs
@@ -79,8 +82,11 @@ loop-again : tie.Need-loop-again Inv-loop μ-loop
 loop-again c =
     let at = c .before .before .before .before .before .before .loop in
     let args = c .before .before .before .before .before .before .before .args in
-    let pre = c .before .before .before .before .before .before .before .pre in
-    (search needs, mark-more (args .longest) (args .t2) (args .t4) (at .h) _ (pre .2) (pre .3 (at .h) (search needs)) (c .before .smaller .ensures) (at .inv .1) (c .if1 .left))
+    let pre = c .before .before .before .before .before .before .before .pre in (
+      search needs,
+      mark-more (args .longest) (args .t2) (args .t4) (at .h) _ (pre .2) (pre .3 (at .h) (search needs)) (c .before .smaller .ensures)
+          (at .inv .1) (c .if1 .left),
+    )
 
 returns-2 : tie.Need-returns-2 Inv-loop μ-loop
 returns-2 c = mark-all _ _ _ _ _ (c .before .loop .inv .1) (omega arith)
@@ -98,9 +104,9 @@ alone-spec =
     mul-size
     element-copy-out-size
     cast-size
-    mul-smaller
-    element-copy-out-smaller
-    cast-smaller
+    mul-long
+    element-copy-out-long
+    cast-long
     smaller-requires
     add-if1
     add-if1-2

@@ -3,7 +3,7 @@ use mathlib.Core.Path.{ap, _∙_}
 use borrow.Author.Needs.{needs}
 use Rattle.field.specs.Residue.{times}
 use Rattle.finder.specs.Progress.{stateOf}
-use Rattle.finder.proofs.Change.{reducible, stays, grows}
+use Rattle.finder.proofs.Change.{Lengths, reducible, stays, grows}
 use Rattle.finder.proofs.step.change.Statement.{statement}
 use Rattle.finder.proofs.step.change.Tie as tie
 
@@ -57,20 +57,24 @@ add-if1-2 c = search needs
 reduce-requires : tie.Need-reduce-requires
 unfolding stateOf
 reduce-requires c κs =
-    let at = c .before .before .before .before .before .before .before .before in
-    reducible (at .args .p) (at .args .n) (at .args .h) (at .args .d) (at .args .t5) (at .args .taps .now) (at .args .saved .now) (at .pre .0) (at .pre .1) (c .before .before .before .product .ensures .1)
+    let divided = c .before .before .before in
+    let at = divided .before .before .before .before .before in
+    reducible (at .pre .0) (at .pre .1) (divided .product .ensures .1)
 
 returns : tie.Need-returns
 unfolding stateOf
 returns c =
-    let at = c .before .before .before .before .before .before .before .before .before in
-    stays (at .args .p) (at .args .n) (at .args .h) (at .args .d) (at .args .t5) (at .args .taps .now) (at .args .saved .now) (at .pre .0) (at .pre .1) _ _ (c .before .before .before .before .product .ensures .0 ∙ ap (times (at .args .p) (at .args .d)) (c .before .before .before .before .before .inverse .ensures .0)) (c .reduce .ensures) (c .before .before .before .if1 .taken)
+    let divided = c .before .before .before .before in
+    let at = divided .before .before .before .before .before in
+    let q = divided .product .ensures .0 ∙ ap (times (at .args .p) (at .args .d)) (divided .before .inverse .ensures .0) in
+    stays (at .pre .0) (at .pre .1) q (c .reduce .ensures) (c .before .before .before .if1 .taken)
 
 reduce-requires-2 : tie.Need-reduce-requires-2
 unfolding stateOf
 reduce-requires-2 c κs =
-    let at = c .before .before .before .before .before .before .before .before .before in
-    reducible (at .args .p) (at .args .n) (at .args .h) (at .args .d) (at .args .t5) (at .args .taps .now) (at .args .saved .now) (at .pre .0) (at .pre .1) (c .before .before .before .before .product .ensures .1)
+    let divided = c .before .before .before .before in
+    let at = divided .before .before .before .before .before in
+    reducible (at .pre .0) (at .pre .1) (divided .product .ensures .1)
 
 slice-aggregate-keep : tie.Need-slice-aggregate-keep
 unfolding stateOf
@@ -122,7 +126,10 @@ returns-2 : tie.Need-returns-2
 unfolding stateOf
 returns-2 c =
     let at = c .before .before .before .before .before .before .before .before .before .before .before .before .before in
-    grows (at .args .p) (at .args .n) (at .args .h) (at .args .d) (at .args .t5) (at .args .taps .now) (at .args .saved .now) (at .pre .0) (at .pre .1) _ _ (c .before .before .before .before .before .before .before .before .product .ensures .0 ∙ ap (times (at .args .p) (at .args .d)) (c .before .before .before .before .before .before .before .before .before .inverse .ensures .0)) (c .before .before .before .reduce2 .ensures) (search needs, search needs, search needs) _ (c .keep .ensures) (c .before .before .before .before .before .before .before .if1 .left)
+    let lengths : Lengths (at .args .t5) = (search needs, search needs, search needs) in
+    let divided = c .before .before .before .before .before .before .before .before in
+    let q = divided .product .ensures .0 ∙ ap (times (at .args .p) (at .args .d)) (divided .before .inverse .ensures .0) in
+    grows (at .pre .0) (at .pre .1) q (c .before .before .before .reduce2 .ensures) lengths (c .keep .ensures) (c .before .before .before .before .before .before .before .if1 .left)
 
 pub change-spec : {M : Type 1} → statement M
 change-spec =

@@ -16,7 +16,7 @@ add-if1 c = search needs
 returns : tie.Need-returns
 returns c =
     let at = c .before .before in
-    resting (at .args .p) (at .args .longest) (at .args .s .now) (at .args .n) (at .args .h) (at .args .g) (at .args .taps .now) (at .args .saved .now) (at .pre .0) (at .pre .1) (c .if1 .taken)
+    resting (at .pre .0) (at .pre .1) (c .if1 .taken)
 
 sub-discrepancy-at : tie.Need-sub-discrepancy-at
 unfolding stateOf
@@ -28,18 +28,21 @@ discrepancy-at-requires c κs = search needs
 
 returns-2 : tie.Need-returns-2
 returns-2 c =
-    let at = c .before .before .before .before .before in
-    quiet (at .args .p) (at .args .longest) (at .args .s .now) (at .args .n) (at .args .h) (at .args .g) (at .args .taps .now) (at .args .saved .now) (at .pre .0) (at .pre .1) _ (c .before .before .before .if1 .left) (c .before .discrepancy-at .ensures) (c .if2 .taken)
+    let computed = c .before in
+    let at = computed .before .before .before .before in
+    quiet (at .pre .0) (at .pre .1) (computed .before .before .if1 .left) (computed .discrepancy-at .ensures) (c .if2 .taken)
 
 change-requires : tie.Need-change-requires
 change-requires c κs =
-    let at = c .before .before .before .before .before .before .before in
-    (changeable (at .args .p) (at .args .longest) (at .args .s .now) (at .args .n) (at .args .h) (at .args .g) (at .args .taps .now) (at .args .saved .now) (at .pre .0) (at .pre .1) _ (c .before .before .before .before .before .if1 .left) (c .before .before .before .discrepancy-at .ensures), at .pre .1)
+    let computed = c .before .before .before in
+    let at = computed .before .before .before .before in
+    (changeable (at .pre .0) (at .pre .1) (computed .before .before .if1 .left) (computed .discrepancy-at .ensures), at .pre .1)
 
 returns-3 : tie.Need-returns-3
 returns-3 c =
-    let at = c .before .before .before .before .before .before .before .before in
-    changing (at .args .p) (at .args .longest) (at .args .s .now) (at .args .n) (at .args .h) (at .args .g) (at .args .taps .now) (at .args .saved .now) (at .pre .0) (at .pre .1) _ (c .before .before .before .before .before .before .if1 .left) (c .before .before .before .before .discrepancy-at .ensures) (c .before .before .before .if2 .left) (c .change .ensures)
+    let computed = c .before .before .before .before in
+    let at = computed .before .before .before .before in
+    changing (at .pre .0) (at .pre .1) (computed .before .before .if1 .left) (computed .discrepancy-at .ensures) (c .before .before .before .if2 .left) (c .change .ensures)
 
 pub step-spec : {M : Type 1} → statement M
 step-spec =
