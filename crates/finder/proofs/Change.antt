@@ -3,14 +3,15 @@
 use mathlib.Core.Path.{_≡_, refl, sym, ap, ap₂, _∙_}
 use mathlib.Core.Logic.{_≢_}
 use mathlib.Core.List.{List, []}
-use Prim.Native.Nat.{ℕ, suc, _+_, _-_, _*_, _≤_, _<_}
+use Prim.Native.Nat.{ℕ, suc, _+_, _-_, _*_, _^_, _≤_, _<_}
 use native.Mathlib.Decide.{decLt, decLe, ℕ-discrete}
+use native.Mathlib.Nat.{mod-lt}
 use native.Mathlib.Omega.{arith}
 use borrow.Author.Tests.{eq-eqb, ne-eqb}
 use lib.ListN.{length, getD, take, set, length-take}
 use lib.Seq.{ext-getD, getD-take, getD-set-same, getD-set-other, length-take-le}
 use Rattle.field.specs.Coefficients.{reduced, shifted}
-use Rattle.field.specs.Residue.{minus, times, quotient}
+use Rattle.field.specs.Residue.{minus, times, inverse, quotient}
 use Rattle.lists.proofs.Entries.{getD-take-past}
 use Rattle.lists.proofs.Put.{put}
 use Rattle.register.proofs.Cases.{changed-cases, grown, stayed}
@@ -85,20 +86,21 @@ unfolding replaced
 replaced-other saved h v k ne = rw (ne-eqb k h ne)
 
 abbrev pub Lengths : Progress → Type 0
-Lengths g = (length (g .places) ≡ 8) × (length (g .sizes) ≡ 8) × (length (g .discs) ≡ 8)
+Lengths g = (length (g .places) ≡ 8) × (length (g .sizes) ≡ 8) × (length (g .discs) ≡ 8) × (length (g .inverses) ≡ 8)
 
--- the struct once the register of length g .length is saved for h
-abbrev pub saving : (n h d : ℕ) → Progress → Progress
-saving n h d g =
+-- the struct once the register of length g .length is saved for h, i being the inverse of d
+abbrev pub saving : (n h d i : ℕ) → Progress → Progress
+saving n h d i g =
     record {
       length = n + getD (g .sizes) h 0 - getD (g .places) h 0;
       places = set (g .places) h n;
       sizes = set (g .sizes) h (g .length);
       discs = set (g .discs) h d;
+      inverses = set (g .inverses) h i;
     }
 
 module _ {p n h d : ℕ} {g : Progress} {taps saved : List ℕ}
-    (c : Changeable p n h d (stateOf g taps saved)) (z : Ended g taps saved) where
+    (c : Changeable p n h d (stateOf g taps saved)) (z : Ended p g taps saved) where
   abbrev place : ℕ
   place = getD (g .places) h 0
 
@@ -127,6 +129,12 @@ module _ {p n h d : ℕ} {g : Progress} {taps saved : List ℕ}
         saved-residues = c .saved-residues;
       }
 
+  pub inverse-less : getD (g .inverses) h 0 < p
+  inverse-less = rw (z .inverses h (c .sequence)) (mod-lt (getD (g .discs) h 0 ^ (p - 2)) (omega (arith, bounds)))
+
+  pub is-quotient : {q : ℕ} → q ≡ times p d (getD (g .inverses) h 0) → q ≡ quotient p d (getD (g .discs) h 0)
+  is-quotient eq = eq ∙ ap (times p d) (z .inverses h (c .sequence))
+
   module _ {q : ℕ} {now : List ℕ} (factor : q ≡ quotient p d (getD (g .discs) h 0)) (eq : now ≡ changedArray q) where
     width : length now ≡ 129
     width = ap length eq ∙ length-reduced p 128 taps q (n - place) (take (suc size) (block h saved))
@@ -149,21 +157,27 @@ module _ {p n h d : ℕ} {g : Progress} {taps saved : List ℕ}
     same-length =
         ap {B = State} (λ (l : List ℕ). record { size = g .length; taps = l; saved = savedOf g saved }) (narrowed (g .length) (omega (arith, bounds)))
 
-    pub stays : n + size ≤ place + g .length → Stepped (changed p n h d (stateOf g taps saved)) g now saved
+    pub stays : n + size ≤ place + g .length → Stepped p (changed p n h d (stateOf g taps saved)) g now saved
     unfolding stateOf
     stays short =
         record {
           state =
               changed-cases p n h d (stateOf g taps saved) (λ s. stateOf g now saved ≡ s)
               (λ more. absurd (let no : ⊥ = omega arith in no)) (λ _. same-length);
-          ended = record { width = width; saved-width = z .saved-width; zeros = zeros-past (g .length) (omega arith) (omega (arith, bounds)) };
+          ended =
+              record {
+                width = width;
+                saved-width = z .saved-width;
+                zeros = zeros-past (g .length) (omega arith) (omega (arith, bounds));
+                inverses = z .inverses;
+              };
         }
 
-    module _ (lengths : Lengths g) {kept : List ℕ} (put-in : kept ≡ put (h * 129) 129 taps saved) where
+    module _ (lengths : Lengths g) {i : ℕ} (is-inverse : i ≡ inverse p d) {kept : List ℕ} (put-in : kept ≡ put (h * 129) 129 taps saved) where
       new : Saved
       new = record { place = n; size = g .length; disc = d; taps = take (suc (g .length)) taps }
 
-      saved-there : savedOf (saving n h d g) kept h ≡ new
+      saved-there : savedOf (saving n h d i g) kept h ≡ new
       unfolding new
       saved-there =
           saved-path
@@ -173,7 +187,7 @@ module _ {p n h d : ℕ} {g : Progress} {taps saved : List ℕ}
           (ap₂ (λ (m : ℕ) (l : List ℕ). take (suc m) l) (getD-set-same (g .sizes) h (g .length) 0 (omega (arith, bounds)))
           (ap (block h) put-in ∙ block-put h taps saved (z .width) (z .saved-width) (c .sequence)))
 
-      saved-elsewhere : (k : ℕ) → k ≢ h → savedOf (saving n h d g) kept k ≡ savedOf g saved k
+      saved-elsewhere : (k : ℕ) → k ≢ h → savedOf (saving n h d i g) kept k ≡ savedOf g saved k
       saved-elsewhere k ne =
           saved-path
           (getD-set-other (g .places) h k n 0 ne)
@@ -182,28 +196,38 @@ module _ {p n h d : ℕ} {g : Progress} {taps saved : List ℕ}
           (ap₂ (λ (m : ℕ) (l : List ℕ). take (suc m) l) (getD-set-other (g .sizes) h k (g .length) 0 ne)
           (ap (block k) put-in ∙ block-other h taps saved (z .width) (z .saved-width) (c .sequence) k ne))
 
-      replaced-saved : (k : ℕ) → savedOf (saving n h d g) kept k ≡ replaced (savedOf g saved) h new k
+      replaced-saved : (k : ℕ) → savedOf (saving n h d i g) kept k ≡ replaced (savedOf g saved) h new k
       replaced-saved k = pick (ℕ-discrete k h)
         where
-          pick : Dec (k ≡ h) → savedOf (saving n h d g) kept k ≡ replaced (savedOf g saved) h new k
+          pick : Dec (k ≡ h) → savedOf (saving n h d i g) kept k ≡ replaced (savedOf g saved) h new k
           pick (yes same) = rw same (saved-there ∙ sym (replaced-there (savedOf g saved) h new))
           pick (no ne) = saved-elsewhere k ne ∙ sym (replaced-other (savedOf g saved) h new k ne)
 
-      new-length : stateOf (saving n h d g) now kept ≡ grown p n h d (stateOf g taps saved)
+      new-length : stateOf (saving n h d i g) now kept ≡ grown p n h d (stateOf g taps saved)
       unfolding stateOf new
-      new-length = λ i. record { size = n + size - place; taps = narrowed (n + size - place) (omega (arith, bounds)) i; saved = λ k. replaced-saved k i }
+      new-length = λ j. record { size = n + size - place; taps = narrowed (n + size - place) (omega (arith, bounds)) j; saved = λ k. replaced-saved k j }
 
-      pub grows : place + g .length < n + size → Stepped (changed p n h d (stateOf g taps saved)) (saving n h d g) now kept
+      inverses-kept : (k : ℕ) → k < 8 → getD (set (g .inverses) h i) k 0 ≡ inverse p (getD (set (g .discs) h d) k 0)
+      inverses-kept k b = pick (ℕ-discrete k h)
+        where
+          pick : Dec (k ≡ h) → getD (set (g .inverses) h i) k 0 ≡ inverse p (getD (set (g .discs) h d) k 0)
+          pick (yes same) =
+              rw (same, getD-set-same (g .discs) h d 0 (omega (arith, bounds)))
+              (getD-set-same (g .inverses) h i 0 (omega (arith, bounds)) ∙ is-inverse)
+          pick (no ne) = rw (getD-set-other (g .discs) h k d 0 ne) (getD-set-other (g .inverses) h k i 0 ne ∙ z .inverses k b)
+
+      pub grows : place + g .length < n + size → Stepped p (changed p n h d (stateOf g taps saved)) (saving n h d i g) now kept
       unfolding stateOf
       grows long =
           record {
             state =
-                changed-cases p n h d (stateOf g taps saved) (λ s. stateOf (saving n h d g) now kept ≡ s)
+                changed-cases p n h d (stateOf g taps saved) (λ s. stateOf (saving n h d i g) now kept ≡ s)
                 (λ _. new-length) (λ short. absurd (let no : ⊥ = omega arith in no));
             ended =
                 record {
                   width = width;
                   saved-width = ap length put-in ∙ put-whole h taps saved (z .width) (z .saved-width) (c .sequence);
                   zeros = zeros-past (n + size - place) (omega (arith, bounds)) (omega (arith, bounds));
+                  inverses = inverses-kept;
                 };
           }

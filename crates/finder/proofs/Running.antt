@@ -54,7 +54,7 @@ module _ {p N : ℕ} {o : Order} {k : ℕ} {symbols : List ℕ} (r : Running p N
       bounded-turn p N ss (r .two-or-more) (n + 1) h (rounds p N ss n)
       (bounded-later p N ss (r .two-or-more) n (n + 1) (rounds p N ss n) (omega arith) (bounded-rounds p N ss (r .two-or-more) n))
 
-  module _ {n h : ℕ} {g : Progress} {taps saved : List ℕ} (round : n < N) (more : h < k) (reached : Reached k (during n h) g taps saved) where
+  module _ {n h : ℕ} {g : Progress} {taps saved : List ℕ} (round : n < N) (more : h < k) (reached : Reached p k (during n h) g taps saved) where
     pub ready : Ready p N (part h) (n + 1) h (stateOf g taps saved)
     ready =
         let a = reached .state in
@@ -71,12 +71,11 @@ module _ {p N : ℕ} {o : Order} {k : ℕ} {symbols : List ℕ} (r : Running p N
           place = rw (ap (λ (w : Saved). w .place) v, part-is h more) (b .place h);
           saved-size = subst (λ (w : Saved). w .size ≤ w .place) (sym v) (b .saved-size h);
           residues = λ i. rw (a .taps) (b .residues i);
-          disc = rw (ap (λ (w : Saved). w .disc) v) (b .disc h);
           saved-residues = λ i. rw (ap (λ (w : Saved). w .taps) v) (b .saved-residues h i);
         }
 
     pub stepped : {g′ : Progress} {taps′ saved′ : List ℕ} →
-        Stepped (step p N (part h) (n + 1) h (stateOf g taps saved)) g′ taps′ saved′ → Reached k (during n (h + 1)) g′ taps′ saved′
+        Stepped p (step p N (part h) (n + 1) h (stateOf g taps saved)) g′ taps′ saved′ → Reached p k (during n (h + 1)) g′ taps′ saved′
     unfolding turn
     stepped {g′} {taps′} {saved′} made =
         let agree : Agree k (step p N (part h) (n + 1) h (stateOf g taps saved)) (step p N (part h) (n + 1) h (during n h)) =
@@ -87,24 +86,24 @@ module _ {p N : ℕ} {o : Order} {k : ℕ} {symbols : List ℕ} (r : Running p N
           ended = made .ended;
         }
 
-  pub round-begins : (n : ℕ) {g : Progress} {taps saved : List ℕ} → Reached k (rounds p N ss n) g taps saved → Reached k (during n 0) g taps saved
+  pub round-begins : (n : ℕ) {g : Progress} {taps saved : List ℕ} → Reached p k (rounds p N ss n) g taps saved → Reached p k (during n 0) g taps saved
   unfolding turn
   round-begins n reached = reached
 
   -- all k sequences have had their step
   pub round-ends : (n h : ℕ) {g : Progress} {taps saved : List ℕ} →
-      h ≡ k → Reached k (during n h) g taps saved → Reached k (rounds p N ss (n + 1)) g taps saved
-  round-ends n h {g} {taps} {saved} all = subst (λ (st : State). Reached k st g taps saved) (ap (λ (m : ℕ). during n m) all ∙ sym whole)
+      h ≡ k → Reached p k (during n h) g taps saved → Reached p k (rounds p N ss (n + 1)) g taps saved
+  round-ends n h {g} {taps} {saved} all = subst (λ (st : State). Reached p k st g taps saved) (ap (λ (m : ℕ). during n m) all ∙ sym whole)
     where
       whole : rounds p N ss (n + 1) ≡ during n k
       whole =
           ap (rounds p N ss) (add-one n) ∙ rounds-suc p N ss n
           ∙ ap₂ (λ (m j : ℕ). turn p N ss m j (rounds p N ss n)) (sym (add-one n)) (length-sequences o k symbols)
 
-  pub none-run : {g : Progress} {taps saved : List ℕ} → Reached k (start N ss) g taps saved → Reached k (rounds p N ss 0) g taps saved
+  pub none-run : {g : Progress} {taps saved : List ℕ} → Reached p k (start N ss) g taps saved → Reached p k (rounds p N ss 0) g taps saved
   unfolding rounds
   none-run reached = reached
 
   pub all-run : (n : ℕ) {g : Progress} {taps saved : List ℕ} →
-      n ≡ N → Reached k (rounds p N ss n) g taps saved → Reached k (rounds p N ss N) g taps saved
-  all-run n {g} {taps} {saved} all = subst (λ (m : ℕ). Reached k (rounds p N ss m) g taps saved) all
+      n ≡ N → Reached p k (rounds p N ss n) g taps saved → Reached p k (rounds p N ss N) g taps saved
+  all-run n {g} {taps} {saved} all = subst (λ (m : ℕ). Reached p k (rounds p N ss m) g taps saved) all

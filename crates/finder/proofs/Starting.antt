@@ -1,12 +1,13 @@
 -- The struct and the arrays before the first round hold the state that Algorithm 4 starts with. Assumes nothing.
 use mathlib.Core.Path.{_≡_, refl, sym, ap, subst, _∙_}
 use mathlib.Core.List.{List, [], _∷_}
-use Prim.Native.Nat.{ℕ, suc, _+_, _-_, _*_, _<_}
-use native.Mathlib.Nat.{not-suc-le-zero}
+use Prim.Native.Nat.{ℕ, zero, suc, _+_, _-_, _*_, _^_, _%_, _≤_, _<_}
+use native.Mathlib.Nat.{not-suc-le-zero, mod-eq-of-lt, pow-zero, pow-suc, mul-one}
 use native.Mathlib.Omega.{arith}
 use borrow.Author.Count.{below-more}
 use lib.ListN.{length, getD, take, drop, set, replicate, length-take, length-drop, length-set, length-replicate, getD-replicate}
 use lib.Seq.{getD-set-same, getD-set-other, take-suc}
+use Rattle.field.specs.Residue.{inverse}
 use Rattle.lists.proofs.Entries.{getD-part}
 use Rattle.lists.proofs.Joined.{replicate-each}
 use Rattle.register.specs.Algorithm4.{start}
@@ -21,13 +22,13 @@ use Rattle.finder.proofs.Running.{sequence-at}
 
 -- ---- the struct
 
-pub none-set : (N : ℕ) (o : Order) → Started N o 0 (record { length = 0; places = replicate 8 0; sizes = replicate 8 0; discs = replicate 8 1 })
+pub none-set : (N : ℕ) (o : Order) → Started N o 0 (record { length = 0; places = replicate 8 0; sizes = replicate 8 0; discs = replicate 8 1; inverses = replicate 8 1 })
 none-set N o =
-    record { length = refl; place = λ h b. absurd (not-suc-le-zero b); size = λ h b. getD-replicate 8 h 0 0 b; disc = λ h b. getD-replicate 8 h 1 0 b }
+    record { length = refl; place = λ h b. absurd (not-suc-le-zero b); size = λ h b. getD-replicate 8 h 0 0 b; disc = λ h b. getD-replicate 8 h 1 0 b; inverse = λ h b. getD-replicate 8 h 1 0 b }
 
 -- the struct with the place of sequence h set
 abbrev pub placing : (N : ℕ) → Order → ℕ → Progress → Progress
-placing N o h g = record { length = g .length; places = set (g .places) h (N - getD (o .lengths) h 0); sizes = g .sizes; discs = g .discs }
+placing N o h g = record { length = g .length; places = set (g .places) h (N - getD (o .lengths) h 0); sizes = g .sizes; discs = g .discs; inverses = g .inverses }
 
 pub one-set : {N : ℕ} {o : Order} {h : ℕ} {g : Progress} → Started N o h g → length (g .places) ≡ 8 → h < 8 → Started N o (h + 1) (placing N o h g)
 one-set {N} {o} {h} {g} s room b =
@@ -38,6 +39,7 @@ one-set {N} {o} {h} {g} s room b =
           (getD-set-same (g .places) h (N - getD (o .lengths) h 0) 0 (omega arith));
       size = s .size;
       disc = s .disc;
+      inverse = s .inverse;
     }
 
 pub all-set : (h k : ℕ) {N : ℕ} {o : Order} {g : Progress} → h ≡ k → Started N o h g → Started N o k g
@@ -57,6 +59,13 @@ zero-block h b =
     take-suc (block h no-taps) 0 0 (omega (arith, length-take 129 (drop (h * 129) no-taps), length-drop (h * 129) no-taps, length-replicate {A = ℕ} 1032 0))
     ∙ ap (λ (x : ℕ). x ∷ []) (getD-part (h * 129) 129 no-taps 0 0 (omega arith) ∙ getD-replicate 1032 (h * 129 + 0) 0 0 (omega arith))
 
+one-pow : (k : ℕ) → 1 ^ k ≡ 1
+one-pow zero = pow-zero 1
+one-pow (suc k) = pow-suc 1 k ∙ mul-one (1 ^ k) ∙ one-pow k
+
+inverse-one : {p : ℕ} → 2 ≤ p → inverse p 1 ≡ 1
+inverse-one {p} h = ap (λ (x : ℕ). x % p) (one-pow (p - 2)) ∙ mod-eq-of-lt h
+
 module _ {p N : ℕ} {o : Order} {k : ℕ} {symbols : List ℕ} (r : Running p N o k symbols) {g : Progress} (s : Started N o k g) where
   saved-start : (h : ℕ) → h < k → stateOf g one-tap no-taps .saved h ≡ start N (sequencesAt o k symbols) .saved h
   unfolding stateOf start
@@ -69,7 +78,7 @@ module _ {p N : ℕ} {o : Order} {k : ℕ} {symbols : List ℕ} (r : Running p N
       (s .disc h small)
       (ap (λ (n : ℕ). take (suc n) (block h no-taps)) (s .size h small) ∙ zero-block h small)
 
-  pub reached-start : Reached k (start N (sequencesAt o k symbols)) g one-tap no-taps
+  pub reached-start : Reached p k (start N (sequencesAt o k symbols)) g one-tap no-taps
   unfolding stateOf start
   reached-start =
       record {
@@ -79,5 +88,6 @@ module _ {p N : ℕ} {o : Order} {k : ℕ} {symbols : List ℕ} (r : Running p N
               width = length-set {A = ℕ} (replicate 129 0) 0 1 ∙ length-replicate {A = ℕ} 129 0;
               saved-width = length-replicate {A = ℕ} 1032 0;
               zeros = λ i past. getD-set-other {A = ℕ} (replicate 129 0) 0 i 1 0 (λ e. omega (arith, e)) ∙ replicate-each (λ (x : ℕ). x ≡ 0) 0 refl 129 i;
+              inverses = λ h b. s .inverse h b ∙ sym (ap (inverse p) (s .disc h b) ∙ inverse-one (r .two-or-more));
             };
       }

@@ -25,12 +25,12 @@ discrepancy-own p l σ s j =
     (λ i h. ap (λ (x : ℕ). x * symbol s (j - i)) (sym (getD-take (suc l) σ i 0 h))))
 
 module _ {p N : ℕ} {s : List ℕ} {n h : ℕ} {g : Progress} {taps saved : List ℕ}
-    (ready : Ready p N s n h (stateOf g taps saved)) (z : Ended g taps saved) where
+    (ready : Ready p N s n h (stateOf g taps saved)) (z : Ended p g taps saved) where
   abbrev st : State
   st = stateOf g taps saved
 
   -- the state is the same, and so are the arrays
-  pub resting : n ≤ g .length + (N - length s) → Stepped (step p N s n h st) g taps saved
+  pub resting : n ≤ g .length + (N - length s) → Stepped p (step p N s n h st) g taps saved
   unfolding stateOf
   resting early =
       record {
@@ -46,7 +46,7 @@ module _ {p N : ℕ} {s : List ℕ} {n h : ℕ} {g : Progress} {taps saved : Lis
         eq ∙ ap (discrepancy p (g .length) taps s) (let e : n - (N - length s) ≡ n + length s - N = omega arith in e)
         ∙ discrepancy-own p (g .length) taps s (n + length s - N)
 
-    pub quiet : d ≡ 0 → Stepped (step p N s n h st) g taps saved
+    pub quiet : d ≡ 0 → Stepped p (step p N s n h st) g taps saved
     quiet none =
         record {
           state = step-cases p N s n h st (λ t. st ≡ t) (λ _. refl) (λ _ _. refl) (λ _ some. absurd (some (sym is-discrepancy ∙ none)));
@@ -67,15 +67,14 @@ module _ {p N : ℕ} {s : List ℕ} {n h : ℕ} {g : Progress} {taps saved : Lis
           place = place;
           saved-size = ready .saved-size;
           residues = ready .residues;
-          disc = ready .disc;
           saved-residues = ready .saved-residues;
         }
 
     pub changing : d ≢ 0 → {g′ : Progress} {taps′ saved′ : List ℕ} →
-        Stepped (changed p n h d st) g′ taps′ saved′ → Stepped (step p N s n h st) g′ taps′ saved′
+        Stepped p (changed p n h d st) g′ taps′ saved′ → Stepped p (step p N s n h st) g′ taps′ saved′
     unfolding stateOf
     changing some {g′} {taps′} {saved′} made =
-        step-cases p N s n h st (λ t. Stepped t g′ taps′ saved′)
+        step-cases p N s n h st (λ t. Stepped p t g′ taps′ saved′)
         (λ early. absurd (let no : ⊥ = omega arith in no))
         (λ _ none. absurd (some (is-discrepancy ∙ none)))
         (λ _ _. rw (← is-discrepancy) made)

@@ -79,7 +79,7 @@ module _ {p : ℕ} {lengths symbols : List ℕ} {room : ℕ} (fine : Accepted p 
           shorter = shorter;
         }
 
-    module _ {g : Progress} {taps saved : List ℕ} (reached : Reached k (rounds p N (sequencesAt o k symbols) N) g taps saved) where
+    module _ {g : Progress} {taps saved : List ℕ} (reached : Reached p k (rounds p N (sequencesAt o k symbols) N) g taps saved) where
       is-found : rounds p N (sequencesAt o k symbols) N ≡ found p ss (longest ss)
       unfolding found
       is-found = ap₂ (λ (m : ℕ) (l : List (List ℕ)). rounds p m l m) (sym is-longest) (stands .sequences)

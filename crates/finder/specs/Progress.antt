@@ -4,6 +4,7 @@ use mathlib.Core.Path.{_≡_}
 use mathlib.Core.List.{List}
 use Prim.Native.Nat.{ℕ, suc, _+_, _-_, _*_, _≤_, _<_, max}
 use lib.ListN.{length, getD, take, drop}
+use Rattle.field.specs.Residue.{inverse}
 use Rattle.finder.specs.declared.Progress.{Progress}
 use Rattle.register.specs.Algorithm4.{State}
 
@@ -25,11 +26,13 @@ stateOf g taps saved =
           };
     }
 
--- the arrays are whole, and the entries of the taps past the register are 0, so that a longer one grows into zeros
-pub record Ended (g : Progress) (taps saved : List ℕ) : Type 0 where
+-- the arrays are whole, the entries of the taps past the register are 0, so that a longer one grows into zeros, and beside each discrepancy stands its
+-- inverse modulo p
+pub record Ended (p : ℕ) (g : Progress) (taps saved : List ℕ) : Type 0 where
   pub width : length taps ≡ 129
   pub saved-width : length saved ≡ 1032
   pub zeros : (i : ℕ) → g .length < i → getD taps i 0 ≡ 0
+  pub inverses : (h : ℕ) → h < 8 → getD (g .inverses) h 0 ≡ inverse p (getD (g .discs) h 0)
 
 -- what holds of the state whenever a step (n, h) is made: nothing overflows and no index is out of range
 pub record Ready (p N : ℕ) (s : List ℕ) (n h : ℕ) (st : State) : Type 0 where
@@ -43,7 +46,6 @@ pub record Ready (p N : ℕ) (s : List ℕ) (n h : ℕ) (st : State) : Type 0 wh
   pub place : st .saved h .place ≤ max n (N - length s)
   pub saved-size : st .saved h .size ≤ st .saved h .place
   pub residues : (i : ℕ) → getD (st .taps) i 0 < p
-  pub disc : st .saved h .disc < p
   pub saved-residues : (i : ℕ) → getD (st .saved h .taps) i 0 < p
 
 -- what holds of the state when it is changed by a discrepancy d at (n, h)
@@ -57,7 +59,6 @@ pub record Changeable (p n h d : ℕ) (st : State) : Type 0 where
   pub place : st .saved h .place ≤ n
   pub saved-size : st .saved h .size ≤ st .saved h .place
   pub residues : (i : ℕ) → getD (st .taps) i 0 < p
-  pub disc : st .saved h .disc < p
   pub saved-residues : (i : ℕ) → getD (st .saved h .taps) i 0 < p
 
 -- what holds of the taps and of the m + 1 taps saved for sequence h when the one is reduced by q·x^e times the other
@@ -71,7 +72,7 @@ pub record Reducible (p : ℕ) (taps : List ℕ) (q e m : ℕ) (saved : List ℕ
   pub residues : (i : ℕ) → getD taps i 0 < p
   pub saved-residues : (i : ℕ) → getD (take (suc m) (block h saved)) i 0 < p
 
--- what one step leaves: the state of the definition, and zeros past the register
-pub record Stepped (st : State) (g : Progress) (taps saved : List ℕ) : Type 0 where
+-- what one step leaves: the state of the definition, and arrays as they were
+pub record Stepped (p : ℕ) (st : State) (g : Progress) (taps saved : List ℕ) : Type 0 where
   pub state : stateOf g taps saved ≡ st
-  pub ended : Ended g taps saved
+  pub ended : Ended p g taps saved

@@ -27,9 +27,9 @@ pub record Agree (k : ℕ) (st su : State) : Type 0 where
   pub saved : (h : ℕ) → h < k → st .saved h ≡ su .saved h
 
 -- the struct and the arrays hold the state st of Algorithm 4 on k sequences
-pub record Reached (k : ℕ) (st : State) (g : Progress) (taps saved : List ℕ) : Type 0 where
+pub record Reached (p k : ℕ) (st : State) (g : Progress) (taps saved : List ℕ) : Type 0 where
   pub state : Agree k (stateOf g taps saved) st
-  pub ended : Ended g taps saved
+  pub ended : Ended p g taps saved
 
 -- the struct before the first round, once the places of k sequences are set
 pub record Started (N : ℕ) (o : Order) (k : ℕ) (g : Progress) : Type 0 where
@@ -37,6 +37,7 @@ pub record Started (N : ℕ) (o : Order) (k : ℕ) (g : Progress) : Type 0 where
   pub place : (h : ℕ) → h < k → getD (g .places) h 0 ≡ N - getD (o .lengths) h 0
   pub size : (h : ℕ) → h < 8 → getD (g .sizes) h 0 ≡ 0
   pub disc : (h : ℕ) → h < 8 → getD (g .discs) h 0 ≡ 1
+  pub inverse : (h : ℕ) → h < 8 → getD (g .inverses) h 0 ≡ 1
 
 -- the alone mark after all N rounds, read off the struct
 unfoldable pub aloneMark : (N : ℕ) → Order → (k : ℕ) → Progress → Bool

@@ -16,12 +16,13 @@ pub enum Found {
 }
 
 // The state of the method between two steps, but for the taps, which stand in lent arrays: the length of the register found so far, and for each
-// sequence the place, length and discrepancy of the register saved for it.
+// sequence the place, length and discrepancy of the register saved for it, with the inverse of that discrepancy modulo p.
 pub struct Progress {
     pub length: usize,
     pub places: [u16; 8],
     pub sizes: [u16; 8],
     pub discs: [u16; 8],
+    pub inverses: [u16; 8],
 }
 
 // Where the sequences stand among the lent symbols, by falling length: for each its first symbol and its length.

@@ -21,6 +21,7 @@ pub fn start(longest: usize, order: Order, count: usize) -> Progress
         places: zeros,
         sizes: zeros,
         discs: ones,
+        inverses: ones,
     };
     let mut h = 0;
     while h < count {
@@ -44,8 +45,8 @@ fn round(
 ) -> Progress
     requires { ⌜ Running p longest order count (now symbols) ⌝ }
     requires { ⌜ n < longest ⌝ }
-    requires { ⌜ Reached count (roundsOf p longest (sequencesAt order count (now symbols)) n) g (now taps) (now saved) ⌝ }
-    ensures { λ r. ⌜ Reached count (roundsOf p longest (sequencesAt order count (now (symbols .entry))) (n + 1)) r (now (taps .exit)) (now (saved .exit)) ⌝ }
+    requires { ⌜ Reached p count (roundsOf p longest (sequencesAt order count (now symbols)) n) g (now taps) (now saved) ⌝ }
+    ensures { λ r. ⌜ Reached p count (roundsOf p longest (sequencesAt order count (now (symbols .entry))) (n + 1)) r (now (taps .exit)) (now (saved .exit)) ⌝ }
 {
     let mut state = g;
     let mut h = 0;
@@ -69,8 +70,8 @@ pub fn rounds(
     saved: &mut [u16; 1032],
 ) -> Progress
     requires { ⌜ Running p longest order count (now symbols) ⌝ }
-    requires { ⌜ Reached count (startState longest (sequencesAt order count (now symbols))) g (now taps) (now saved) ⌝ }
-    ensures { λ r. ⌜ Reached count (roundsOf p longest (sequencesAt order count (now (symbols .entry))) longest) r (now (taps .exit)) (now (saved .exit)) ⌝ }
+    requires { ⌜ Reached p count (startState longest (sequencesAt order count (now symbols))) g (now taps) (now saved) ⌝ }
+    ensures { λ r. ⌜ Reached p count (roundsOf p longest (sequencesAt order count (now (symbols .entry))) longest) r (now (taps .exit)) (now (saved .exit)) ⌝ }
 {
     let mut state = g;
     let mut n = 0;

@@ -7,7 +7,8 @@ ghost use mathlib.Core.Path.{_≡_};
 ghost use Rattle.register.specs.Algorithm4.{step, changed};
 ghost use Rattle.finder.specs.Progress.{stateOf, Ended, Ready, Changeable, Stepped};
 
-// The change by a discrepancy d at (n, h).
+// The change by a discrepancy d at (n, h). It divides by the saved discrepancy with the inverse kept beside it; an inverse is worked out only when a
+// register is saved.
 fn change(
     p: u32,
     n: usize,
@@ -18,14 +19,13 @@ fn change(
     saved: &mut [u16; 1032],
 ) -> Progress
     requires { ⌜ Changeable p n h d (stateOf g (now taps) (now saved)) ⌝ }
-    requires { ⌜ Ended g (now taps) (now saved) ⌝ }
-    ensures { λ r. ⌜ Stepped (changed p n h d (stateOf g (now (taps .entry)) (now (saved .entry)))) r (now (taps .exit)) (now (saved .exit)) ⌝ }
+    requires { ⌜ Ended p g (now taps) (now saved) ⌝ }
+    ensures { λ r. ⌜ Stepped p (changed p n h d (stateOf g (now (taps .entry)) (now (saved .entry)))) r (now (taps .exit)) (now (saved .exit)) ⌝ }
 {
     let l = g.length;
     let place = g.places[h] as usize;
     let size = g.sizes[h] as usize;
-    let disc = g.discs[h] as u32;
-    let q = field::residue::product(d, field::residue::inverse(disc, p), p);
+    let q = field::residue::product(d, g.inverses[h] as u32, p);
     let e = n - place;
     if n + size <= place + l {
         reduce(p, taps, q, e, size, saved, h);
@@ -39,6 +39,7 @@ fn change(
     next.places[h] = n as u16;
     next.sizes[h] = l as u16;
     next.discs[h] = d as u16;
+    next.inverses[h] = field::residue::inverse(d, p) as u16;
     next
 }
 
@@ -53,8 +54,8 @@ pub fn step(
     saved: &mut [u16; 1032],
 ) -> Progress
     requires { ⌜ Ready p longest (now s) n h (stateOf g (now taps) (now saved)) ⌝ }
-    requires { ⌜ Ended g (now taps) (now saved) ⌝ }
-    ensures { λ r. ⌜ Stepped (step p longest (now (s .entry)) n h (stateOf g (now (taps .entry)) (now (saved .entry)))) r (now (taps .exit)) (now (saved .exit)) ⌝ }
+    requires { ⌜ Ended p g (now taps) (now saved) ⌝ }
+    ensures { λ r. ⌜ Stepped p (step p longest (now (s .entry)) n h (stateOf g (now (taps .entry)) (now (saved .entry)))) r (now (taps .exit)) (now (saved .exit)) ⌝ }
 {
     let l = g.length;
     let gap = longest - s.len();

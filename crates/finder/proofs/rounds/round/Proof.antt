@@ -11,7 +11,7 @@ use Rattle.finder.proofs.rounds.round.Tie as tie
 
 abbrev Inv-loop : tie.InvT-loop
 Inv-loop p longest symbols count n taps₀ saved₀ order state₀ h₀ taps saved state h =
-    (h ≤ count) × Reached count (turn p longest (sequencesAt order count symbols) (n + 1) h (rounds p longest (sequencesAt order count symbols) n)) state taps saved
+    (h ≤ count) × Reached p count (turn p longest (sequencesAt order count symbols) (n + 1) h (rounds p longest (sequencesAt order count symbols) n)) state taps saved
 
 abbrev μ-loop : tie.MeasureT-loop
 μ-loop p longest symbols count n taps₀ saved₀ order state₀ h₀ taps saved state h = count - h

@@ -11,7 +11,7 @@ use Rattle.finder.proofs.rounds.rounds.Tie as tie
 
 abbrev Inv-loop : tie.InvT-loop
 Inv-loop p longest symbols order count taps₀ saved₀ state₀ n₀ taps saved state n =
-    (n ≤ longest) × Reached count (rounds p longest (sequencesAt order count symbols) n) state taps saved
+    (n ≤ longest) × Reached p count (rounds p longest (sequencesAt order count symbols) n) state taps saved
 
 abbrev μ-loop : tie.MeasureT-loop
 μ-loop p longest symbols order count taps₀ saved₀ state₀ n₀ taps saved state n = longest - n

@@ -1,9 +1,7 @@
 -- `change` makes the change of Algorithm 4 on the arrays. Assumes nothing.
-use mathlib.Core.Path.{ap, _∙_}
 use borrow.Author.Needs.{needs}
-use Rattle.field.specs.Residue.{times}
 use Rattle.finder.specs.Progress.{stateOf}
-use Rattle.finder.proofs.Change.{Lengths, reducible, stays, grows}
+use Rattle.finder.proofs.Change.{Lengths, inverse-less, is-quotient, reducible, stays, grows}
 use Rattle.finder.proofs.step.change.Statement.{statement}
 use Rattle.finder.proofs.step.change.Tie as tie
 
@@ -25,22 +23,20 @@ element-copy-out-size c = search needs
 cast-size : tie.Need-cast-size
 cast-size c = search needs
 
-mul-disc : tie.Need-mul-disc
-mul-disc c = search needs
+mul-product : tie.Need-mul-product
+mul-product c = search needs
 
-element-copy-out-disc : tie.Need-element-copy-out-disc
-element-copy-out-disc c = search needs
+element-copy-out-product : tie.Need-element-copy-out-product
+element-copy-out-product c = search needs
 
-cast-disc : tie.Need-cast-disc
-cast-disc c = search needs
-
-inverse-requires : tie.Need-inverse-requires
-unfolding stateOf
-inverse-requires c κs = search needs
+cast-product : tie.Need-cast-product
+cast-product c = search needs
 
 product-requires : tie.Need-product-requires
 unfolding stateOf
-product-requires c κs = search needs
+product-requires c κs =
+    let at = c .before .before .before in
+    (at .pre .0 .modulus, at .pre .0 .discrepancy, inverse-less (at .pre .0) (at .pre .1))
 
 sub-e : tie.Need-sub-e
 unfolding stateOf
@@ -58,22 +54,21 @@ reduce-requires : tie.Need-reduce-requires
 unfolding stateOf
 reduce-requires c κs =
     let divided = c .before .before .before in
-    let at = divided .before .before .before .before .before in
+    let at = divided .before .before .before .before in
     reducible (at .pre .0) (at .pre .1) (divided .product .ensures .1)
 
 returns : tie.Need-returns
 unfolding stateOf
 returns c =
     let divided = c .before .before .before .before in
-    let at = divided .before .before .before .before .before in
-    let q = divided .product .ensures .0 ∙ ap (times (at .args .p) (at .args .d)) (divided .before .inverse .ensures .0) in
-    stays (at .pre .0) (at .pre .1) q (c .reduce .ensures) (c .before .before .before .if1 .taken)
+    let at = divided .before .before .before .before in
+    stays (at .pre .0) (at .pre .1) (is-quotient (at .pre .0) (at .pre .1) (divided .product .ensures .0)) (c .reduce .ensures) (c .before .before .before .if1 .taken)
 
 reduce-requires-2 : tie.Need-reduce-requires-2
 unfolding stateOf
 reduce-requires-2 c κs =
     let divided = c .before .before .before .before in
-    let at = divided .before .before .before .before .before in
+    let at = divided .before .before .before .before in
     reducible (at .pre .0) (at .pre .1) (divided .product .ensures .1)
 
 slice-aggregate-keep : tie.Need-slice-aggregate-keep
@@ -122,14 +117,25 @@ mul-next-3 c = search needs
 element-write-next-3 : tie.Need-element-write-next-3
 element-write-next-3 c = search needs
 
+inverse-requires : tie.Need-inverse-requires
+inverse-requires c κs = search needs
+
+cast-next-4 : tie.Need-cast-next-4
+cast-next-4 c = search needs
+
+mul-next-4 : tie.Need-mul-next-4
+mul-next-4 c = search needs
+
+element-write-next-4 : tie.Need-element-write-next-4
+element-write-next-4 c = search needs
+
 returns-2 : tie.Need-returns-2
 unfolding stateOf
 returns-2 c =
     let at = c .before .before .before .before .before .before .before .before .before .before .before .before .before in
-    let lengths : Lengths (at .args .t5) = (search needs, search needs, search needs) in
-    let divided = c .before .before .before .before .before .before .before .before in
-    let q = divided .product .ensures .0 ∙ ap (times (at .args .p) (at .args .d)) (divided .before .inverse .ensures .0) in
-    grows (at .pre .0) (at .pre .1) q (c .before .before .before .reduce2 .ensures) lengths (c .keep .ensures) (c .before .before .before .before .before .before .before .if1 .left)
+    let lengths : Lengths (at .args .t5) = (search needs, search needs, search needs, search needs) in
+    let divided = c .before .before .before .before .before .before .before .before .before in
+    grows (at .pre .0) (at .pre .1) (is-quotient (at .pre .0) (at .pre .1) (divided .product .ensures .0)) (c .before .before .before .before .reduce2 .ensures) lengths (c .inverse .ensures .0) (c .before .keep .ensures) (c .before .before .before .before .before .before .before .before .if1 .left)
 
 pub change-spec : {M : Type 1} → statement M
 change-spec =
@@ -141,10 +147,9 @@ change-spec =
     mul-size
     element-copy-out-size
     cast-size
-    mul-disc
-    element-copy-out-disc
-    cast-disc
-    inverse-requires
+    mul-product
+    element-copy-out-product
+    cast-product
     product-requires
     sub-e
     add-if1
@@ -165,4 +170,8 @@ change-spec =
     cast-next-3
     mul-next-3
     element-write-next-3
+    inverse-requires
+    cast-next-4
+    mul-next-4
+    element-write-next-4
     returns-2)
