@@ -1,0 +1,31 @@
+-- `trial::algorithm4::begin` is safe and ends: `kept` keeps its length. Assumes nothing.
+use Prim.Native.Nat.{_-_}
+use mathlib.Core.Path.{_≡_}
+use lib.ListN.{length}
+use borrow.Author.Needs.{needs}
+use Rattle.trial.proofs.algorithm4.begin.Statement.{statement}
+use Rattle.trial.proofs.algorithm4.begin.Tie as tie
+
+abbrev Inv-loop : tie.InvT-loop
+Inv-loop lengths at-ends kept₀ h₀ h-end kept h = length kept ≡ length kept₀
+
+abbrev μ-loop : tie.MeasureT-loop
+μ-loop lengths at-ends kept₀ h₀ h-end kept h = h-end - h
+
+pub begin-spec : {M : Type 1} → statement M
+begin-spec =
+    tie.close
+    (tie.spec
+    Inv-loop
+    μ-loop
+    (λ c. search needs)
+    (λ c κs. search needs)
+    (λ c κs. search needs)
+    (λ c κs. search needs)
+    (λ c κs. search needs)
+    (λ c κs. search needs)
+    (λ c. search needs)
+    (λ c. search needs)
+    (λ c. search needs)
+    (λ c. search needs)
+    (λ c. search needs))

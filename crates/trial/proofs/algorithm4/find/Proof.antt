@@ -1,0 +1,32 @@
+-- `trial::algorithm4::find` is safe and ends: `taps` and `kept` keep their lengths. Assumes nothing.
+use Prim.Native.Nat.{_-_}
+use mathlib.Core.Path.{_≡_}
+use lib.ListN.{length}
+use borrow.Author.Needs.{needs}
+use Rattle.trial.proofs.algorithm4.find.Statement.{statement}
+use Rattle.trial.proofs.algorithm4.find.Tie as tie
+
+abbrev Inv-loop : tie.InvT-loop
+Inv-loop p lengths symbols at-ends taps₀ kept₀ l₀ n₀ n-end taps kept l n = (length taps ≡ length taps₀) × (length kept ≡ length kept₀)
+
+abbrev μ-loop : tie.MeasureT-loop
+μ-loop p lengths symbols at-ends taps₀ kept₀ l₀ n₀ n-end taps kept l n = n-end - n
+
+pub find-spec : {M : Type 1} → statement M
+find-spec =
+    tie.close
+    (tie.spec
+    Inv-loop
+    μ-loop
+    (λ c. search needs)
+    (λ c κs. search needs)
+    (λ c κs. search needs)
+    (λ c κs. search needs)
+    (λ c. search needs)
+    (λ c. search needs)
+    (λ c κs. search needs)
+    (λ c. search needs)
+    (λ c. search needs)
+    (λ c. search needs)
+    (λ c. search needs)
+    (λ c. search needs))
