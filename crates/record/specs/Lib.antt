@@ -1,3 +1,5 @@
+pub mod Answered
 pub mod Line
 pub mod Record
 pub mod Text
+pub mod Written

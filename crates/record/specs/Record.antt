@@ -12,11 +12,13 @@ pub data Record : Type 0 where
   sequences : (p : ℕ) (lengths symbols : List ℕ) → Record
   frame : (columns : ℕ) (checks symbols : List ℕ) → Record
 
--- The bytes got are all that the length claims, and it is two or more and even. The input may end inside a record, before its length or after.
+-- how many bytes a record claims after its length; none where the two bytes of the length are not there
+unfoldable pub claimedBy : List ℕ → ℕ
+claimedBy bytes = cond (leb 2 (length bytes)) (fieldOf bytes 0) 0
+
+-- The length claimed is two or more and even, and the bytes got are all that it claims: the input may end inside a record, before its length or after.
 unfoldable pub isWhole : List ℕ → Bool
-isWhole bytes =
-    leb 2 (length bytes) &&
-    (eqb (length bytes) (2 + fieldOf bytes 0) && (leb 2 (fieldOf bytes 0) && eqb (fieldOf bytes 0 % 2) 0))
+isWhole bytes = leb 2 (claimedBy bytes) && (eqb (claimedBy bytes % 2) 0 && eqb (length bytes) (2 + claimedBy bytes))
 
 -- The fields from the kind on. Kind 1: p, count, lengths, symbols. Kind 2: rows, columns, check counts, symbols. The fields before the symbols are there.
 unfoldable pub bodyOf : List ℕ → Record

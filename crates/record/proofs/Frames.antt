@@ -1,0 +1,107 @@
+-- The line of a record of a frame, by what the calls on a job return; a located frame has 64 marked columns at most. Assumes nothing.
+use mathlib.Core.Path.{_≡_, refl, sym, ap, _∙_, subst}
+use mathlib.Core.Bool.{true}
+use mathlib.Core.List.{List}
+use Prim.Native.Nat.{ℕ, _≤_, _<_}
+use native.Mathlib.Omega.{arith}
+use lib.ListN.{length}
+use Rattle.columns.specs.Columns.{number as bits, has, columnsOf, members}
+use Rattle.columns.specs.Listed.{listed}
+use Rattle.columns.specs.declared.Columns.{Columns}
+use Rattle.frame.specs.Shape.{isShape}
+use Rattle.frame.specs.declared.Shape.{Shape}
+use Rattle.frame.proofs.Reasons.{frame-passes}
+use Rattle.frame.proofs.Shapes.{shape-ranges}
+use Rattle.decoding.specs.Locating.{sizeOf, rowsReach}
+use Rattle.decoding.proofs.SoleNearest.{reach}
+use Rattle.job.specs.Answers.{replyAnswer, verdictAnswer, shapeOutcome, answeredOutcome}
+use Rattle.job.specs.Calls as Calls
+use Rattle.job.specs.Calls.{Answer, Outcome, step, shape, locate}
+use Rattle.job.specs.Job.{emptyJob, noColumns}
+use Rattle.job.specs.declared.Answered.{Answered}
+use Rattle.job.specs.declared.Job.{Job}
+use Rattle.job.specs.declared.Reply.{Reply}
+use Rattle.job.specs.declared.Reply.the-variants.{Count, Refused}
+use Rattle.job.specs.declared.Reshaped.{Reshaped}
+use Rattle.job.proofs.Cases.{by-locate}
+use Rattle.job.proofs.Forms.{Locates, has-shape, register-passes}
+use Rattle.job.proofs.Soundness.{marked-number}
+use Rattle.refusal.specs.Number.{number}
+use Rattle.refusal.specs.declared.Refusal.{Refusal}
+use Rattle.refusal.specs.declared.Verdict.{Verdict}
+use Rattle.refusal.specs.declared.Verdict.the-variants.{Pass, Refuse}
+use Rattle.record.specs.Answered.{columnCount}
+use Rattle.record.specs.Line.{refusalLine, columnsLine, frameLine, outputOf}
+use Rattle.record.specs.Record.{frame}
+
+-- ---- how many columns are marked
+
+abbrev counted : Answer → ℕ
+counted Calls.done = 0
+counted (Calls.columns c) = c
+counted (Calls.refused k) = 0
+
+abbrev Few : Outcome → Type 0
+Few o = (counted (o .answer) ≤ 64) × (length (members (o .marks)) ≤ 64)
+
+none-marked : length (members noColumns) ≡ 0
+unfolding noColumns columnsOf bits has listed
+none-marked = refl
+
+few-located : (j : Job) (f : List ℕ) → Few (step j (locate f))
+few-located j f =
+    let none = none-marked in
+    by-locate Few j f (λ k a. (omega arith, omega arith)) (λ k p a. (omega arith, omega arith)) (λ (e, p) q.
+    let s = j .shape in
+    let t : isShape s ≡ true = has-shape j e in
+    let l : Locates s f = register-passes j f (frame-passes s f p) q in
+    let few : sizeOf s f ≤ 64 = at-most s (sizeOf s f) t (l .reach) in
+    (few, omega (arith, marked-number s f t l)))
+  where
+    at-most : (s : Shape) (c : ℕ) → isShape s ≡ true → rowsReach s c ≡ true → c ≤ 64
+    at-most s c t r =
+        let ranges = shape-ranges s t in
+        let first : 0 < s .rows = omega (arith, ranges .rows-least) in
+        omega (arith, reach s c r 0 first, ranges .checks 0 first .most)
+
+reply-count : (r : Reply) → counted (replyAnswer r) ≡ columnCount r
+reply-count (Count c) = refl
+reply-count (Refused k) = refl
+
+pub few-marks : (j : Job) (f : List ℕ) (a : Answered) → answeredOutcome a f ≡ step j (locate f)
+    → (columnCount (a .reply) ≤ 64) × (length (members (a .columns)) ≤ 64)
+few-marks j f a e =
+    let few : Few (answeredOutcome a f) = subst Few (sym e) (few-located j f) in
+    (omega (arith, few .0, reply-count (a .reply)), few .1)
+
+-- ---- the line, by what is returned
+
+module _ (reply : Reply) (marks : Columns) where
+  pub refusal-replied : (k : Refusal) → reply ≡ Refused k → refusalLine (number k) ≡ columnsLine (replyAnswer reply) marks
+  unfolding columnsLine
+  refusal-replied k e = ap (λ (x : Reply). columnsLine (replyAnswer x) marks) (sym e)
+
+  module _ (c : ℕ) (e : reply ≡ Count c) where
+    pub columns-replied : columnsLine (Calls.columns c) marks ≡ columnsLine (replyAnswer reply) marks
+    columns-replied = ap (λ (x : Reply). columnsLine (replyAnswer x) marks) (sym e)
+
+    pub count-replied : (n : ℕ) → columnCount reply ≤ n → c ≤ n
+    count-replied n h = subst (λ (x : Reply). columnCount x ≤ n) e h
+
+module _ (n : ℕ) (checks symbols : List ℕ) (j : Job) (start : j ≡ emptyJob) (shaped : Reshaped)
+    (given : shapeOutcome shaped ≡ step j (shape n checks)) where
+  by-outcome : frameLine (verdictAnswer (shaped .verdict)) (shapeOutcome shaped) (step (shaped .job) (locate symbols)) ≡ outputOf (frame n checks symbols)
+  unfolding outputOf
+  by-outcome = ap (λ (o : Outcome). frameLine (o .answer) o (step (o .job) (locate symbols))) (given ∙ ap (λ (i : Job). step i (shape n checks)) start)
+
+  pub frame-refused : (k : Refusal) → shaped .verdict ≡ Refuse k → refusalLine (number k) ≡ outputOf (frame n checks symbols)
+  unfolding frameLine
+  frame-refused k e =
+      ap (λ (v : Verdict). frameLine (verdictAnswer v) (shapeOutcome shaped) (step (shaped .job) (locate symbols))) (sym e) ∙ by-outcome
+
+  pub frame-located : (a : Answered) → shaped .verdict ≡ Pass → answeredOutcome a symbols ≡ step (shaped .job) (locate symbols)
+      → columnsLine (replyAnswer (a .reply)) (a .columns) ≡ outputOf (frame n checks symbols)
+  unfolding frameLine
+  frame-located a e l =
+      ap (λ (o : Outcome). columnsLine (o .answer) (o .marks)) l ∙
+      ap (λ (v : Verdict). frameLine (verdictAnswer v) (shapeOutcome shaped) (step (shaped .job) (locate symbols))) (sym e) ∙ by-outcome

@@ -1,0 +1,7 @@
+pub mod Digits
+pub mod Frames
+pub mod Lines
+pub mod Parsing
+pub mod Registers
+pub mod Spacing
+pub mod Writing

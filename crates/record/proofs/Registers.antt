@@ -1,0 +1,89 @@
+-- The line of a record of sequences, by what the finder answers and leaves in its tap buffer. Assumes nothing.
+use mathlib.Core.Path.{_≡_, sym, ap, ap₂, _∙_, subst}
+use mathlib.Core.Bool.{Bool}
+use mathlib.Core.List.{List, _++_}
+use Prim.Native.Nat.{ℕ, suc, _+_, _-_, _≤_}
+use native.Mathlib.Nat.{sub-zero}
+use native.Mathlib.Numerals.{add-one}
+use native.Mathlib.Omega.{arith}
+use lib.ListN.{length, take, drop, length-append}
+use lib.Seq.{take-at}
+use Rattle.field.specs.Prime.{isModulus}
+use Rattle.field.proofs.Modulus.{modulus-prime}
+use Rattle.finder.specs.Finder.{Answer, register, refused, answerOf, tests, answer, tapsLeft}
+use Rattle.finder.specs.declared.Found.{Found}
+use Rattle.finder.specs.declared.Found.the-variants.{Register, Refused}
+use Rattle.refusal.specs.Number.{number}
+use Rattle.refusal.specs.declared.Refusal.{Refusal}
+use Rattle.refusal.proofs.Orders.{Pass, no-fail, by-tests, pass-otherwise}
+use Rattle.register.specs.Algorithm4.{found, foundAlone}
+use Rattle.register.specs.Sequences.{longest, split}
+use Rattle.register.proofs.Bounds.{bounded-rounds}
+use Rattle.record.specs.Line.{refusalLine, registerLine, outputOf}
+use Rattle.record.specs.Record.{sequences}
+use Rattle.record.specs.Answered.{tapCount, foundLine}
+
+module _ (p : ℕ) (lengths symbols : List ℕ) where
+  abbrev ss : List (List ℕ)
+  ss = split lengths symbols
+
+  abbrev taps : List ℕ
+  taps = found p ss (longest ss) .taps
+
+  module _ (buffer left : List ℕ) (width : length buffer ≡ 129) (kept : length left ≡ length buffer)
+      (written : left ≡ tapsLeft p lengths symbols buffer) where
+    refused-line : (k : ℕ) → refused k ≡ answer p lengths symbols (length buffer) → outputOf (sequences p lengths symbols) ≡ refusalLine k
+    unfolding outputOf registerLine
+    refused-line k a = ap (λ (x : Answer). registerLine x taps) (ap (answer p lengths symbols) (sym width) ∙ sym a)
+
+    module _ (l : ℕ) (a : Bool) (answered : register l a ≡ answer p lengths symbols (length buffer)) where
+      passes : Pass (tests p lengths symbols (length buffer)) × (found p ss (longest ss) .size ≡ l)
+      unfolding answer
+      passes =
+          by-tests refused (register (found p ss (longest ss) .size) (foundAlone p ss (longest ss)))
+          (λ x. register l a ≡ x → Pass (tests p lengths symbols (length buffer)) × (found p ss (longest ss) .size ≡ l))
+          (tests p lengths symbols (length buffer))
+          (λ k among e. absurd (let z : _≡_ {A = ℕ} 0 1 = cc in let b : ⊥ = omega arith in b)) (λ pass e. (pass, cc)) answered
+
+      two : 2 ≤ p
+      unfolding tests
+      two = modulus-prime p (no-fail (isModulus p) (passes .0 .0)) .0 .two-or-more
+
+      tap-count : length taps ≡ suc l
+      unfolding found
+      tap-count = bounded-rounds p (longest ss) _ two (longest ss) .taps ∙ ap suc (passes .1)
+
+      buffer-left : left ≡ taps ++ drop (length taps) buffer
+      unfolding tapsLeft
+      buffer-left = written ∙ pass-otherwise (λ k. buffer) (taps ++ drop (length taps) buffer) (tests p lengths symbols (length buffer)) (passes .0)
+
+      taps-left : take (l + 1) left ≡ taps
+      taps-left = ap (take (l + 1)) buffer-left ∙ take-at taps (drop (length taps) buffer) (l + 1) (tap-count ∙ sym (add-one l))
+
+      register-line : outputOf (sequences p lengths symbols) ≡ registerLine (register l a) (take (l + 1) left)
+      unfolding outputOf
+      register-line = ap₂ registerLine (ap (answer p lengths symbols) (sym width) ∙ sym answered) (sym taps-left)
+
+      taps-fit : l + 1 ≤ length left
+      taps-fit = let e = ap length buffer-left ∙ length-append taps (drop (length taps) buffer) in omega (arith, tap-count)
+
+    pub found-taps : (r : Found) → answerOf r ≡ answer p lengths symbols (length buffer) → tapCount r ≤ length left
+    found-taps (Register l a) e = taps-fit l a e
+    found-taps (Refused k) e = omega arith
+
+    pub found-output : (r : Found) → answerOf r ≡ answer p lengths symbols (length buffer) → foundLine r left ≡ outputOf (sequences p lengths symbols)
+    found-output (Register l a) e = sym (register-line l a e)
+    found-output (Refused k) e = sym (refused-line (number k) e)
+
+-- what is found, by cases
+module _ (r : Found) where
+  pub refusal-found : (left : List ℕ) (k : Refusal) → r ≡ Refused k → refusalLine (number k) ≡ foundLine r left
+  refusal-found left k e = ap (λ (x : Found). foundLine x left) (sym e)
+
+  module _ (l : ℕ) (a : Bool) (e : r ≡ Register l a) where
+    pub register-found : (left : List ℕ) → registerLine (register l a) (take (l + 1 - 0) left) ≡ foundLine r left
+    register-found left =
+        ap (λ (n : ℕ). registerLine (register l a) (take n left)) (sub-zero (l + 1)) ∙ ap (λ (x : Found). foundLine x left) (sym e)
+
+    pub count-found : (n : ℕ) → tapCount r ≤ n → l + 1 ≤ n
+    count-found n h = subst (λ (x : Found). tapCount x ≤ n) e h

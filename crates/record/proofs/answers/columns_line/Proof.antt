@@ -1,0 +1,43 @@
+-- `record::answers::columns_line` meets its contract. Assumes nothing.
+use native.Mathlib.Omega.{arith}
+use borrow.Author.Needs.{needs}
+use Rattle.record.specs.Line.{columnsLine}
+use Rattle.record.proofs.Lines.{line-more, line-end}
+use Rattle.record.proofs.answers.columns_line.Statement.{statement}
+use Rattle.record.proofs.answers.columns_line.Tie as tie
+
+cast-put-head : tie.Need-cast-put-head
+cast-put-head c = search needs
+
+put-head-requires : tie.Need-put-head-requires
+put-head-requires c κs = search needs
+
+put-columns-requires : tie.Need-put-columns-requires
+put-columns-requires c κs = search needs
+
+put-byte-requires : tie.Need-put-byte-requires
+put-byte-requires c κs = search needs
+
+same-length : tie.Need-same-length
+same-length c = search needs
+
+returns : tie.Need-returns
+unfolding columnsLine
+returns c =
+    let head = c .before .before .before .before .before .before .before .before .before .before .put-head .ensures in
+    let columns = c .before .before .before .before .before .before .put-columns .ensures in
+    let byte = c .before .before .put-byte .ensures in (
+      line-end _ _ _ _ _ _ (omega arith) (line-more _ _ _ _ _ _ (omega arith) (head .0) _ _ _ (columns .0)) _ _ byte,
+      omega (arith, byte .place),
+    )
+
+pub columns-line-spec : {M : Type 1} → statement M
+columns-line-spec =
+    tie.close
+    (tie.spec
+    cast-put-head
+    put-head-requires
+    put-columns-requires
+    put-byte-requires
+    same-length
+    returns)

@@ -1,0 +1,60 @@
+-- `record::answers::taps_line` meets its contract. Assumes nothing.
+use mathlib.Core.Path.{ap}
+use mathlib.Core.List.{_∷_}
+use Prim.Native.Nat.{ℕ}
+use native.Mathlib.Omega.{arith}
+use borrow.Author.Needs.{needs}
+use Rattle.record.specs.Line.{registerLine}
+use Rattle.record.specs.Text.{line}
+use Rattle.record.proofs.Lines.{line-more, line-end}
+use Rattle.record.proofs.Writing.{written-as}
+use Rattle.record.proofs.answers.taps_line.Statement.{statement}
+use Rattle.record.proofs.answers.taps_line.Tie as tie
+
+cast-put-head : tie.Need-cast-put-head
+cast-put-head c = search needs
+
+put-head-requires : tie.Need-put-head-requires
+put-head-requires c κs = search needs
+
+mark-of-requires : tie.Need-mark-of-requires
+mark-of-requires c κs = search needs
+
+put-number-requires : tie.Need-put-number-requires
+put-number-requires c κs = search needs
+
+put-numbers-requires : tie.Need-put-numbers-requires
+put-numbers-requires c κs = search needs
+
+put-byte-requires : tie.Need-put-byte-requires
+put-byte-requires c κs = search needs
+
+same-length : tie.Need-same-length
+same-length c = search needs
+
+returns : tie.Need-returns
+unfolding registerLine
+returns c =
+    let head = c .before .before .before .before .before .before .before .before .before .before .before .before .before .before .before .put-head .ensures in
+    let mark = c .before .before .before .before .before .before .before .before .before .before .put-number .ensures in
+    let taps = c .before .before .before .before .before .before .put-numbers .ensures in
+    let byte = c .before .before .put-byte .ensures in
+    let given = c .before .before .before .before .before .before .before .before .before .before .before .before .before .before .before .before .before .before .before .args in (
+      written-as _ _ _ _ _ _ (ap (λ (k : ℕ). line 82 (given .size ∷ k ∷ given .taps .now)) (c .before .before .before .before .before .before .before .before .before .before .before .mark-of .ensures))
+          (line-end _ _ _ _ _ _ (omega arith)
+          (line-more _ _ _ _ _ _ (omega arith) (line-more _ _ _ _ _ _ (omega arith) (head .0) _ _ _ (mark .0)) _ _ _ (taps .0)) _ _ byte),
+      omega (arith, byte .place),
+    )
+
+pub taps-line-spec : {M : Type 1} → statement M
+taps-line-spec =
+    tie.close
+    (tie.spec
+    cast-put-head
+    put-head-requires
+    mark-of-requires
+    put-number-requires
+    put-numbers-requires
+    put-byte-requires
+    same-length
+    returns)

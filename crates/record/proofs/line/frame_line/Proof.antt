@@ -1,0 +1,65 @@
+-- `record::line::frame_line` meets its contract. Assumes nothing.
+use borrow.Author.Needs.{needs}
+use Rattle.record.proofs.Frames.{few-marks, frame-refused, frame-located}
+use Rattle.record.proofs.Writing.{written-as}
+use Rattle.record.proofs.line.frame_line.Statement.{statement}
+use Rattle.record.proofs.line.frame_line.Tie as tie
+
+empty-requires : tie.Need-empty-requires
+empty-requires c κs = search needs
+
+shape-requires : tie.Need-shape-requires
+shape-requires c κs = search needs
+
+enum-known-verdict : tie.Need-enum-known-verdict
+enum-known-verdict c = search needs
+
+refusal-line-requires : tie.Need-refusal-line-requires
+refusal-line-requires c κs = search needs
+
+same-length : tie.Need-same-length
+same-length c = search needs
+
+returns : tie.Need-returns
+returns c =
+    let line = c .before .before .refusal-line .ensures in
+    let refused = frame-refused _ _ _ _ (c .before .before .before .before .before .before .before .before .empty .ensures) (c .before .before .before .before .before .before .before .shape .result) (c .before .before .before .before .before .before .before .shape .ensures) _ (c .before .before .before .before .before .verdict .given .1) in
+    (written-as _ _ _ _ _ _ refused (line .0), line .1)
+
+enum-told : tie.Need-enum-told
+enum-told c = search needs
+
+locate-requires : tie.Need-locate-requires
+locate-requires c κs = search needs
+
+reply-line-requires : tie.Need-reply-line-requires
+reply-line-requires c κs =
+    let few = few-marks _ _ (c .before .locate .result) (c .before .locate .ensures) in
+    (search needs, few .0, few .1)
+
+same-length-2 : tie.Need-same-length-2
+same-length-2 c = search needs
+
+returns-2 : tie.Need-returns-2
+returns-2 c =
+    let line = c .before .before .reply-line .ensures in
+    let located =
+    frame-located _ _ _ _ (c .before .before .before .before .before .before .before .before .empty .ensures) (c .before .before .before .before .before .before .before .shape .result) (c .before .before .before .before .before .before .before .shape .ensures) (c .before .before .before .before .locate .result)
+    (c .before .before .before .before .before .enum-told .given .1) (c .before .before .before .before .locate .ensures) in
+    (written-as _ _ _ _ _ _ located (line .0), line .1)
+
+pub frame-line-spec : {M : Type 1} → statement M
+frame-line-spec =
+    tie.close
+    (tie.spec
+    empty-requires
+    shape-requires
+    enum-known-verdict
+    refusal-line-requires
+    same-length
+    returns
+    enum-told
+    locate-requires
+    reply-line-requires
+    same-length-2
+    returns-2)

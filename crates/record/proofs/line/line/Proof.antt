@@ -1,0 +1,79 @@
+-- `record::line::line` meets its contract. Assumes nothing.
+use borrow.Author.Needs.{needs}
+use borrow.Author.Tests.{not-true, not-false}
+use Rattle.record.proofs.Parsing.{broken-line, whole-line}
+use Rattle.record.proofs.Writing.{written-as}
+use Rattle.record.proofs.line.line.Statement.{statement}
+use Rattle.record.proofs.line.line.Tie as tie
+
+whole-requires : tie.Need-whole-requires
+whole-requires c κs = search needs
+
+refusal-line-requires : tie.Need-refusal-line-requires
+refusal-line-requires c κs = search needs
+
+same-length : tie.Need-same-length
+same-length c = search needs
+
+returns : tie.Need-returns
+returns c =
+    let line = c .before .before .refusal-line .ensures in
+    let bytes = c .before .before .before .before .before .before .before .before .before .args .bytes .now in
+    (written-as _ _ _ _ _ _ (broken-line bytes _ (c .before .before .before .before .before .whole .ensures .0) (not-true _ (c .before .before .before .before .if1 .taken))) (line .0), line .1)
+
+sub-fields : tie.Need-sub-fields
+sub-fields c = c .before .whole .ensures .1 (not-false _ (c .if1 .left)) .0
+
+part-fields-start : tie.Need-part-fields-start
+part-fields-start c = c .before .whole .ensures .1 (not-false _ (c .if1 .left)) .0
+
+part-fields-end : tie.Need-part-fields-end
+part-fields-end c = search needs
+
+fields-requires : tie.Need-fields-requires
+fields-requires c κs = search needs
+
+sub-body-line : tie.Need-sub-body-line
+sub-body-line c = search needs
+
+part-body-line-start : tie.Need-part-body-line-start
+part-body-line-start c = search needs
+
+part-body-line-end : tie.Need-part-body-line-end
+part-body-line-end c = search needs
+
+body-line-requires : tie.Need-body-line-requires
+body-line-requires c κs = search needs
+
+same-length-2 : tie.Need-same-length-2
+same-length-2 c = search needs
+
+same-length-3 : tie.Need-same-length-3
+same-length-3 c = search needs
+
+returns-2 : tie.Need-returns-2
+returns-2 c =
+    let line = c .before .before .body-line .ensures in
+    let bytes = c .before .before .before .before .before .before .before .before .before .before .before .before .before .before .before .before .args .bytes .now in
+    let good = not-false _ (c .before .before .before .before .before .before .before .before .before .before .before .if1 .left) in
+    (written-as _ _ _ _ _ _ (whole-line bytes _ (c .before .before .before .before .before .before .before .before .before .before .before .before .whole .ensures .0) good (c .before .before .before .before .before .before .before .before .before .before .before .before .whole .ensures .1 good .1) _ _ _ (c .before .before .before .before .before .before .before .before .before .before .before .before .before .before .before .before .pre .0) (c .before .before .before .before .before .before .before .before .fields .ensures .0) (c .before .before .before .before .before .before .before .before .fields .ensures .1)) (line .0), line .1)
+
+pub line-spec : {M : Type 1} → statement M
+line-spec =
+    tie.close
+    (tie.spec
+    whole-requires
+    refusal-line-requires
+    same-length
+    returns
+    sub-fields
+    part-fields-start
+    part-fields-end
+    fields-requires
+    sub-body-line
+    part-body-line-start
+    part-body-line-end
+    body-line-requires
+    same-length-2
+    same-length-3
+    returns-2)

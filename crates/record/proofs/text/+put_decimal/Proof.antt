@@ -1,0 +1,154 @@
+-- `record::text::put_decimal` meets its contract. Each call is for a tenth of the number. Assumes nothing.
+use mathlib.Core.Path.{_≡_, refl, ap}
+use Prim.Native.Nat.{ℕ, _<_}
+use native.Mathlib.Omega.{arith}
+use borrow.Author.Needs.{needs}
+use borrow.Fn.Kinds.{In}
+use borrow.Fn.PlainCycle.{Measures, is, falls, and}
+use lib.ListN.{length}
+use Rattle.record.specs.Text.{decimal}
+use Rattle.record.proofs.Digits.{decimal-small, one-digit, last-room, more-digits}
+use Rattle.record.proofs.text.put_decimal.Reads as put-decimal
+use Rattle.record.proofs.text.put_decimal.Kinds as put-decimal-kinds
+use Rattle.record.proofs.text.+put_decimal.Lts-put_decimal as put-decimal-lts
+use Rattle.record.proofs.text.digit.Reads as digit-reads
+use Rattle.record.proofs.text.put_byte.Reads as put-byte-reads
+use Rattle.record.proofs.text.+put_decimal.{statement}
+use Rattle.record.proofs.text.+put_decimal.Tie.{close}
+
+abbrev μ-put-decimal : Measures 1 put-decimal-kinds.ps ℕ
+μ-put-decimal κs a = a .1 .1 .0
+
+abbrev put-decimal-at : ℕ → In 1 put-decimal-kinds.ps
+put-decimal-at t =
+    and 1 put-decimal-kinds.ps (is 1 put-decimal-kinds.ps μ-put-decimal t) put-decimal.Pre
+
+abbrev put-decimal-below : ℕ → In 1 put-decimal-kinds.ps
+put-decimal-below t =
+    and 1 put-decimal-kinds.ps (falls 1 put-decimal-kinds.ps _<_ μ-put-decimal t) put-decimal.Pre
+
+put-decimal-digit-requires : (t : ℕ) → put-decimal-lts.Need-digit-requires (
+  digit-reads.Asked,
+  digit-reads.Learnt,
+  put-byte-reads.Asked,
+  put-byte-reads.Learnt,
+  put-decimal-below t,
+  put-decimal.Post,
+) (put-decimal-at t) put-decimal.Post
+put-decimal-digit-requires t c κs = tt
+
+put-decimal-put-byte-requires : (t : ℕ) → put-decimal-lts.Need-put-byte-requires (
+  digit-reads.Asked,
+  digit-reads.Learnt,
+  put-byte-reads.Asked,
+  put-byte-reads.Learnt,
+  put-decimal-below t,
+  put-decimal.Post,
+) (put-decimal-at t) put-decimal.Post
+put-decimal-put-byte-requires t c κs =
+    let n : ℕ = c .before .before .before .before .args .n in
+    let small : n < 10 = omega arith in
+    let e : length (decimal n) ≡ 1 = ap length (decimal-small n small) in
+    omega (arith, c .before .before .before .before .pre .1)
+
+put-decimal-same-length : (t : ℕ) → put-decimal-lts.Need-same-length (
+  digit-reads.Asked,
+  digit-reads.Learnt,
+  put-byte-reads.Asked,
+  put-byte-reads.Learnt,
+  put-decimal-below t,
+  put-decimal.Post,
+) (put-decimal-at t) put-decimal.Post
+put-decimal-same-length t c = search needs
+
+put-decimal-returns : (t : ℕ) → put-decimal-lts.Need-returns (
+  digit-reads.Asked,
+  digit-reads.Learnt,
+  put-byte-reads.Asked,
+  put-byte-reads.Learnt,
+  put-decimal-below t,
+  put-decimal.Post,
+) (put-decimal-at t) put-decimal.Post
+put-decimal-returns t c = one-digit _ _ (c .before .before .before .digit .ensures) _ _ _ _ (omega arith) (c .before .before .put-byte .ensures)
+
+put-decimal-put-decimal-requires : (t : ℕ) → put-decimal-lts.Need-put-decimal-requires (
+  digit-reads.Asked,
+  digit-reads.Learnt,
+  put-byte-reads.Asked,
+  put-byte-reads.Learnt,
+  put-decimal-below t,
+  put-decimal.Post,
+) (put-decimal-at t) put-decimal.Post
+put-decimal-put-decimal-requires t c κs =
+    let n : ℕ = c .before .before .before .args .n in
+    let e = last-room n _ refl (omega arith) (omega arith) in
+    (omega (arith, c .before .before .before .pre .0), omega (arith, c .before .before .before .pre .1))
+
+put-decimal-digit-requires-2 : (t : ℕ) → put-decimal-lts.Need-digit-requires-2 (
+  digit-reads.Asked,
+  digit-reads.Learnt,
+  put-byte-reads.Asked,
+  put-byte-reads.Learnt,
+  put-decimal-below t,
+  put-decimal.Post,
+) (put-decimal-at t) put-decimal.Post
+put-decimal-digit-requires-2 t c κs = tt
+
+put-decimal-put-byte-requires-2 : (t : ℕ) → put-decimal-lts.Need-put-byte-requires-2 (
+  digit-reads.Asked,
+  digit-reads.Learnt,
+  put-byte-reads.Asked,
+  put-byte-reads.Learnt,
+  put-decimal-below t,
+  put-decimal.Post,
+) (put-decimal-at t) put-decimal.Post
+put-decimal-put-byte-requires-2 t c κs =
+    let n : ℕ = c .before .before .before .before .before .before .before .before .args .n in
+    let e = last-room n _ refl (omega arith) (omega arith) in
+    let p = c .before .before .before .before .put-decimal .ensures .place in
+    omega (arith, c .before .before .before .before .before .before .before .before .pre .1)
+
+put-decimal-same-length-2 : (t : ℕ) → put-decimal-lts.Need-same-length-2 (
+  digit-reads.Asked,
+  digit-reads.Learnt,
+  put-byte-reads.Asked,
+  put-byte-reads.Learnt,
+  put-decimal-below t,
+  put-decimal.Post,
+) (put-decimal-at t) put-decimal.Post
+put-decimal-same-length-2 t c = search needs
+
+put-decimal-returns-2 : (t : ℕ) → put-decimal-lts.Need-returns-2 (
+  digit-reads.Asked,
+  digit-reads.Learnt,
+  put-byte-reads.Asked,
+  put-byte-reads.Learnt,
+  put-decimal-below t,
+  put-decimal.Post,
+) (put-decimal-at t) put-decimal.Post
+put-decimal-returns-2 t c =
+    let n : ℕ = c .before .before .before .before .before .before .before .before .before .before .before .args .n in
+    let e = last-room n _ refl (omega arith) (omega arith) in
+    let p = c .before .before .before .before .before .before .before .put-decimal .ensures .place in
+    more-digits n _ (c .before .before .before .digit2 .ensures) (omega arith) (omega arith) _ _ _ _ _ _ (omega (arith, c .before .before .before .before .before .before .before .before .before .before .before .pre .1)) (c .before .before .before .before .before .before .before .put-decimal .ensures) (c .before .before .put-byte2 .ensures)
+
+pub +put-decimal-spec : {M : Type 1} → statement M
++put-decimal-spec = close μ-put-decimal λ t. put-decimal-lts.spec (
+  digit-reads.Asked,
+  digit-reads.Learnt,
+  put-byte-reads.Asked,
+  put-byte-reads.Learnt,
+  put-decimal-below t,
+  put-decimal.Post,
+)
+    (put-decimal-at t)
+    put-decimal.Post
+    (put-decimal-digit-requires t)
+    (put-decimal-put-byte-requires t)
+    (put-decimal-same-length t)
+    (put-decimal-returns t)
+    (put-decimal-put-decimal-requires t)
+    (put-decimal-digit-requires-2 t)
+    (put-decimal-put-byte-requires-2 t)
+    (put-decimal-same-length-2 t)
+    (put-decimal-returns-2 t)

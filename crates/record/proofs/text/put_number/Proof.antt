@@ -1,0 +1,28 @@
+-- `record::text::put_number` meets its contract. Assumes nothing.
+use native.Mathlib.Omega.{arith}
+use borrow.Author.Needs.{needs}
+use Rattle.record.proofs.Digits.{decimal-length, space-then}
+use Rattle.record.proofs.text.put_number.Statement.{statement}
+use Rattle.record.proofs.text.put_number.Tie as tie
+
+put-byte-requires : tie.Need-put-byte-requires
+put-byte-requires c κs = search needs
+
+put-decimal-requires : tie.Need-put-decimal-requires
+put-decimal-requires c κs =
+    let p = c .before .before .before .put-byte .ensures .place in
+    let d = decimal-length (c .before .before .before .before .before .before .args .n) (omega arith) in
+    omega arith
+
+same-length : tie.Need-same-length
+same-length c = search needs
+
+returns : tie.Need-returns
+returns c =
+    let byte = c .before .before .before .before .before .before .put-byte .ensures in
+    let digits = c .before .before .put-decimal .ensures in
+    let few = decimal-length (c .before .before .before .before .before .before .before .before .before .args .n) (omega arith) in
+    (space-then _ _ _ _ _ _ _ (omega (arith, byte .place)) byte digits, omega (arith, byte .place, digits .place))
+
+pub put-number-spec : {M : Type 1} → statement M
+put-number-spec = tie.close (tie.spec put-byte-requires put-decimal-requires same-length returns)

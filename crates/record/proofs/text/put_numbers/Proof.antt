@@ -1,0 +1,63 @@
+-- `record::text::put_numbers` meets its contract. Assumes nothing.
+use mathlib.Core.Path.{refl}
+use Prim.Native.Nat.{_-_}
+use native.Mathlib.Omega.{arith}
+use borrow.Author.Needs.{needs}
+use lib.ListN.{length}
+use Rattle.record.proofs.Spacing as Spacing
+use Rattle.record.proofs.Spacing.{Spaced, spaced-none, spaced-room, spaced-next, spaced-all}
+use Rattle.record.proofs.text.put_numbers.Statement.{statement}
+use Rattle.record.proofs.text.put_numbers.Tie as tie
+
+abbrev Inv-loop : tie.InvT-loop
+Inv-loop out₀ at xs end₀ i₀ out end i = Spaced xs out₀ at i out end
+
+abbrev μ-loop : tie.MeasureT-loop
+μ-loop out₀ at xs end₀ i₀ out end i = length xs - i
+
+loop-holds : tie.Need-loop-holds Inv-loop μ-loop
+loop-holds c = spaced-none _ _ _
+
+mul-put-number : tie.Need-mul-put-number Inv-loop μ-loop
+mul-put-number c = search needs
+
+shared-slice-read-put-number : tie.Need-shared-slice-read-put-number Inv-loop μ-loop
+shared-slice-read-put-number c = search needs
+
+put-number-requires : tie.Need-put-number-requires Inv-loop μ-loop
+put-number-requires c κs = spaced-room _ _ _ (c .before .before .before .before .before .before .pre) _ _ _ (c .before .before .before .loop .inv) (omega arith)
+
+add-i : tie.Need-add-i Inv-loop μ-loop
+add-i c = search needs
+
+loop-less : tie.Need-loop-less Inv-loop μ-loop
+loop-less c = search needs
+
+loop-again : tie.Need-loop-again Inv-loop μ-loop
+loop-again c =
+    spaced-next _ _ _ (c .before .before .before .before .before .before .before .before .before .pre) _ _ _ (c .before .before .before .before .before .before .loop .inv) _ _ _ (omega arith) refl (omega (arith, c .before .before .before .shared-slice-known2 .given (c .before .before .before .before .before .before .loop .i)))
+    (c .before .before .put-number .ensures .0)
+
+same-length : tie.Need-same-length Inv-loop μ-loop
+same-length c = Spacing.same-length _ _ _ (c .before .before .before .before .pre) _ _ _ (c .before .loop .inv)
+
+returns : tie.Need-returns Inv-loop μ-loop
+returns c =
+    let done = c .before .loop .inv in
+    (spaced-all _ _ _ (c .before .before .before .before .pre) _ _ _ done (omega (arith, done .within)), omega (arith, done .near, done .within))
+
+pub put-numbers-spec : {M : Type 1} → statement M
+put-numbers-spec =
+    tie.close
+    (tie.spec
+    Inv-loop
+    μ-loop
+    loop-holds
+    mul-put-number
+    shared-slice-read-put-number
+    put-number-requires
+    add-i
+    loop-less
+    loop-again
+    same-length
+    returns)

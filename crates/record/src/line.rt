@@ -1,0 +1,108 @@
+// The line of a record: from the bytes got to the text.
+use crate::answers::found_line;
+use crate::answers::refusal_line;
+use crate::answers::reply_line;
+use crate::parse::whole;
+use finder::find::find;
+use link::locate::locate;
+use link::shape::shape;
+use link::states::empty;
+use reader::fields;
+use refusal::Refusal;
+use refusal::Verdict;
+ghost use mathlib.Core.Path.{_≡_};
+ghost use Prim.Native.Nat.{_+_, _≤_, _<_};
+ghost use lib.ListN.{length, getD};
+ghost use Rattle.record.specs.Line.{outputOf, lineOf};
+ghost use Rattle.record.specs.Record.{sequences, frame, bodyOf};
+ghost use Rattle.record.specs.Written.{Written};
+
+// The finder's tap buffer has room for the longest length that it takes.
+fn register_line(out: &mut [u8], at: usize, p: u16, lengths: &[u16], symbols: &[u16]) -> usize
+    requires { ⌜ at + 1024 ≤ length (now out) ⌝ }
+    ensures { λ r. ⌜ Written (now (out .entry)) at (outputOf (sequences p (now (lengths .entry)) (now (symbols .entry)))) (now (out .exit)) r ⌝ }
+    ensures { λ r. ⌜ r ≤ at + 1024 ⌝ }
+{
+    let mut taps = [0u16; 129];
+    let found = find(p as u32, lengths, symbols, &mut taps);
+    found_line(out, at, found, &taps)
+}
+
+// The frame is located on an empty job that is given its shape. Refusals of the shape come first.
+fn frame_line(out: &mut [u8], at: usize, n: u16, checks: &[u16], symbols: &[u16]) -> usize
+    requires { ⌜ at + 1024 ≤ length (now out) ⌝ }
+    ensures { λ r. ⌜ Written (now (out .entry)) at (outputOf (frame n (now (checks .entry)) (now (symbols .entry)))) (now (out .exit)) r ⌝ }
+    ensures { λ r. ⌜ r ≤ at + 1024 ⌝ }
+{
+    let shaped = shape(empty(), n as usize, checks);
+    let verdict = shaped.verdict;
+    if let Verdict::Refuse(k) = verdict {
+        return refusal_line(out, at, k);
+    }
+    let located = locate(shaped.job, symbols);
+    let reply = located.reply;
+    reply_line(out, at, reply, located.columns)
+}
+
+fn wide(x: u16) -> usize
+    ensures { λ r. ⌜ (r ≡ x) × (r < 65536) ⌝ }
+{
+    x as usize
+}
+
+// Kind 1: p, count, lengths, symbols.
+fn sequences_line(out: &mut [u8], at: usize, xs: &[u16]) -> usize
+    requires { ⌜ (at + 1024 ≤ length (now out)) × (3 ≤ length (now xs)) × (getD (now xs) 0 0 ≡ 1) ⌝ }
+    ensures { λ r. ⌜ Written (now (out .entry)) at (outputOf (bodyOf (now (xs .entry)))) (now (out .exit)) r ⌝ }
+    ensures { λ r. ⌜ r ≤ at + 1024 ⌝ }
+{
+    let end = 3 + wide(xs[2]);
+    if xs.len() < end {
+        return refusal_line(out, at, Refusal::BadRecord);
+    }
+    register_line(out, at, xs[1], &xs[3..end], &xs[end..])
+}
+
+// Kind 2: rows, columns, check counts, symbols.
+fn rows_line(out: &mut [u8], at: usize, xs: &[u16]) -> usize
+    requires { ⌜ (at + 1024 ≤ length (now out)) × (3 ≤ length (now xs)) × (getD (now xs) 0 0 ≡ 2) ⌝ }
+    ensures { λ r. ⌜ Written (now (out .entry)) at (outputOf (bodyOf (now (xs .entry)))) (now (out .exit)) r ⌝ }
+    ensures { λ r. ⌜ r ≤ at + 1024 ⌝ }
+{
+    let end = 3 + wide(xs[1]);
+    if xs.len() < end {
+        return refusal_line(out, at, Refusal::BadRecord);
+    }
+    frame_line(out, at, xs[2], &xs[3..end], &xs[end..])
+}
+
+fn body_line(out: &mut [u8], at: usize, xs: &[u16]) -> usize
+    requires { ⌜ at + 1024 ≤ length (now out) ⌝ }
+    ensures { λ r. ⌜ Written (now (out .entry)) at (outputOf (bodyOf (now (xs .entry)))) (now (out .exit)) r ⌝ }
+    ensures { λ r. ⌜ r ≤ at + 1024 ⌝ }
+{
+    if xs.len() < 3 {
+        return refusal_line(out, at, Refusal::BadRecord);
+    }
+    if xs[0] == 1 {
+        return sequences_line(out, at, xs);
+    }
+    if xs[0] == 2 {
+        return rows_line(out, at, xs);
+    }
+    refusal_line(out, at, Refusal::BadRecord)
+}
+
+// The line of the bytes got of a record, its two length bytes first, put into `out` from `at` on; and where it ends.
+// Scratch entries are lent for the fields.
+pub fn line(bytes: &[u8], scratch: &mut [u16], out: &mut [u8], at: usize) -> usize
+    requires { ⌜ (32768 ≤ length (now scratch)) × (at + 1024 ≤ length (now out)) ⌝ }
+    ensures { λ r. ⌜ Written (now (out .entry)) at (lineOf (now (bytes .entry))) (now (out .exit)) r ⌝ }
+    ensures { λ r. ⌜ r ≤ at + 1024 ⌝ }
+{
+    if !whole(bytes) {
+        return refusal_line(out, at, Refusal::BadRecord);
+    }
+    let n = fields(&bytes[2..], scratch);
+    body_line(out, at, &scratch[0..n])
+}
