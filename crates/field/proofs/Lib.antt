@@ -1,5 +1,6 @@
 pub mod Binomial
 pub mod Bridge
+pub mod Divisionless
 pub mod Euclid
 pub mod Fermat
 pub mod Fits

@@ -1,3 +1,4 @@
 // Residues modulo a prime p up to 65521: which p are taken, and the field's operations.
+pub mod narrow;
 pub mod prime;
 pub mod residue;

@@ -126,7 +126,6 @@ module _ {p n h d : ℕ} {g : Progress} {taps saved : List ℕ}
         sequence = c .sequence;
         width = z .width;
         residues = λ i. rw (← own-taps p (g .length) taps (z .zeros) 0 0 [] i) (c .residues i);
-        saved-residues = c .saved-residues;
       }
 
   pub inverse-less : getD (g .inverses) h 0 < p

@@ -3,9 +3,9 @@
 use mathlib.Core.Path.{_≡_, sym, ap, ap₂, _∙_}
 use mathlib.Core.Logic.{_≢_}
 use mathlib.Core.List.{List, []}
-use Prim.Native.Nat.{ℕ, suc, _+_, _-_, _*_, _/_, _%_, _≤_, _<_}
+use Prim.Native.Nat.{ℕ, suc, _+_, _-_, _*_, _≤_, _<_}
 use native.Mathlib.Decide.{decLt, ℕ-discrete}
-use native.Mathlib.Nat.{div-add-mod', add-mul, add-mul-mod-self-right, add-mod-right, mul-zero, zero-mod, mod-eq-of-lt, div-le-of-le-mul, mul-le-mul, mul-le-mul-right, mod-lt, mul-add, sub-zero, add-sub-cancel-left}
+use native.Mathlib.Nat.{add-mod-right, mul-zero, zero-mod, mod-eq-of-lt, sub-zero, add-sub-cancel-left}
 use native.Mathlib.Numerals.{add-one}
 use native.Mathlib.Omega.{arith}
 use lib.ListN.{length, getD, take, set, length-take, length-set, List·getD-eq-default}
@@ -17,31 +17,8 @@ use Rattle.register.proofs.Coefficients.{shifted-below, shifted-above, length-r
 use Rattle.finder.specs.Progress.{block, Reducible}
 use Rattle.finder.proofs.Blocks.{saved-at}
 
--- with p = c + q, b = d + t and q·b = t·p + r, the numbers a + c·b and a + (p − r) differ by a multiple of p
-scaled-apart : (p a c q b d t r : ℕ) → c + q ≡ p → d + t ≡ b → t * p + r ≡ q * b → r ≤ p → a + c * b + p ≡ a + (p - r) + d * p
-scaled-apart p a c q b d t r hp hb e le =
-    let first : p * b ≡ c * b + q * b = ap (λ (x : ℕ). x * b) (sym hp) ∙ add-mul c q b in
-    let second : p * b ≡ p * d + p * t = ap (λ (x : ℕ). p * x) (sym hb) ∙ mul-add p d t in
-    omega arith
-
--- one remainder does both: a + (p − q)·b and a − q·b are the same modulo p
-pub minus-scaled : (p a q b : ℕ) → 0 < p → q < p → (a + (p - q) * b) % p ≡ minus p a (times p q b)
-minus-scaled p a q b pos h =
-    let r : ℕ = (q * b) % p in
-    let t : ℕ = q * b / p in
-    let fewer : t ≤ b = div-le-of-le-mul p (mul-le-mul-right b (let e : q ≤ p = omega arith in e)) in
-    let apart : a + (p - q) * b + p ≡ a + (p - r) + (b - t) * p =
-    scaled-apart p a (p - q) q b (b - t) t r (omega arith) (omega arith) (div-add-mod' (q * b) p) (omega (arith, mod-lt (q * b) pos))
-    in
-    sym (add-mod-right (a + (p - q) * b) p) ∙ ap (λ (x : ℕ). x % p) apart ∙ add-mul-mod-self-right (a + (p - r)) (b - t) p
-
 pub minus-zero : (p a q : ℕ) → a < p → minus p a (times p q 0) ≡ a
 minus-zero p a q h = rw (mul-zero, zero-mod, sub-zero, add-mod-right) (mod-eq-of-lt h)
-
--- c·y and x + c·y fit 32 bits where c is at most the largest modulus and x and y are residues
-pub tap-fits : {p c x y : ℕ} → p ≤ 65521 → c ≤ p → x < p → y < p → x + c * y < 4294967296
-tap-fits {p} {c} {x} {y} hp hc hx hy =
-    omega (arith, mul-le-mul (let e : c ≤ 65521 = omega arith in e) (let e : y ≤ 65520 = omega arith in e))
 
 -- x^e·τ has no coefficient past its last
 pub shifted-past : (e : ℕ) (τ : List ℕ) (k : ℕ) → e + length τ ≤ k → shifted e τ k ≡ 0
@@ -82,16 +59,16 @@ module _ (p l : ℕ) (σ : List ℕ) (q e : ℕ) where
       ∙ tap-kept (take i τ) (e + i) (shifted-past e (take i τ) (e + i) (omega (arith, length-take i τ))) less
 
   pub reduced-more :
-      (τ : List ℕ) (i : ℕ) {now : List ℕ} → now ≡ reduced p l σ q e (take i τ) → e + i < suc l → 0 < p → q < p → getD σ (e + i) 0 < p →
-      set now (e + i) ((getD σ (e + i) 0 + (p - q) * getD τ i 0) % p) ≡ reduced p l σ q e (take (suc i) τ)
-  reduced-more τ i {now} eq h pos less-q less =
+      (τ : List ℕ) (i : ℕ) {now : List ℕ} → now ≡ reduced p l σ q e (take i τ) → e + i < suc l →
+      set now (e + i) (minus p (getD σ (e + i) 0) (times p q (getD τ i 0))) ≡ reduced p l σ q e (take (suc i) τ)
+  reduced-more τ i {now} eq h =
       ext-getD 0 (set now (e + i) v) (reduced p l σ q e (take (suc i) τ)) (length-set now (e + i) v ∙ len ∙ sym (length-reduced p l σ q e (take (suc i) τ)))
       (λ k b.
       let inside : k < suc l = omega (arith, len, length-set now (e + i) v) in
       at k inside (ℕ-discrete k (e + i)) ∙ sym (getD-reduced p l σ q e (take (suc i) τ) k (omega arith)))
     where
       v : ℕ
-      v = (getD σ (e + i) 0 + (p - q) * getD τ i 0) % p
+      v = minus p (getD σ (e + i) 0) (times p q (getD τ i 0))
 
       len : length now ≡ suc l
       len = ap length eq ∙ length-reduced p l σ q e (take i τ)
@@ -115,7 +92,7 @@ module _ (p l : ℕ) (σ : List ℕ) (q e : ℕ) where
       at : (k : ℕ) → k < suc l → Dec (k ≡ e + i) → getD (set now (e + i) v) k 0 ≡ tap (take (suc i) τ) k
       at k b (yes same) =
           rw same
-          (getD-set-same now (e + i) v 0 (omega (arith, len)) ∙ minus-scaled p (getD σ (e + i) 0) q (getD τ i 0) pos less-q
+          (getD-set-same now (e + i) v 0 (omega (arith, len))
           ∙ ap (λ (x : ℕ). minus p (getD σ (e + i) 0) (times p q x)) (sym entry))
       at k b (no ne) =
           getD-set-other now (e + i) k v 0 ne
@@ -139,22 +116,11 @@ module _ {p : ℕ} {σ : List ℕ} {q e m : ℕ} {saved : List ℕ} {h : ℕ} (r
   pub tap-less : getD now (e + i) 0 < p
   tap-less = rw kept-tap (r .residues (e + i))
 
-  pub saved-less : getD saved (h * 129 + i) 0 < p
-  saved-less = rw saved-tap (r .saved-residues i)
-
-  pub turn-fits : getD now (e + i) 0 + (p - q) * getD saved (h * 129 + i) 0 < 4294967296
-  turn-fits = tap-fits (r .modulus) (let b : p - q ≤ p = omega arith in b) tap-less saved-less
-
-  pub turn-below : (getD now (e + i) 0 + (p - q) * getD saved (h * 129 + i) 0) % p < 65536
-  turn-below =
-      let b = r .two-or-more in
-      let fits = r .modulus in
-      omega (arith, mod-lt (getD now (e + i) 0 + (p - q) * getD saved (h * 129 + i) 0) (let pos : 0 < p = omega arith in pos))
-
-  pub turn-reduces :
-      set now (e + i) ((getD now (e + i) 0 + (p - q) * getD saved (h * 129 + i) 0) % p)
-      ≡ reduced p 128 σ q e (take (i + 1) (take (suc m) (block h saved)))
-  turn-reduces =
-      ap₂ (λ (x y : ℕ). set now (e + i) ((x + (p - q) * y) % p)) kept-tap saved-tap
-      ∙ reduced-more p 128 σ q e (take (suc m) (block h saved)) i eq within (let b = r .two-or-more in omega arith) (r .factor) (r .residues (e + i))
+  -- y is q times what is saved, and v the tap less it
+  pub turn-reduces : {y v : ℕ} → y ≡ times p q (getD saved (h * 129 + i) 0) → v ≡ minus p (getD now (e + i) 0) y →
+      set now (e + i) v ≡ reduced p 128 σ q e (take (i + 1) (take (suc m) (block h saved)))
+  turn-reduces multiple difference =
+      ap (λ (x : ℕ). set now (e + i) x)
+      (difference ∙ ap₂ (λ (x y : ℕ). minus p x y) kept-tap (multiple ∙ ap (λ (x : ℕ). times p q x) saved-tap))
+      ∙ reduced-more p 128 σ q e (take (suc m) (block h saved)) i eq within
       ∙ ap (λ (k : ℕ). reduced p 128 σ q e (take k (take (suc m) (block h saved)))) (sym (add-one i))

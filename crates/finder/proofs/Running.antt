@@ -71,7 +71,6 @@ module _ {p N : ℕ} {o : Order} {k : ℕ} {symbols : List ℕ} (r : Running p N
           place = rw (ap (λ (w : Saved). w .place) v, part-is h more) (b .place h);
           saved-size = subst (λ (w : Saved). w .size ≤ w .place) (sym v) (b .saved-size h);
           residues = λ i. rw (a .taps) (b .residues i);
-          saved-residues = λ i. rw (ap (λ (w : Saved). w .taps) v) (b .saved-residues h i);
         }
 
     pub stepped : {g′ : Progress} {taps′ saved′ : List ℕ} →

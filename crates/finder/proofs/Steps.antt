@@ -67,7 +67,6 @@ module _ {p N : ℕ} {s : List ℕ} {n h : ℕ} {g : Progress} {taps saved : Lis
           place = place;
           saved-size = ready .saved-size;
           residues = ready .residues;
-          saved-residues = ready .saved-residues;
         }
 
     pub changing : d ≢ 0 → {g′ : Progress} {taps′ saved′ : List ℕ} →

@@ -46,7 +46,6 @@ pub record Ready (p N : ℕ) (s : List ℕ) (n h : ℕ) (st : State) : Type 0 wh
   pub place : st .saved h .place ≤ max n (N - length s)
   pub saved-size : st .saved h .size ≤ st .saved h .place
   pub residues : (i : ℕ) → getD (st .taps) i 0 < p
-  pub saved-residues : (i : ℕ) → getD (st .saved h .taps) i 0 < p
 
 -- what holds of the state when it is changed by a discrepancy d at (n, h)
 pub record Changeable (p n h d : ℕ) (st : State) : Type 0 where
@@ -59,7 +58,6 @@ pub record Changeable (p n h d : ℕ) (st : State) : Type 0 where
   pub place : st .saved h .place ≤ n
   pub saved-size : st .saved h .size ≤ st .saved h .place
   pub residues : (i : ℕ) → getD (st .taps) i 0 < p
-  pub saved-residues : (i : ℕ) → getD (st .saved h .taps) i 0 < p
 
 -- what holds of the taps and of the m + 1 taps saved for sequence h when the one is reduced by q·x^e times the other
 pub record Reducible (p : ℕ) (taps : List ℕ) (q e m : ℕ) (saved : List ℕ) (h : ℕ) : Type 0 where
@@ -70,7 +68,6 @@ pub record Reducible (p : ℕ) (taps : List ℕ) (q e m : ℕ) (saved : List ℕ
   pub sequence : h < 8
   pub width : length taps ≡ 129
   pub residues : (i : ℕ) → getD taps i 0 < p
-  pub saved-residues : (i : ℕ) → getD (take (suc m) (block h saved)) i 0 < p
 
 -- what one step leaves: the state of the definition, and arrays as they were
 pub record Stepped (p : ℕ) (st : State) (g : Progress) (taps saved : List ℕ) : Type 0 where

@@ -6,7 +6,7 @@ ghost use lib.ListN.{length, take, drop};
 ghost use Rattle.field.specs.Coefficients.{reduced};
 ghost use Rattle.finder.specs.Progress.{block, Reducible};
 
-// All 129 taps less q·x^e·τ, τ being the m + 1 taps saved for sequence h. Adding (p − q)·τ needs one remainder a tap, and 32 bits hold it.
+// All 129 taps less q·x^e·τ, τ being the m + 1 taps saved for sequence h. The ratio of q to p is worked out once, so that no tap needs a division.
 pub fn reduce(
     p: u32,
     taps: &mut [u16; 129],
@@ -19,14 +19,15 @@ pub fn reduce(
     requires { ⌜ Reducible p (now taps) q e m (now saved) h ⌝ }
     ensures { λ _. ⌜ now (taps .exit) ≡ reduced p 128 (now (taps .entry)) q e (take (suc m) (block h (now (saved .entry)))) ⌝ }
 {
-    let c = p - q;
+    let modulus = p as u16;
+    let factor = q as u16;
+    let ratio = field::narrow::ratio(factor, modulus);
     let at = h * 129;
     let mut i = 0;
     while i <= m {
         let k = e + i;
-        let x = taps[k] as u32;
-        let y = saved[at + i] as u32;
-        taps[k] = ((x + c * y) % p) as u16;
+        let y = field::narrow::multiple(saved[at + i], factor, ratio, modulus);
+        taps[k] = field::narrow::difference(taps[k], y, modulus);
         i += 1;
     }
 }

@@ -6,72 +6,62 @@ use borrow.Author.Needs.{needs}
 use lib.ListN.{take}
 use Rattle.field.specs.Coefficients.{reduced}
 use Rattle.finder.specs.Progress.{block}
-use Rattle.finder.proofs.Reduction.{reduced-none, reduced-all, tap-less, saved-less, turn-fits, turn-below, turn-reduces}
+use Rattle.finder.proofs.Reduction.{reduced-none, reduced-all, tap-less, turn-reduces}
 use Rattle.finder.proofs.reduce.reduce.Statement.{statement}
 use Rattle.finder.proofs.reduce.reduce.Tie as tie
 
 abbrev Inv-loop : tie.InvT-loop
-Inv-loop p taps₀ q e m saved h c at i₀ taps i =
+Inv-loop p taps₀ q e m saved h modulus factor ratio at i₀ taps i =
     (i ≤ suc m) × (taps ≡ reduced p 128 taps₀ q e (take i (take (suc m) (block h saved))))
 
 abbrev μ-loop : tie.MeasureT-loop
-μ-loop p taps₀ q e m saved h c at i₀ taps i = suc m - i
+μ-loop p taps₀ q e m saved h modulus factor ratio at i₀ taps i = suc m - i
 
-sub-c : tie.Need-sub-c Inv-loop μ-loop
-sub-c c = search needs
+cast-modulus : tie.Need-cast-modulus Inv-loop μ-loop
+cast-modulus c = search needs
+
+cast-factor : tie.Need-cast-factor Inv-loop μ-loop
+cast-factor c = search needs
+
+ratio-requires : tie.Need-ratio-requires Inv-loop μ-loop
+ratio-requires c κs = search needs
 
 mul-at : tie.Need-mul-at Inv-loop μ-loop
 mul-at c = search needs
 
 loop-holds : tie.Need-loop-holds Inv-loop μ-loop
-loop-holds c = (search needs, reduced-none _ 128 _ _ _ (c .pre .width) (c .pre .residues))
+loop-holds c = (search needs, reduced-none _ 128 _ _ _ (c .before .pre .width) (c .before .pre .residues))
 
 add-k : tie.Need-add-k Inv-loop μ-loop
 add-k c = search needs
 
-mul-x : tie.Need-mul-x Inv-loop μ-loop
-mul-x c = search needs
+add-multiple : tie.Need-add-multiple Inv-loop μ-loop
+add-multiple c = search needs
 
-element-copy-out-x : tie.Need-element-copy-out-x Inv-loop μ-loop
-element-copy-out-x c = search needs
+mul-multiple : tie.Need-mul-multiple Inv-loop μ-loop
+mul-multiple c = search needs
 
-cast-x : tie.Need-cast-x Inv-loop μ-loop
-cast-x c = omega (arith, tap-less (c .before .before .before .pre) (c .before .before .loop .i) (omega arith) (c .before .before .loop .inv .1))
+element-copy-out-multiple : tie.Need-element-copy-out-multiple Inv-loop μ-loop
+element-copy-out-multiple c = search needs
 
-add-y : tie.Need-add-y Inv-loop μ-loop
-add-y c = search needs
+multiple-requires : tie.Need-multiple-requires Inv-loop μ-loop
+multiple-requires c κs =
+    let ratio = c .before .before .before in
+    (ratio .before .pre .factor, ratio .ratio .ensures)
 
-mul-y : tie.Need-mul-y Inv-loop μ-loop
-mul-y c = search needs
+mul-difference : tie.Need-mul-difference Inv-loop μ-loop
+mul-difference c = search needs
 
-element-copy-out-y : tie.Need-element-copy-out-y Inv-loop μ-loop
-element-copy-out-y c = search needs
+element-copy-out-difference : tie.Need-element-copy-out-difference Inv-loop μ-loop
+element-copy-out-difference c = search needs
 
-cast-y : tie.Need-cast-y Inv-loop μ-loop
-cast-y c =
-    let at = c .before .before .before in
-    omega (arith, saved-less (at .before .pre) (at .loop .i) (omega arith) (at .loop .inv .1))
+difference-requires : tie.Need-difference-requires Inv-loop μ-loop
+difference-requires c κs =
+    let at = c .before .before .before .before in
+    (tap-less (at .before .before .pre) (at .loop .i) (omega arith) (at .loop .inv .1), c .before .multiple .ensures .1)
 
 mul-taps : tie.Need-mul-taps Inv-loop μ-loop
-mul-taps c =
-    let at = c .before .before .before in
-    omega (arith, turn-fits (at .before .pre) (at .loop .i) (omega arith) (at .loop .inv .1))
-
-add-taps : tie.Need-add-taps Inv-loop μ-loop
-add-taps c =
-    let at = c .before .before .before in
-    omega (arith, turn-fits (at .before .pre) (at .loop .i) (omega arith) (at .loop .inv .1))
-
-rem-taps : tie.Need-rem-taps Inv-loop μ-loop
-rem-taps c = search needs
-
-cast-taps : tie.Need-cast-taps Inv-loop μ-loop
-cast-taps c =
-    let at = c .before .before .before in
-    record { fits = turn-below (at .before .pre) (at .loop .i) (omega arith) (at .loop .inv .1) }
-
-mul-taps-2 : tie.Need-mul-taps-2 Inv-loop μ-loop
-mul-taps-2 c = search needs
+mul-taps c = search needs
 
 element-write-taps : tie.Need-element-write-taps Inv-loop μ-loop
 element-write-taps c = search needs
@@ -84,14 +74,13 @@ loop-less c = search needs
 
 loop-again : tie.Need-loop-again Inv-loop μ-loop
 loop-again c =
-    let at = c .before .before .before in
-    (search needs, turn-reduces (at .before .pre) (at .loop .i) (omega arith) (at .loop .inv .1))
+    let at = c .before .before .before .before .before in
+    (search needs, turn-reduces (at .before .before .pre) (at .loop .i) (omega arith) (at .loop .inv .1) (c .before .before .multiple .ensures .0) (c .difference .ensures .0))
 
 returns : tie.Need-returns Inv-loop μ-loop
 returns c =
-    let args = c .before .before .args in
-    reduced-all (args .p) 128 (args .taps .now) (args .q) (args .e) (block (args .h) (args .saved .now))
-    (c .before .loop .i) (suc (args .m)) (c .before .loop .inv .1) (omega arith)
+    let args = c .before .before .before .args in
+    reduced-all (args .p) 128 (args .taps .now) (args .q) (args .e) (block (args .h) (args .saved .now)) (c .before .loop .i) (suc (args .m)) (c .before .loop .inv .1) (omega arith)
 
 pub reduce-spec : {M : Type 1} → statement M
 reduce-spec =
@@ -99,22 +88,20 @@ reduce-spec =
     (tie.spec
     Inv-loop
     μ-loop
-    sub-c
+    cast-modulus
+    cast-factor
+    ratio-requires
     mul-at
     loop-holds
     add-k
-    mul-x
-    element-copy-out-x
-    cast-x
-    add-y
-    mul-y
-    element-copy-out-y
-    cast-y
+    add-multiple
+    mul-multiple
+    element-copy-out-multiple
+    multiple-requires
+    mul-difference
+    element-copy-out-difference
+    difference-requires
     mul-taps
-    add-taps
-    rem-taps
-    cast-taps
-    mul-taps-2
     element-write-taps
     add-i
     loop-less

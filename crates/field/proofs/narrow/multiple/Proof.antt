@@ -1,0 +1,45 @@
+-- `field::narrow::multiple` meets its contract. Assumes nothing.
+use mathlib.Core.Path.{refl}
+use native.Mathlib.Omega.{arith}
+use borrow.Author.Needs.{needs}
+use Rattle.field.proofs.Divisionless.{halves-fit, not-above, right, corrected}
+use Rattle.field.proofs.narrow.multiple.Statement.{statement}
+use Rattle.field.proofs.narrow.multiple.Tie as tie
+
+mul-t : tie.Need-mul-t
+mul-t c = record { fits = halves-fit (c .fits .w .fits) (c .fits .y .fits) }
+
+mul-r : tie.Need-mul-r
+mul-r c = record { fits = halves-fit (c .fits .q .fits) (c .fits .y .fits) }
+
+mul-r-2 : tie.Need-mul-r-2
+mul-r-2 c = omega (arith, not-above (c .pre .0) (c .fits .y .fits) (c .pre .1) refl, halves-fit (c .fits .q .fits) (c .fits .y .fits))
+
+sub-r : tie.Need-sub-r
+sub-r c = not-above (c .pre .0) (c .fits .y .fits) (c .pre .1) refl
+
+sub-result : tie.Need-sub-result
+sub-result c = search needs
+
+cast-result : tie.Need-cast-result
+cast-result c =
+    let at = c .before in
+    omega (arith, at .fits .p .fits, corrected (at .pre .0) (at .fits .y .fits) (at .pre .1) refl (c .if1 .taken))
+
+returns : tie.Need-returns
+returns c =
+    let at = c .before in
+    corrected (at .pre .0) (at .fits .y .fits) (at .pre .1) refl (c .if1 .taken)
+
+cast-result-2 : tie.Need-cast-result-2
+cast-result-2 c = search needs
+
+returns-2 : tie.Need-returns-2
+returns-2 c =
+    let at = c .before in
+    (right (at .pre .0) (at .fits .y .fits) (at .pre .1) refl (c .if1 .left), c .if1 .left)
+
+pub multiple-spec : {M : Type 1} → statement M
+multiple-spec =
+    tie.close
+    (tie.spec mul-t mul-r mul-r-2 sub-r sub-result cast-result returns cast-result-2 returns-2)
