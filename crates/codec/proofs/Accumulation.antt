@@ -1,6 +1,6 @@
 -- The value of a polynomial at a power of 3, as it is accumulated: coefficients times entries of the table of powers, whose places are kept modulo 256.
 -- The sum fits 32 bits, and its remainder is the value. A check sum is such a value. Assumes nothing.
-use mathlib.Core.Path.{_≡_, refl, sym, ap, ap₂, _∙_}
+use mathlib.Core.Path.{_≡_, sym, ap, ap₂, _∙_}
 use mathlib.Core.List.{List}
 use Prim.Native.Nat.{ℕ, zero, suc, _+_, _*_, _%_, _^_, _≤_, _<_, zero-le}
 use native.Mathlib.Nat.{add-mod, le-antisymm, mod-lt, mul-le-mul, pow-suc, pow-zero, suc-mul, zero-mul}

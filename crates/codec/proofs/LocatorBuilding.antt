@@ -7,7 +7,7 @@ use native.Mathlib.Decide.{decLt}
 use native.Mathlib.Numerals.{add-one}
 use native.Mathlib.Omega.{arith}
 use lib.Dec.{lit<}
-use lib.ListN.{length, getD, take, replicate, length-map, length-take, List·getD-eq-default}
+use lib.ListN.{length, getD, take, replicate, length-map, List·getD-eq-default}
 use lib.Seq.{length-take-le, take-all, take-suc}
 use Rattle.algebra.specs.Locator.{factor, locator, unit}
 use Rattle.algebra.proofs.LocatorLaws.{locator-degree}

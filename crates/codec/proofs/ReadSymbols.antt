@@ -13,8 +13,7 @@ use Rattle.algebra.specs.Ring.{CRing}
 use Rattle.algebra.proofs.Solver.{:0, _:-_, _:·_, _:=_, solve}
 use Rattle.columns.specs.Columns.{has, members}
 use Rattle.columns.specs.declared.Columns.{Columns}
-use Rattle.field.specs.Coefficients.{value}
-use Rattle.field.specs.Residue.{minus, times, inverse}
+use Rattle.field.specs.Residue.{minus, times}
 use Rattle.field.specs.Total.{total}
 use Rattle.field.proofs.Bridge.{res-zero, res-minus, res-times}
 use Rattle.field.proofs.Prime257.{prime-257}
@@ -22,7 +21,6 @@ use Rattle.field.proofs.Remainders.{mod-mul-mod}
 use Rattle.field.proofs.Totals.{total-ext, total-mod, total-mul}
 use Rattle.frame.specs.Completion.{locatorPolynomial, without, cleared, completion, completed}
 use Rattle.frame.specs.Frame.{checkSum, checkSums}
-use Rattle.frame.specs.Powers.{locatorOf, weight}
 use Rattle.frame.proofs.Field257.{R257, res257, res-tells}
 use Rattle.lists.specs.Tabulate.{tabulate}
 use Rattle.lists.proofs.Entries.{getD-part}

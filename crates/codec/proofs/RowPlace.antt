@@ -4,9 +4,9 @@ use mathlib.Core.Bool.{true}
 use Prim.Native.Nat.{ℕ, suc, _+_, _*_, _≤_, _<_}
 use native.Mathlib.Nat.{mul-le-mul, mul-le-mul-right, suc-mul}
 use native.Mathlib.Omega.{arith}
-use Rattle.frame.specs.Shape.{checksOf, isShape}
+use Rattle.frame.specs.Shape.{isShape}
 use Rattle.frame.specs.declared.Shape.{Shape}
-use Rattle.frame.proofs.Shapes.{Ranges, RowRanges, shape-ranges}
+use Rattle.frame.proofs.Shapes.{RowRanges, shape-ranges}
 
 pub record RowPlace (s : Shape) (size h : ℕ) : Type 0 where
   pub inside : h * s .columns + s .columns ≤ size

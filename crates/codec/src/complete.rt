@@ -87,6 +87,7 @@ fn solve(powers: &[u16; 256], row: &mut [u16], set: Columns, weights: &[u16], su
     fill(row, set, weights, sums);
 }
 
+// The row completed at the set, whose coefficients are lent.
 pub fn complete_row(powers: &[u16; 256], row: &mut [u16], set: Columns, weights: &[u16; 4096])
     requires { ⌜
         (now powers ≡ table) × (length (now row) ≤ 256) × ((i : ℕ) → has set i ≡ true → i < length (now row))

@@ -9,6 +9,7 @@ ghost use lib.ListN.{length};
 ghost use Rattle.frame.specs.Shape.{checksInRange, columnsInRange, isShape, rowsInRange, shapeOf, shapeTests};
 ghost use Rattle.refusal.specs.Outcome.{outcome, outcomeOf};
 
+// Whether there are 1 to 8 rows.
 fn rows_in_range(rows: usize) -> bool
     ensures { λ r. ⌜ r ≡ rowsInRange rows ⌝ }
 {
@@ -21,6 +22,7 @@ fn rows_in_range(rows: usize) -> bool
     true
 }
 
+// Whether there are 2 to 256 columns.
 fn columns_in_range(columns: usize) -> bool
     ensures { λ r. ⌜ r ≡ columnsInRange columns ⌝ }
 {

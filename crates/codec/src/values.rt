@@ -6,6 +6,7 @@ ghost use Rattle.codec.specs.Table.{table};
 ghost use Rattle.field.specs.Coefficients.{value};
 ghost use Rattle.frame.specs.Powers.{powerOf3};
 
+// The whole product.
 pub fn times(a: u16, b: u16) -> u32
     ensures { λ r. ⌜ r ≡ a * b ⌝ }
 {

@@ -11,7 +11,7 @@ use field::residue::difference;
 use field::residue::inverse;
 use field::residue::product;
 ghost use mathlib.Core.Path.{_≡_};
-ghost use Prim.Native.Nat.{ℕ, suc, _≤_, _<_};
+ghost use Prim.Native.Nat.{suc, _≤_, _<_};
 ghost use lib.ListN.{length, getD};
 ghost use Rattle.codec.specs.Table.{table};
 ghost use Rattle.codec.specs.Weights.{carried, factorOf, readOff, weightsOf};

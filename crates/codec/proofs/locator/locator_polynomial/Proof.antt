@@ -1,6 +1,5 @@
 -- `codec::locator::locator_polynomial` meets its contract. Assumes nothing.
 use mathlib.Core.Path.{ap, _∙_}
-use mathlib.Core.List.{List}
 use Prim.Native.Nat.{ℕ, _+_, _-_}
 use native.Mathlib.Omega.{arith}
 use Rattle.columns.proofs.Walk.{Walk, walk-start, walk-next, walk-member, walk-end, walk-rises}

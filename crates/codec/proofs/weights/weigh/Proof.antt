@@ -1,6 +1,5 @@
 -- `codec::weights::weigh` meets its contract. Assumes nothing.
 use mathlib.Core.Path.{ap, _∙_}
-use mathlib.Core.List.{List}
 use Prim.Native.Nat.{ℕ, suc}
 use lib.ListN.{length}
 use Rattle.frame.specs.Powers.{locatorOf}
