@@ -1,4 +1,5 @@
 // The C interface, declared in include/tomkhadi.h: each call over numbers, slices and structs of numbers, refusals as the numbers of document 01.
+mod calls;
 mod find;
 mod mirror;
 
