@@ -1,8 +1,8 @@
--- Remainders without a division. The quotient of q·y by p comes from the ratio of q to p in parts of 2^16 (Shoup): it is right or one too small, so at
--- most one p is left to take off; and a difference of residues goes below 0 by less than p. Assumes nothing.
+-- Remainders without a division. The quotient of q·y by p comes from the ratio of q to p in parts of a power of two (Barrett for q = 1, Shoup): it is
+-- right or one too small, so at most one p is left to take off; and a difference of residues goes below 0 by less than p. Assumes nothing.
 use mathlib.Core.Path.{_≡_, sym, ap, _∙_}
 use Prim.Native.Nat.{ℕ, _+_, _-_, _*_, _/_, _%_, _≤_, _<_}
-use native.Mathlib.Nat.{add-mul-mod-self-right, div-add-mod', div-lt-iff-lt-mul, div-mul-le-self, lt-div-mul-add, mod-eq-of-lt, mod-lt, mul-le-mul, mul-le-mul-right}
+use native.Mathlib.Nat.{add-mul-mod-self-right, div-add-mod', div-le-self, div-lt-iff-lt-mul, div-mul-le-self, le-of-mul-le-mul-right, lt-div-mul-add, lt-of-mul-lt-mul-right, mod-eq-of-lt, mod-lt, mul-le-mul, mul-le-mul-right}
 use native.Mathlib.Omega.{arith}
 
 -- a number below p that differs from v by a multiple of p is the remainder
@@ -12,34 +12,41 @@ remainder-is v k p r e less = sym (ap (λ (x : ℕ). x % p) (sym e) ∙ add-mul-
 pub halves-fit : {x y : ℕ} → x < 65536 → y < 65536 → x * y < 4294967296
 halves-fit {x} {y} hx hy = omega (arith, mul-le-mul (let e : x ≤ 65535 = omega arith in e) (let e : y ≤ 65535 = omega arith in e))
 
+-- a 32-bit number times the reciprocal of p
+pub reciprocal-fits : (p : ℕ) {v m : ℕ} → v < 4294967296 → m ≡ 4294967296 / p → m * v < 18446744073709551616
+reciprocal-fits p {v} {m} hv eq =
+    let small : m ≤ 4294967296 = rw eq (div-le-self 4294967296 p) in
+    omega (arith, mul-le-mul small (let e : v ≤ 4294967295 = omega arith in e))
+
 pub ratio-fits : {p q : ℕ} → q < p → q * 65536 / p < 65536
 ratio-fits {p} {q} less = div-lt-iff-lt-mul {k = p} {x = q * 65536} {y = 65536} (omega arith) .1 (omega arith)
 
--- ---- the product by q
+-- ---- the product v of q and y, w being the ratio of q to p in parts of b (q is 1 for a reciprocal)
 
-module _ {p q y w t : ℕ} (less : q < p) (narrow : y < 65536) (ratio : w ≡ q * 65536 / p) (quotient : t ≡ w * y / 65536) where
-  pub not-above : t * p ≤ q * y
+module _ {b p v w t : ℕ} (q y : ℕ) (base : 0 < b) (pos : 0 < p) (within : y ≤ b) (product : v ≡ q * y) (ratio : w ≡ q * b / p) (quotient : t ≡ w * y / b) where
+  pub not-above : t * p ≤ v
   not-above =
-      let a : t * 65536 ≤ w * y = rw quotient (div-mul-le-self (w * y) 65536) in
-      let b : w * p ≤ q * 65536 = rw ratio (div-mul-le-self (q * 65536) p) in
-      omega (arith, mul-le-mul-right p a, mul-le-mul-right y b)
+      let low : t * b ≤ w * y = rw quotient (div-mul-le-self (w * y) b) in
+      let part : w * p ≤ q * b = rw ratio (div-mul-le-self (q * b) p) in
+      let scaled : t * p * b ≤ q * y * b = omega (arith, mul-le-mul-right p low, mul-le-mul-right y part) in
+      rw product (le-of-mul-le-mul-right scaled base)
 
-  one-short : q * y < t * p + 2 * p
+  one-short : v < t * p + 2 * p
   one-short =
-      let pos : 0 < p = omega arith in
-      let s : ℕ = (q * 65536) % p in
-      let a : w * y < t * 65536 + 65536 = rw quotient (lt-div-mul-add {a = w * y} {b = 65536} (omega arith)) in
-      let b : w * p + s ≡ q * 65536 = rw ratio (div-add-mod' (q * 65536) p) in
-      let c : s * y ≤ p * 65536 = mul-le-mul (let e : s ≤ p = omega (arith, mod-lt (q * 65536) pos) in e) (let e : y ≤ 65536 = omega arith in e) in
-      omega (arith, mul-le-mul-right p a, ap (λ (x : ℕ). x * y) b)
+      let rest : ℕ = (q * b) % p in
+      let high : w * y < t * b + b = rw quotient (lt-div-mul-add {a = w * y} {b = b} base) in
+      let part : w * p + rest ≡ q * b = rw ratio (div-add-mod' (q * b) p) in
+      let small : rest * y ≤ p * b = mul-le-mul (let e : rest ≤ p = omega (arith, mod-lt (q * b) pos) in e) within in
+      let scaled : q * y * b < (t * p + 2 * p) * b = omega (arith, mul-le-mul-right p high, ap (λ (x : ℕ). x * y) part) in
+      rw product (lt-of-mul-lt-mul-right b scaled)
 
-  pub right : q * y - t * p < p → q * y - t * p ≡ (q * y) % p
-  right below = remainder-is (q * y) t p (q * y - t * p) (omega (arith, not-above)) below
+  pub right : v - t * p < p → v - t * p ≡ v % p
+  right below = remainder-is v t p (v - t * p) (omega (arith, not-above)) below
 
-  pub corrected : p ≤ q * y - t * p → (q * y - t * p - p ≡ (q * y) % p) × (q * y - t * p - p < p)
+  pub corrected : p ≤ v - t * p → (v - t * p - p ≡ v % p) × (v - t * p - p < p)
   corrected above =
-      let below : q * y - t * p - p < p = omega (arith, one-short) in
-      (remainder-is (q * y) (t + 1) p (q * y - t * p - p) (omega (arith, not-above)) below, below)
+      let below : v - t * p - p < p = omega (arith, one-short) in
+      (remainder-is v (t + 1) p (v - t * p - p) (omega (arith, not-above)) below, below)
 
 -- ---- the difference of two residues
 

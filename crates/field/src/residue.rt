@@ -1,7 +1,9 @@
 // Arithmetic on residues modulo p. The square of 65520 fits a u32, so a product is reduced once. That a
 // result is below p follows from what it equals; it is said besides, for the callers.
+use crate::reciprocal::reciprocal;
+use crate::reciprocal::remainder;
 ghost use mathlib.Core.Path.{_≡_};
-ghost use Prim.Native.Nat.{_<_, _≤_};
+ghost use Prim.Native.Nat.{_/_, _<_, _≤_};
 ghost use Rattle.field.specs.Residue.{plus, minus, times, power as powerOf, inverse as inverseOf};
 
 pub fn sum(a: u32, b: u32, p: u32) -> u32
@@ -28,21 +30,30 @@ pub fn product(a: u32, b: u32, p: u32) -> u32
     (a * b) % p
 }
 
-// a to the power e: the square of the power at half of e, times a where e is odd.
-pub fn power(a: u32, e: u32, p: u32) -> u32
-    requires { ⌜ (p ≤ 65521) × (a < p) ⌝ }
+// The square of the power at half of e, times a where e is odd; m is the reciprocal of p.
+fn raise(a: u32, e: u32, p: u32, m: u64) -> u32
+    requires { ⌜ (p ≤ 65521) × (a < p) × (m ≡ 4294967296 / p) ⌝ }
     ensures equals { λ r. ⌜ r ≡ powerOf p a e ⌝ }
     ensures below { λ r. ⌜ r < p ⌝ }
 {
     if e == 0 {
         return 1 % p;
     }
-    let root = power(a, e / 2, p);
-    let square = product(root, root, p);
+    let root = raise(a, e / 2, p, m);
+    let square = remainder(root * root, p, m);
     if e % 2 == 0 {
         return square;
     }
-    product(square, a, p)
+    remainder(square * a, p, m)
+}
+
+// a to the power e.
+pub fn power(a: u32, e: u32, p: u32) -> u32
+    requires { ⌜ (p ≤ 65521) × (a < p) ⌝ }
+    ensures equals { λ r. ⌜ r ≡ powerOf p a e ⌝ }
+    ensures below { λ r. ⌜ r < p ⌝ }
+{
+    raise(a, e, p, reciprocal(p))
 }
 
 // The inverse of a modulo a prime p, where a is not 0.
