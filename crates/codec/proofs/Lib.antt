@@ -18,7 +18,7 @@ pub mod ReadSymbols
 pub mod Reading
 pub mod RowPlace
 pub mod RowSums
-pub mod RowsEncoded
+pub mod RowsCompleted
 pub mod ShapeTests
 pub mod WeightTable
 pub mod Writing

@@ -4,13 +4,14 @@
 use mathlib.Core.Path.{_≡_, refl, sym, ap, ap₂, _∙_}
 use mathlib.Core.Bool.{true, not, _&&_}
 use mathlib.Core.List.{List, [], _∷_, _++_}
-use Prim.Native.Nat.{ℕ, zero, suc, _+_, _-_, _≤_, _<_}
-use native.Mathlib.Nat.{sub-zero}
+use Prim.Native.Nat.{ℕ, suc, _+_, _-_, _≤_, _<_}
 use native.Mathlib.Omega.{arith}
 use lib.ListN.{length, getD, take, drop, replicate}
 use lib.Seq.{take-at, getD-take}
 use borrow.Author.Tests.{lt-ltb, le-ltb, le-leb, eq-eqb}
 use Rattle.decoding.specs.Locating.{sizeOf, tapsOf, aloneOf}
+use Rattle.decoding.proofs.FrameRegister.{length-sequences, frame-taps}
+use Rattle.decoding.proofs.FrameSums.{sequence-length}
 use Rattle.field.specs.Prime.{isModulus, isPrime, noDivisor}
 use Rattle.field.specs.Total.{total}
 use Rattle.field.proofs.Totals.{total-ext, total-bound}
@@ -22,9 +23,12 @@ use Rattle.frame.proofs.HeldSums.{held-below}
 use Rattle.frame.proofs.Shapes.{Ranges, shape-ranges}
 use Rattle.lists.specs.Tabulate.{tabulate, joined}
 use Rattle.lists.proofs.Tabulated.{length-tabulate, getD-tabulate, tabulate-ext, every-of}
+use Rattle.lists.proofs.Zeros.{zeros, drop-zeros}
 use Rattle.refusal.proofs.Orders.{Pass, pass-otherwise}
 use Rattle.register.specs.Algorithm4.{found, foundAlone}
-use Rattle.register.specs.Sequences.{largest, longest, split}
+use Rattle.register.specs.Sequences.{largest, longest, ordered, split}
+use Rattle.register.proofs.Bounds.{bounded-rounds}
+use Rattle.register.proofs.Ordering.{longest-least}
 use Rattle.link.proofs.Splitting.{split-joined, joined-total, take-tabulate}
 
 -- the entries of a list bound the largest
@@ -33,16 +37,21 @@ unfolding largest
 largest-bound b [] h = omega arith
 largest-bound b (x ∷ xs) h = let z = h 0 (omega arith) in let t = largest-bound b xs (λ i l. h (suc i) (omega arith)) in omega arith
 
-drop-replicate : (k n : ℕ) → drop {A = ℕ} k (replicate n 0) ≡ replicate (n - k) 0
-drop-replicate zero n = ap (λ (m : ℕ). replicate m 0) (sym (sub-zero n))
-drop-replicate (suc k) zero = ap (λ (m : ℕ). replicate m 0) (let e : 0 ≡ 0 - suc k = omega arith in e)
-drop-replicate (suc k) (suc n) = drop-replicate k n ∙ ap (λ (m : ℕ). replicate m 0) (let e : n - k ≡ suc n - suc k = omega arith in e)
-
 pub sums-most : (s : Shape) → isShape s ≡ true → total (s .rows) (checksOf s) ≤ 512
 sums-most s shape =
     let r = shape-ranges s shape in
     let n = r .rows-most in
     omega (arith, total-bound (s .rows) 64 (checksOf s) (λ h l. r .checks h l .most))
+
+pub size-most : (s : Shape) (f : List ℕ) → isShape s ≡ true → sizeOf s f ≤ 64
+unfolding sizeOf found
+size-most s f shape =
+    let ss = sequences s f in
+    let short = longest-least 64 ss (λ h l.
+    let b : h < s .rows = let e = length-sequences s f in omega arith in
+    omega (arith, sequence-length s f h b, shape-ranges s shape .checks h b .most)) in
+    let b = bounded-rounds 257 (longest ss) (ordered ss) (omega arith) (longest ss) .size in
+    omega arith
 
 module _ (s : Shape) (f : List ℕ) (shape : isShape s ≡ true) (eight : length (s .checks) ≡ 8) where
   -- what is lent
@@ -58,16 +67,16 @@ module _ (s : Shape) (f : List ℕ) (shape : isShape s ≡ true) (eight : length
   abbrev sequenceOf : ℕ → List ℕ
   sequenceOf h = checkSums (s .columns) (checksOf s h) (row (s .columns) f h)
 
-  sequence-length : (h : ℕ) → length (sequenceOf h) ≡ checksOf s h
+  length-sequence : (h : ℕ) → length (sequenceOf h) ≡ checksOf s h
   unfolding checkSums
-  sequence-length h = length-tabulate (checksOf s h) _
+  length-sequence h = length-tabulate (checksOf s h) _
 
   lengths-are : lengths ≡ tabulate (s .rows) (checksOf s)
   lengths-are = take-tabulate (s .rows) (s .checks) (let r = ranges .rows-most in omega arith)
 
   sums-length : length (joined (sequences s f)) ≡ total (s .rows) (checksOf s)
   unfolding sequences
-  sums-length = joined-total (s .rows) sequenceOf ∙ total-ext (s .rows) _ _ (λ h l. sequence-length h)
+  sums-length = joined-total (s .rows) sequenceOf ∙ total-ext (s .rows) _ _ (λ h l. length-sequence h)
 
   symbols-are : symbols ≡ joined (sequences s f)
   unfolding heldSums
@@ -76,7 +85,7 @@ module _ (s : Shape) (f : List ℕ) (shape : isShape s ≡ true) (eight : length
   pub split-lent : split lengths symbols ≡ sequences s f
   unfolding sequences
   split-lent =
-      ap₂ split (lengths-are ∙ tabulate-ext (s .rows) _ _ (λ h l. sym (sequence-length h))) symbols-are ∙ split-joined (s .rows) sequenceOf
+      ap₂ split (lengths-are ∙ tabulate-ext (s .rows) _ _ (λ h l. sym (length-sequence h))) symbols-are ∙ split-joined (s .rows) sequenceOf
 
   length-lengths : length lengths ≡ s .rows
   length-lengths = ap length lengths-are ∙ length-tabulate (s .rows) (checksOf s)
@@ -127,9 +136,13 @@ module _ (s : Shape) (f : List ℕ) (shape : isShape s ≡ true) (eight : length
       pass-otherwise _ _ (tests 257 lengths symbols 65) lent-passes
       ∙ ap (λ ss. register (found 257 ss (longest ss) .size) (foundAlone 257 ss (longest ss))) split-lent
 
+  -- the buffer has room for the taps
+  room : 65 ≡ length (tapsOf s f) + (65 - length (tapsOf s f))
+  room = let n = frame-taps s f shape in let m = size-most s f shape in omega arith
+
   pub lent-taps : tapsLeft 257 lengths symbols (replicate 65 0) ≡ tapsOf s f ++ replicate (65 - length (tapsOf s f)) 0
   unfolding tapsLeft tapsOf
   lent-taps =
       pass-otherwise _ _ (tests 257 lengths symbols 65) lent-passes
       ∙ ap (λ ss. found 257 ss (longest ss) .taps ++ drop (length (found 257 ss (longest ss) .taps)) (replicate 65 0)) split-lent
-      ∙ ap (λ (l : List ℕ). tapsOf s f ++ l) (drop-replicate (length (tapsOf s f)) 65)
+      ∙ ap (λ (l : List ℕ). tapsOf s f ++ l) (ap (λ (n : ℕ). drop (length (tapsOf s f)) (zeros n)) room ∙ drop-zeros (length (tapsOf s f)) _)

@@ -6,5 +6,4 @@ pub mod Emptiness
 pub mod Locating
 pub mod Steps
 pub mod Orders
-pub mod EachRow
 pub mod Marked

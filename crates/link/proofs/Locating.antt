@@ -12,26 +12,20 @@ use borrow.Author.Tests.{lt-ltb, le-ltb}
 use Rattle.columns.specs.Columns.{members}
 use Rattle.columns.specs.declared.Columns.{Columns}
 use Rattle.decoding.specs.Locating.{sizeOf, tapsOf, aloneOf, rowsReach, namedColumns, namesAll}
-use Rattle.decoding.proofs.FrameRegister.{length-sequences, frame-generator, frame-taps}
-use Rattle.decoding.proofs.FrameSums.{sequence-length}
+use Rattle.decoding.proofs.FrameRegister.{frame-generator, frame-taps}
 use Rattle.decoding.proofs.NamedColumns.{size-named}
 use Rattle.field.specs.Total.{total}
 use Rattle.finder.specs.Finder.{answer, tapsLeft, register, refused}
-use Rattle.frame.specs.Frame.{sequences, heldSums}
+use Rattle.frame.specs.Frame.{heldSums}
 use Rattle.frame.specs.Shape.{checksOf, isShape}
 use Rattle.frame.specs.declared.Shape.{Shape}
-use Rattle.frame.proofs.Shapes.{shape-ranges}
 use Rattle.job.specs.Answers.{answeredOutcome}
 use Rattle.job.specs.Calls.{Outcome, refusing, locates, registerTests}
 use Rattle.job.specs.Job.{shapedJob, locatedJob}
 use Rattle.job.specs.declared.Answered.{Answered}
 use Rattle.refusal.specs.Order.{firstOf}
-use Rattle.register.specs.Algorithm4.{found}
-use Rattle.register.specs.Sequences.{longest, ordered}
-use Rattle.register.proofs.Bounds.{bounded-rounds}
-use Rattle.register.proofs.Ordering.{longest-least}
 use Rattle.link.specs.Answered as answer-of
-use Rattle.link.proofs.Lending.{lent-answer, lent-taps}
+use Rattle.link.proofs.Lending.{lent-answer, lent-taps, size-most}
 
 -- what the finder has answered and left in the buffer
 pub record Seen (s : Shape) (f : List ℕ) (l : ℕ) (a : Bool) (buffer : List ℕ) : Type 0 where
@@ -60,29 +54,19 @@ module _ (s : Shape) (f : List ℕ) (shape : isShape s ≡ true) (eight : length
       }
 
 module _ (s : Shape) (f : List ℕ) (shape : isShape s ≡ true) where
-  pub size-most : sizeOf s f ≤ 64
-  unfolding sizeOf found
-  size-most =
-      let ss = sequences s f in
-      let short = longest-least 64 ss (λ h l.
-      let b : h < s .rows = let e = length-sequences s f in omega arith in
-      omega (arith, sequence-length s f h b, shape-ranges s shape .checks h b .most)) in
-      let b = bounded-rounds 257 (longest ss) (ordered ss) (omega arith) (longest ss) .size in
-      omega arith
-
   -- what is given for the register that was seen
   abbrev given : Outcome
   given = firstOf (refusing (shapedJob s) f) (registerTests (shapedJob s) f) (locates s f)
 
   module _ {l : ℕ} {a : Bool} {buffer : List ℕ} (see : Seen s f l a buffer) where
     pub length-most : l ≤ 64
-    length-most = omega (arith, see .size, size-most)
+    length-most = omega (arith, see .size, size-most s f shape)
 
     pub front : take (l + 1 - 0) buffer ≡ tapsOf s f
     front = ap₂ take (let e = see .size in let t = frame-taps s f shape in let n : l + 1 - 0 ≡ length (tapsOf s f) = omega arith in n) (see .taps) ∙ take-at (tapsOf s f) _ _ refl
 
     pub front-short : length (take (l + 1 - 0) buffer) ≤ 256
-    front-short = omega (arith, ap length front, frame-taps s f shape, size-most)
+    front-short = omega (arith, ap length front, frame-taps s f shape, size-most s f shape)
 
     pub first-tap : getD (take (l + 1 - 0) buffer) 0 0 ≡ 1
     first-tap = ap (λ x. getD x 0 0) front ∙ frame-generator s f shape .register .first

@@ -3,18 +3,20 @@ use mathlib.Core.Path.{_≡_, sym, ap, _∙_}
 use Prim.Native.Nat.{_-_, _≤_}
 use native.Mathlib.Omega.{arith}
 use lib.ListN.{length}
+use Rattle.frame.specs.Encode.{encoded}
+use Rattle.frame.specs.Shape.{checksOf}
 use Rattle.frame.proofs.Encoding.{firstColumns}
 use Rattle.frame.proofs.Shapes.{shape-ranges}
 use Rattle.codec.specs.Weights.{weightsOf}
 use Rattle.codec.proofs.CheckColumns.{check-columns-few, check-columns-below}
 use Rattle.codec.proofs.RowPlace.{RowPlace, row-place}
-use Rattle.codec.proofs.RowsEncoded.{RowsEncoded, encoded-none, encoded-more, encoded-all, length-part}
+use Rattle.codec.proofs.RowsCompleted.{RowsCompleted, completed-none, completed-more, completed-all, length-part}
 use borrow.Author.Needs.{needs}
 use Rattle.codec.proofs.encode.fill_checks.Statement.{statement}
 use Rattle.codec.proofs.encode.fill_checks.Tie as tie
 
 abbrev Inv-loop : tie.InvT-loop
-Inv-loop frame₀ s powers rows columns count₀ held₀ h₀ frame count held h = RowsEncoded s frame₀ h frame × (held ≡ weightsOf (firstColumns count))
+Inv-loop frame₀ s powers rows columns count₀ held₀ h₀ frame count held h = RowsCompleted columns rows (λ i. firstColumns (checksOf s i)) frame₀ h frame × (held ≡ weightsOf (firstColumns count))
 
 abbrev μ-loop : tie.MeasureT-loop
 μ-loop frame₀ s powers rows columns count₀ held₀ h₀ frame count held h = rows - h
@@ -58,7 +60,7 @@ weights-requires c κs =
     (read .before .before .powers .ensures, check-columns-few _ _ (c .below .ensures) (first-few read))
 
 loop-holds : tie.Need-loop-holds Inv-loop μ-loop
-loop-holds c = (encoded-none _ _, c .weights .ensures ∙ ap weightsOf (c .before .below .ensures))
+loop-holds c = (completed-none _ _ _ _, c .weights .ensures ∙ ap weightsOf (c .before .below .ensures))
 
 mul-wide : tie.Need-mul-wide Inv-loop μ-loop
 mul-wide c = let p = place c in omega arith
@@ -105,7 +107,7 @@ complete-row-requires c κs =
     let at = inside .before in
     let weighed = c .before .before .before .before in
     let p = place inside in
-    let size = length-part _ _ _ _ (at .loop .inv .0) p in (
+    let size = length-part _ _ _ _ _ _ (at .loop .inv .0) (p .inside) in (
       at .before .before .before .before .before .before .powers .ensures,
       omega (arith, size),
       check-columns-below _ _ (c .before .below2 .ensures) _ (omega (arith, size, read .wide2 .ensures .0)),
@@ -124,8 +126,8 @@ loop-again c =
     let inside = c .before .before .before .before .before .before .before .before .before .before .before in
     let at = inside .before in
     let read = c .before .before .before .before .before .before .before .before .before in (
-      encoded-more _ _ _ _ (at .loop .inv .0) (place inside) _ (read .wide2 .result) _ (inside .loop-test .taken) (c .before .before .before .before .below2 .ensures) (read .wide2 .ensures .0)
-          (c .before .before .complete-row .ensures),
+      completed-more _ _ _ _ _ _ (at .loop .inv .0) (place inside .inside) _ _ (inside .loop-test .taken)
+          (c .before .before .before .before .below2 .ensures ∙ ap firstColumns (read .wide2 .ensures .0)) (c .before .before .complete-row .ensures),
       c .before .before .before .before .before .before .before .weights-for .ensures,
     )
 
@@ -133,7 +135,8 @@ same-length : tie.Need-same-length Inv-loop μ-loop
 same-length c = c .before .loop .inv .0 .size
 
 returns : tie.Need-returns Inv-loop μ-loop
-returns c = encoded-all _ _ _ _ (c .before .loop .inv .0) (c .loop-test .left)
+unfolding encoded
+returns c = completed-all _ _ _ _ _ _ (c .before .loop .inv .0) (c .loop-test .left)
 
 pub fill-checks-spec : {M : Type 1} → statement M
 fill-checks-spec =
