@@ -1,5 +1,5 @@
-// Algorithm 4 of document 003 without division, so that taps are known up to a factor. With the sequences aligned at their starts it is
-// the method whose fault document 003 shows.
+// Algorithm 4 of document 003 without division, so that taps are known up to a factor. With the sequences aligned at their starts it can
+// miss the shortest register, as document 003 shows of the Feng–Tzeng algorithm.
 use crate::sequences::discrepancy;
 use crate::sequences::sequence;
 use crate::values::cross;

@@ -46,13 +46,7 @@ fn add_sequence(p: u16, table: &mut [u16], s: &[u16], l: usize) -> bool {
 }
 
 // Some register of length l generates all sequences. Its conditions are left in the table.
-pub(crate) fn solvable(
-    p: u16,
-    lengths: &[u16],
-    symbols: &[u16],
-    l: usize,
-    table: &mut [u16],
-) -> bool {
+fn solvable(p: u16, lengths: &[u16], symbols: &[u16], l: usize, table: &mut [u16]) -> bool {
     clear(table, std::num::wrapping_add_usize(l, 1));
     for h in 0..lengths.len() {
         if !add_sequence(p, table, sequence(lengths, symbols, h), l) {

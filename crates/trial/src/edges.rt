@@ -1,5 +1,11 @@
 // The edges of document 01: what is just taken and what is just refused, and which of two reasons to refuse comes first.
 use crate::answers::of_found;
+use crate::answers::of_verdict;
+use crate::call_edges::encode_edge;
+use crate::call_edges::locate_edge;
+use crate::call_edges::repair_edge;
+use crate::call_edges::state_edge;
+use crate::tallies::EDGES;
 use crate::tallies::count;
 use crate::tallies::print_list;
 use crate::values::get;
@@ -9,9 +15,6 @@ use crate::values::put;
 use crate::values::set;
 use finder::Found;
 use finder::find::find;
-
-// What is counted.
-pub(crate) const EDGES: usize = 10;
 
 // The first place of the taps that the finder may not write.
 fn first_kept(found: Found) -> usize {
@@ -101,16 +104,81 @@ fn finder_edge(i: usize) -> bool {
     }
 }
 
-// The first n edges of the finder.
-pub(crate) fn try_all(n: u16, counts: &mut [u64]) -> bool {
+// What shape answers for rows of `checks` checks, but for the last row.
+fn shapes(rows: usize, columns: usize, checks: u16, last: u16) -> u32 {
+    let mut room = [0u16; 9];
+    set(&mut room, 9, checks);
+    put(&mut room, minus(rows, 1), last);
+    let shaped = link::shape::shape(link::states::empty(), columns, part(&room, 0, rows));
+    let verdict = shaped.verdict;
+    of_verdict(verdict)
+}
+
+fn shape_edge(i: usize) -> bool {
+    match i {
+        0 => shapes(0, 4, 1, 1) == 2,
+        1 => shapes(1, 4, 1, 1) == 0,
+        2 => shapes(8, 4, 1, 1) == 0,
+        3 => shapes(9, 4, 1, 1) == 2,
+        4 => shapes(2, 0, 1, 1) == 5,
+        5 => shapes(2, 1, 1, 1) == 5,
+        6 => shapes(2, 2, 1, 1) == 0,
+        7 => shapes(8, 256, 64, 64) == 0,
+        8 => shapes(8, 257, 64, 64) == 5,
+        9 => shapes(2, 65, 64, 64) == 0,
+        10 => shapes(2, 64, 64, 64) == 6,
+        11 => shapes(2, 256, 64, 65) == 6,
+        12 => shapes(2, 4, 1, 0) == 6,
+        13 => shapes(2, 4, 0, 1) == 6,
+        14 => shapes(2, 4, 3, 4) == 6,
+        15 => shapes(0, 1, 1, 1) == 2,
+        16 => shapes(9, 257, 0, 0) == 2,
+        17 => shapes(2, 257, 65, 0) == 5,
+        _ => false,
+    }
+}
+
+fn edge(kind: u16, i: u16) -> bool {
+    let k = i as usize;
+    match kind {
+        0 => finder_edge(k),
+        1 => shape_edge(k),
+        2 => encode_edge(k),
+        3 => locate_edge(k),
+        4 => repair_edge(k),
+        _ => state_edge(k),
+    }
+}
+
+// The first n edges of one kind.
+fn try_kind(kind: u16, n: u16, counts: &mut [u64]) -> bool {
     for i in 0..n {
         count(counts, EDGES, true);
-        if !finder_edge(i as usize) {
-            let place = [i];
-            print_list(b"edges disagree: number", &place);
+        if !edge(kind, i) {
+            let place = [kind, i];
+            print_list(b"edges disagree: kind and number", &place);
             io::write_all(1, b"\n");
             return false;
         }
     }
     true
+}
+
+pub(crate) fn try_all(counts: &mut [u64]) -> bool {
+    if !try_kind(0, 29, counts) {
+        return false;
+    }
+    if !try_kind(1, 18, counts) {
+        return false;
+    }
+    if !try_kind(2, 8, counts) {
+        return false;
+    }
+    if !try_kind(3, 10, counts) {
+        return false;
+    }
+    if !try_kind(4, 9, counts) {
+        return false;
+    }
+    try_kind(5, 9, counts)
 }

@@ -1,10 +1,11 @@
-// The finder on random input with up to two flaws, against the reasons to refuse as document 01 states them, in its order.
+// The finder on random input with up to two flaws, against the reasons to refuse that document 01 gives, in its order.
 use crate::edges::find_in;
 use crate::random::draw;
 use crate::random::draw_from;
 use crate::random::fill;
 use crate::registers::prime;
 use crate::sequences::start;
+use crate::tallies::REFUSED;
 use crate::tallies::count;
 use crate::tallies::print_list;
 use crate::values::get;
@@ -12,9 +13,6 @@ use crate::values::minus;
 use crate::values::part;
 use crate::values::put;
 use crate::values::remainder;
-
-// What is counted.
-pub(crate) const REFUSED: usize = 11;
 
 // No number from 2 to p − 1 divides p.
 fn is_prime(p: u16) -> bool {
@@ -139,7 +137,7 @@ fn compare(p: u16, lengths: &[u16], symbols: &[u16], room: usize, counts: &mut [
 
 // Draws input with flaws a and b: 0 the modulus, 1 the count, 2 a length, 3 the number of symbols, 4 a symbol, 5 the taps, 6 none.
 fn compare_flawed(state: &mut u64, a: u16, b: u16, counts: &mut [u64]) -> bool {
-    let p = draw_modulus(state, a == 0);
+    let p = draw_modulus(state, a == 0 || b == 0);
     let n = draw_count(state, a == 1 || b == 1);
     let mut lengths = [0u16; 9];
     fill(state, 6, &mut lengths, n as usize);

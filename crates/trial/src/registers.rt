@@ -13,6 +13,9 @@ use crate::random::fill;
 use crate::sequences::random_symbols;
 use crate::sequences::sort;
 use crate::sequences::start;
+use crate::tallies::ALONE;
+use crate::tallies::LONGER_FROM_STARTS;
+use crate::tallies::NOT_ALONE;
 use crate::tallies::count;
 use crate::tallies::print_list;
 use crate::values::cross;
@@ -20,13 +23,6 @@ use crate::values::get;
 use crate::values::part;
 use finder::Found;
 use finder::find::find;
-
-// What is counted.
-pub(crate) const ALONE: usize = 0;
-
-pub(crate) const NOT_ALONE: usize = 1;
-
-pub(crate) const STARTS_LONGER: usize = 2;
 
 // The taps, the first of which is 1, times the first of b are b.
 fn proportional(p: u16, a: &[u16], b: &[u16], n: usize) -> bool {
@@ -38,7 +34,7 @@ fn proportional(p: u16, a: &[u16], b: &[u16], n: usize) -> bool {
     get(a, 0) == 1
 }
 
-// The answer is that of Algorithm 4, taps included. Also counts the answers of the method that aligns the sequences at their starts that are longer.
+// The answer is that of Algorithm 4, taps included. Counts besides where aligning the sequences at their starts makes the register longer.
 fn follows_algorithm(
     p: u16,
     lengths: &[u16],
@@ -53,7 +49,7 @@ fn follows_algorithm(
     let falling = part(&sorted_lengths, 0, lengths.len());
     let mut other = [0u16; 129];
     let at_starts = algorithm4::find(p, falling, &sorted_symbols, false, &mut other);
-    count(counts, STARTS_LONGER, length < at_starts);
+    count(counts, LONGER_FROM_STARTS, length < at_starts);
     let mut own = [0u16; 129];
     if algorithm4::find(p, falling, &sorted_symbols, true, &mut own) != length {
         return false;
@@ -128,21 +124,21 @@ pub(crate) fn prime(i: u16) -> u16 {
     }
 }
 
-// Random sequences of lengths below `bound`.
+// Random sequences, n of them, of lengths below `bound`.
 fn compare_random(
     state: &mut u64,
     p: u16,
-    count: u16,
+    n: usize,
     bound: u16,
     kind: u16,
     counts: &mut [u64],
 ) -> bool {
     let mut lengths = [0u16; 8];
     let mut symbols = [0u16; 1024];
-    fill(state, bound, &mut lengths, count as usize);
-    let total = start(&lengths, count as usize);
+    fill(state, bound, &mut lengths, n);
+    let total = start(&lengths, n);
     let l = draw(state, 6) as usize;
-    let lent = part(&lengths, 0, count as usize);
+    let lent = part(&lengths, 0, n);
     random_symbols(state, p, lent, &mut symbols, total, kind, l);
     compare(p, lent, part(&symbols, 0, total), false, counts)
 }
@@ -151,10 +147,10 @@ fn compare_random(
 fn compare_drawn(state: &mut u64, long: bool, counts: &mut [u64]) -> bool {
     let p = prime(draw(state, 6));
     if long {
-        let n = draw_from(state, 1, 8);
+        let n = draw_from(state, 1, 8) as usize;
         return compare_random(state, p, n, 129, 1, counts);
     }
-    let n = draw_from(state, 1, 5);
+    let n = draw_from(state, 1, 5) as usize;
     let kind = draw(state, 4);
     compare_random(state, p, n, 13, kind, counts)
 }

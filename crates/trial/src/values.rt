@@ -70,6 +70,10 @@ pub(crate) fn cross(p: u16, a: u16, b: u16, c: u16, d: u16) -> u16 {
     remainder(product(a, b) + 4294967296 * (p as u64) - product(c, d), p)
 }
 
+pub(crate) fn times(p: u16, a: u16, b: u16) -> u16 {
+    remainder(product(a, b), p)
+}
+
 // a + b·c modulo p.
 pub(crate) fn plus_product(p: u16, a: u16, b: u16, c: u16) -> u16 {
     remainder((a as u64) + product(b, c), p)
