@@ -11,23 +11,23 @@ use link::locate::locate;
 use link::repair::repair;
 use link::shape::shape;
 use link::states::empty;
-use refusal::Verdict;
+use refusal::Checked;
 use refusal::number_of;
 ghost use mathlib.Core.List.{List};
 ghost use mathlib.Core.Path.{_≡_};
 ghost use Prim.Native.Nat.{ℕ};
 ghost use Rattle.capi.specs.Exports.{CEncodes, CAnswers};
 ghost use Rattle.capi.specs.Mirror.{jobOf, mirrorOf, refusalOf, countOf, shapedOf, answeredOf};
-ghost use Rattle.job.specs.Answers.{verdictAnswer, replyAnswer, answeredOutcome};
+ghost use Rattle.job.specs.Answers.{checkedAnswer, replyAnswer, answeredOutcome};
 ghost use Rattle.job.specs.Calls.{step, shape, encode, locate, repair};
 ghost use Rattle.job.specs.Job.{emptyJob};
 
-fn refusal_of(v: Verdict) -> u32
-    ensures { λ r. ⌜ r ≡ refusalOf (verdictAnswer v) ⌝ }
+fn refusal_of(v: Checked) -> u32
+    ensures { λ r. ⌜ r ≡ refusalOf (checkedAnswer v) ⌝ }
 {
     match v {
-        Verdict::Pass => 0,
-        Verdict::Refuse(why) => number_of(why),
+        Checked::Pass => 0,
+        Checked::Refuse(why) => number_of(why),
     }
 }
 
@@ -76,10 +76,10 @@ pub extern "C" fn tomkhadi_shape(job: CJob, columns: usize, checks: &[u16]) -> C
     ensures { λ r. ⌜ r ≡ shapedOf (step (jobOf job) (shape columns (now (checks .entry)))) ⌝ }
 {
     let made = shape(job_of(job), columns, checks);
-    let verdict = made.verdict;
+    let checked = made.checked;
     let next = mirror_of(made.job);
     CShaped {
-        refusal: refusal_of(verdict),
+        refusal: refusal_of(checked),
         job: next,
     }
 }

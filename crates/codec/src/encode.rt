@@ -6,8 +6,8 @@ use crate::symbols::data_below;
 use crate::weights::weights;
 use columns::below;
 use frame::Shape;
+use refusal::Checked;
 use refusal::Refusal;
-use refusal::Verdict;
 ghost use mathlib.Core.Path.{_≡_};
 ghost use mathlib.Core.Bool.{true};
 ghost use Prim.Native.Nat.{_*_, _≤_};
@@ -55,7 +55,7 @@ fn fill_checks(s: Shape, frame: &mut [u16])
 }
 
 // The check cells are filled from the data cells; what the check cells hold before plays no part.
-pub fn encode_frame(s: Shape, frame: &mut [u16]) -> Verdict
+pub fn encode_frame(s: Shape, frame: &mut [u16]) -> Checked
     requires { ⌜ isShape s ≡ true ⌝ }
     ensures answer { λ r. ⌜ outcomeOf r ≡ outcome (encodeTests s (now (frame .entry))) ⌝ }
     ensures left { λ r. ⌜
@@ -63,11 +63,11 @@ pub fn encode_frame(s: Shape, frame: &mut [u16]) -> Verdict
         ⌝ }
 {
     if frame.len() != s.rows * s.columns {
-        return Verdict::Refuse(Refusal::FrameSize);
+        return Checked::Refuse(Refusal::FrameSize);
     }
     if !data_below(s, frame) {
-        return Verdict::Refuse(Refusal::Symbol);
+        return Checked::Refuse(Refusal::Symbol);
     }
     fill_checks(s, frame);
-    Verdict::Pass
+    Checked::Pass
 }

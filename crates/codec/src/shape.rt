@@ -1,8 +1,8 @@
 // Which shapes there are.
 use crate::powers::wide;
 use frame::Shape;
+use refusal::Checked;
 use refusal::Refusal;
-use refusal::Verdict;
 ghost use mathlib.Core.Path.{_≡_};
 ghost use Prim.Native.Nat.{_≤_};
 ghost use lib.ListN.{length};
@@ -58,20 +58,20 @@ fn checks_in_range(columns: usize, rows: usize, checks: &[u16]) -> bool
 }
 
 // The refusals of a shape.
-pub fn check_shape(columns: usize, checks: &[u16]) -> Verdict
+pub fn check_shape(columns: usize, checks: &[u16]) -> Checked
     ensures { λ r. ⌜ outcomeOf r ≡ outcome (shapeTests columns (now (checks .entry))) ⌝ }
 {
     let rows = checks.len();
     if !rows_in_range(rows) {
-        return Verdict::Refuse(Refusal::Count);
+        return Checked::Refuse(Refusal::Count);
     }
     if !columns_in_range(columns) {
-        return Verdict::Refuse(Refusal::Columns);
+        return Checked::Refuse(Refusal::Columns);
     }
     if !checks_in_range(columns, rows, checks) {
-        return Verdict::Refuse(Refusal::Checks);
+        return Checked::Refuse(Refusal::Checks);
     }
-    Verdict::Pass
+    Checked::Pass
 }
 
 // The shape of the columns and check counts given, of which there are not too many.

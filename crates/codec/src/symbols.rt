@@ -1,8 +1,8 @@
 // Which cells of a frame hold symbols.
 use crate::powers::wide;
 use frame::Shape;
+use refusal::Checked;
 use refusal::Refusal;
-use refusal::Verdict;
 ghost use mathlib.Core.Path.{_≡_};
 ghost use mathlib.Core.Bool.{true};
 ghost use Prim.Native.Nat.{_*_};
@@ -29,17 +29,17 @@ pub fn all_below(cells: &[u16]) -> bool
 }
 
 // The refusals of a frame that is not well-formed.
-pub fn check_frame(s: Shape, frame: &[u16]) -> Verdict
+pub fn check_frame(s: Shape, frame: &[u16]) -> Checked
     requires { ⌜ isShape s ≡ true ⌝ }
     ensures { λ r. ⌜ outcomeOf r ≡ outcome (frameTests s (now (frame .entry))) ⌝ }
 {
     if frame.len() != s.rows * s.columns {
-        return Verdict::Refuse(Refusal::FrameSize);
+        return Checked::Refuse(Refusal::FrameSize);
     }
     if all_below(frame) {
-        return Verdict::Pass;
+        return Checked::Pass;
     }
-    Verdict::Refuse(Refusal::Symbol)
+    Checked::Refuse(Refusal::Symbol)
 }
 
 // Whether every data cell holds a symbol.

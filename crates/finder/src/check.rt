@@ -1,6 +1,6 @@
 // The tests of the input, in their order: refusals 1, 2, 3, 8 and 4.
+use refusal::Checked;
 use refusal::Refusal;
-use refusal::Verdict;
 ghost use mathlib.Core.Path.{_≡_};
 ghost use Prim.Native.Nat.{_≤_};
 ghost use lib.ListN.{length, getD};
@@ -84,23 +84,23 @@ fn below(symbols: &[u16], p: u32) -> bool
 }
 
 // The refusal of the first test that fails.
-pub fn check(p: u32, lengths: &[u16], symbols: &[u16], room: usize) -> Verdict
+pub fn check(p: u32, lengths: &[u16], symbols: &[u16], room: usize) -> Checked
     ensures { λ r. ⌜ outcomeOf r ≡ outcome (tests p (now (lengths .entry)) (now (symbols .entry)) room) ⌝ }
 {
     if !field::prime::is_modulus(p) {
-        return Verdict::Refuse(Refusal::Modulus);
+        return Checked::Refuse(Refusal::Modulus);
     }
     if !counted(lengths.len()) {
-        return Verdict::Refuse(Refusal::Count);
+        return Checked::Refuse(Refusal::Count);
     }
     if !measured(lengths, symbols.len()) {
-        return Verdict::Refuse(Refusal::Lengths);
+        return Checked::Refuse(Refusal::Lengths);
     }
     if room <= longest(lengths) {
-        return Verdict::Refuse(Refusal::TapBuffer);
+        return Checked::Refuse(Refusal::TapBuffer);
     }
     if !below(symbols, p) {
-        return Verdict::Refuse(Refusal::Symbol);
+        return Checked::Refuse(Refusal::Symbol);
     }
-    Verdict::Pass
+    Checked::Pass
 }

@@ -7,7 +7,7 @@ use crate::rounds::alone;
 use crate::rounds::rounds;
 use crate::rounds::start;
 use crate::sort::by_length;
-use refusal::Verdict;
+use refusal::Checked;
 ghost use mathlib.Core.Path.{_≡_};
 ghost use lib.ListN.{length};
 ghost use Rattle.refusal.specs.Outcome.{passed, outcome};
@@ -48,9 +48,9 @@ fn synthesize(p: u32, lengths: &[u16], symbols: &[u16], taps: &mut [u16]) -> Fou
 pub fn find(p: u32, lengths: &[u16], symbols: &[u16], taps: &mut [u16]) -> Found
     ensures { λ r. ⌜ Finds p (now (lengths .entry)) (now (symbols .entry)) (now (taps .entry)) (now (taps .exit)) r ⌝ }
 {
-    let verdict = check(p, lengths, symbols, taps.len());
-    match verdict {
-        Verdict::Refuse(why) => Found::Refused(why),
-        Verdict::Pass => synthesize(p, lengths, symbols, taps),
+    let checked = check(p, lengths, symbols, taps.len());
+    match checked {
+        Checked::Refuse(why) => Found::Refused(why),
+        Checked::Pass => synthesize(p, lengths, symbols, taps),
     }
 }

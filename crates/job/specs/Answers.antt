@@ -3,8 +3,8 @@
 use mathlib.Core.List.{List, []}
 use Prim.Native.Nat.{ℕ}
 use Rattle.refusal.specs.Number.{number}
-use Rattle.refusal.specs.declared.Verdict.{Verdict}
-use Rattle.refusal.specs.declared.Verdict.the-variants.{Pass, Refuse}
+use Rattle.refusal.specs.declared.Checked.{Checked}
+use Rattle.refusal.specs.declared.Checked.the-variants.{Pass, Refuse}
 use Rattle.job.specs.Calls.{Answer, done, columns, refused, Outcome}
 use Rattle.job.specs.Job.{noColumns}
 use Rattle.job.specs.declared.Answered.{Answered}
@@ -13,9 +13,9 @@ use Rattle.job.specs.declared.Reply.{Reply}
 use Rattle.job.specs.declared.Reply.the-variants.{Count, Refused}
 use Rattle.job.specs.declared.Reshaped.{Reshaped}
 
-abbrev pub verdictAnswer : Verdict → Answer
-verdictAnswer Pass = done
-verdictAnswer (Refuse r) = refused (number r)
+abbrev pub checkedAnswer : Checked → Answer
+checkedAnswer Pass = done
+checkedAnswer (Refuse r) = refused (number r)
 
 abbrev pub replyAnswer : Reply → Answer
 replyAnswer (Count c) = columns c
@@ -23,11 +23,11 @@ replyAnswer (Refused r) = refused (number r)
 
 -- of shape, to which no frame is lent
 abbrev pub shapeOutcome : Reshaped → Outcome
-shapeOutcome r = record { answer = verdictAnswer (r .verdict); marks = noColumns; job = r .job; frame = [] }
+shapeOutcome r = record { answer = checkedAnswer (r .checked); marks = noColumns; job = r .job; frame = [] }
 
 -- of encode, which keeps the job
-abbrev pub encodeOutcome : Job → Verdict → (frame : List ℕ) → Outcome
-encodeOutcome j v frame = record { answer = verdictAnswer v; marks = noColumns; job = j; frame = frame }
+abbrev pub encodeOutcome : Job → Checked → (frame : List ℕ) → Outcome
+encodeOutcome j v frame = record { answer = checkedAnswer v; marks = noColumns; job = j; frame = frame }
 
 -- of locate and repair
 abbrev pub answeredOutcome : Answered → (frame : List ℕ) → Outcome

@@ -1,8 +1,8 @@
 // The job of the receiving end: its types, and the mathematics of its calls. There are no functions here (document 01, "A job").
 use columns::Columns;
 use frame::Shape;
+use refusal::Checked;
 use refusal::Refusal;
-use refusal::Verdict;
 
 // Where a job stands. What a located one has found carries the length of the register, which is the number of columns to mend, and whether the register is alone.
 pub enum Phase {
@@ -32,7 +32,7 @@ pub enum Reply {
 
 // What shape returns.
 pub struct Reshaped {
-    pub verdict: Verdict,
+    pub checked: Checked,
     pub job: Job,
 }
 

@@ -20,8 +20,8 @@ use Rattle.job.specs.declared.Job.{Job}
 use Rattle.refusal.specs.Number.{number}
 use Rattle.refusal.specs.declared.Refusal.{Refusal}
 use Rattle.refusal.specs.declared.Refusal.the-variants.{Empty}
-use Rattle.refusal.specs.declared.Verdict.{Verdict}
-use Rattle.refusal.specs.declared.Verdict.the-variants.{Pass, Refuse}
+use Rattle.refusal.specs.declared.Checked.{Checked}
+use Rattle.refusal.specs.declared.Checked.the-variants.{Pass, Refuse}
 use Rattle.refusal.specs.Order.{Test, firstOf}
 use Rattle.refusal.specs.Outcome.{passed, refused, outcome, outcomeOf}
 use Rattle.link.specs.Answered as answer-of
@@ -47,18 +47,18 @@ unfolding shapeOf
 passed-rows n checks e = shape-ranges (shapeOf n checks) (shape-passes n checks (passed-pass (shapeTests n checks) e)) .rows-most
 
 module _ (j : Job) (n : ℕ) (checks : List ℕ) where
-  pub shape-refused : {v : Verdict} (why : Refusal) → outcomeOf v ≡ outcome (shapeTests n checks) → v ≡ Refuse why
-      → shapeOutcome (record { verdict = v; job = j }) ≡ step j (shape n checks)
+  pub shape-refused : {v : Checked} (why : Refusal) → outcomeOf v ≡ outcome (shapeTests n checks) → v ≡ Refuse why
+      → shapeOutcome (record { checked = v; job = j }) ≡ step j (shape n checks)
   unfolding step shapeCall
   shape-refused why e r =
-      ap (λ x. shapeOutcome (record { verdict = x; job = j })) r
+      ap (λ x. shapeOutcome (record { checked = x; job = j })) r
       ∙ first-refused (refusing j []) _ (shapeTests n checks) (number why) (sym e ∙ ap outcomeOf r)
 
-  pub shape-given : {v : Verdict} {i : Job} → outcomeOf v ≡ outcome (shapeTests n checks) → v ≡ Pass → i ≡ shapedJob (shapeOf n checks)
-      → shapeOutcome (record { verdict = v; job = i }) ≡ step j (shape n checks)
+  pub shape-given : {v : Checked} {i : Job} → outcomeOf v ≡ outcome (shapeTests n checks) → v ≡ Pass → i ≡ shapedJob (shapeOf n checks)
+      → shapeOutcome (record { checked = v; job = i }) ≡ step j (shape n checks)
   unfolding step shapeCall
   shape-given e r s =
-      ap₂ (λ x y. shapeOutcome (record { verdict = x; job = y })) r s
+      ap₂ (λ x y. shapeOutcome (record { checked = x; job = y })) r s
       ∙ first-passed (refusing j []) _ (shapeTests n checks) (sym e ∙ ap outcomeOf r)
 
 -- ---- encode
@@ -71,7 +71,7 @@ module _ (j : Job) (f : List ℕ) where
   abbrev leaves : List ℕ
   leaves = firstOf (λ k. f) (encodeTests (j .shape) f) (encoded (j .shape) f)
 
-  pub encode-given : isEmpty j ≡ false → (v : Verdict) {left : List ℕ} → outcomeOf v ≡ outcome (encodeTests (j .shape) f) → left ≡ leaves
+  pub encode-given : isEmpty j ≡ false → (v : Checked) {left : List ℕ} → outcomeOf v ≡ outcome (encodeTests (j .shape) f) → left ≡ leaves
       → encodeOutcome j v left ≡ step j (encode f)
   unfolding step encodeCall
   encode-given full Pass e l =

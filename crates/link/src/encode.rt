@@ -2,17 +2,17 @@
 use crate::sound::counts_as_empty;
 use codec::encode::encode_frame;
 use job::Job;
+use refusal::Checked;
 use refusal::Refusal;
-use refusal::Verdict;
 ghost use mathlib.Core.Path.{_≡_};
 ghost use Rattle.job.specs.Answers.{encodeOutcome};
 ghost use Rattle.job.specs.Calls.{encode, step};
 
-pub fn encode(j: Job, frame: &mut [u16]) -> Verdict
+pub fn encode(j: Job, frame: &mut [u16]) -> Checked
     ensures { λ r. ⌜ encodeOutcome j r (now (frame .exit)) ≡ step j (encode (now (frame .entry))) ⌝ }
 {
     if counts_as_empty(j) {
-        return Verdict::Refuse(Refusal::Empty);
+        return Checked::Refuse(Refusal::Empty);
     }
     encode_frame(j.shape, frame)
 }

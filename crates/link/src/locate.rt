@@ -12,8 +12,8 @@ use finder::find::find;
 use frame::Shape;
 use job::Answered;
 use job::Job;
+use refusal::Checked;
 use refusal::Refusal;
-use refusal::Verdict;
 ghost use mathlib.Core.Path.{_≡_};
 ghost use mathlib.Core.Bool.{true};
 ghost use Prim.Native.Nat.{_*_};
@@ -83,8 +83,8 @@ pub fn locate(j: Job, frame: &[u16]) -> Answered
     if counts_as_empty(j) {
         return refuse(j, Refusal::Empty);
     }
-    let verdict = check_frame(j.shape, frame);
-    if let Verdict::Refuse(r) = verdict {
+    let checked = check_frame(j.shape, frame);
+    if let Checked::Refuse(r) = checked {
         return refuse(j, r);
     }
     locate_in(j.shape, frame)

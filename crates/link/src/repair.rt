@@ -13,8 +13,8 @@ use columns::Columns;
 use frame::Shape;
 use job::Answered;
 use job::Job;
+use refusal::Checked;
 use refusal::Refusal;
-use refusal::Verdict;
 ghost use mathlib.Core.Path.{_≡_};
 ghost use mathlib.Core.Bool.{true};
 ghost use Prim.Native.Nat.{ℕ, _*_, _≤_, _<_};
@@ -69,8 +69,8 @@ pub fn repair(j: Job, frame: &mut [u16]) -> Answered
     if !is_located(phase) {
         return refuse(j, Refusal::NotLocated);
     }
-    let verdict = check_frame(j.shape, frame);
-    if let Verdict::Refuse(r) = verdict {
+    let checked = check_frame(j.shape, frame);
+    if let Checked::Refuse(r) = checked {
         return refuse(j, r);
     }
     let sums = frame_sums(j.shape, frame);

@@ -4,7 +4,7 @@ use codec::shape::check_shape;
 use codec::shape::shape_of;
 use job::Job;
 use job::Reshaped;
-use refusal::Verdict;
+use refusal::Checked;
 ghost use mathlib.Core.Path.{_≡_};
 ghost use Rattle.job.specs.Answers.{shapeOutcome};
 ghost use Rattle.job.specs.Calls.{shape, step};
@@ -12,12 +12,12 @@ ghost use Rattle.job.specs.Calls.{shape, step};
 pub fn shape(j: Job, columns: usize, checks: &[u16]) -> Reshaped
     ensures { λ r. ⌜ shapeOutcome r ≡ step j (shape columns (now (checks .entry))) ⌝ }
 {
-    let verdict = check_shape(columns, checks);
-    match verdict {
-        Verdict::Refuse(_) => Reshaped { verdict, job: j },
-        Verdict::Pass => {
+    let checked = check_shape(columns, checks);
+    match checked {
+        Checked::Refuse(_) => Reshaped { checked, job: j },
+        Checked::Pass => {
             let job = shaped(shape_of(columns, checks));
-            Reshaped { verdict, job }
+            Reshaped { checked, job }
         }
     }
 }

@@ -14,7 +14,7 @@ use Rattle.frame.proofs.Reasons.{frame-passes}
 use Rattle.frame.proofs.Shapes.{shape-ranges}
 use Rattle.decoding.specs.Locating.{sizeOf, rowsReach}
 use Rattle.decoding.proofs.SoleNearest.{reach}
-use Rattle.job.specs.Answers.{replyAnswer, verdictAnswer, shapeOutcome, answeredOutcome}
+use Rattle.job.specs.Answers.{replyAnswer, checkedAnswer, shapeOutcome, answeredOutcome}
 use Rattle.job.specs.Calls as Calls
 use Rattle.job.specs.Calls.{Answer, Outcome, step, shape, locate}
 use Rattle.job.specs.Job.{emptyJob, noColumns}
@@ -28,8 +28,8 @@ use Rattle.job.proofs.Forms.{Locates, has-shape, register-passes}
 use Rattle.job.proofs.Soundness.{marked-number}
 use Rattle.refusal.specs.Number.{number}
 use Rattle.refusal.specs.declared.Refusal.{Refusal}
-use Rattle.refusal.specs.declared.Verdict.{Verdict}
-use Rattle.refusal.specs.declared.Verdict.the-variants.{Pass, Refuse}
+use Rattle.refusal.specs.declared.Checked.{Checked}
+use Rattle.refusal.specs.declared.Checked.the-variants.{Pass, Refuse}
 use Rattle.record.specs.Answered.{columnCount}
 use Rattle.record.specs.Line.{refusalLine, columnsLine, frameLine, outputOf}
 use Rattle.record.specs.Record.{frame}
@@ -90,18 +90,18 @@ module _ (reply : Reply) (marks : Columns) where
 
 module _ (n : ℕ) (checks symbols : List ℕ) (j : Job) (start : j ≡ emptyJob) (shaped : Reshaped)
     (given : shapeOutcome shaped ≡ step j (shape n checks)) where
-  by-outcome : frameLine (verdictAnswer (shaped .verdict)) (shapeOutcome shaped) (step (shaped .job) (locate symbols)) ≡ outputOf (frame n checks symbols)
+  by-outcome : frameLine (checkedAnswer (shaped .checked)) (shapeOutcome shaped) (step (shaped .job) (locate symbols)) ≡ outputOf (frame n checks symbols)
   unfolding outputOf
   by-outcome = ap (λ (o : Outcome). frameLine (o .answer) o (step (o .job) (locate symbols))) (given ∙ ap (λ (i : Job). step i (shape n checks)) start)
 
-  pub frame-refused : (k : Refusal) → shaped .verdict ≡ Refuse k → refusalLine (number k) ≡ outputOf (frame n checks symbols)
+  pub frame-refused : (k : Refusal) → shaped .checked ≡ Refuse k → refusalLine (number k) ≡ outputOf (frame n checks symbols)
   unfolding frameLine
   frame-refused k e =
-      ap (λ (v : Verdict). frameLine (verdictAnswer v) (shapeOutcome shaped) (step (shaped .job) (locate symbols))) (sym e) ∙ by-outcome
+      ap (λ (v : Checked). frameLine (checkedAnswer v) (shapeOutcome shaped) (step (shaped .job) (locate symbols))) (sym e) ∙ by-outcome
 
-  pub frame-located : (a : Answered) → shaped .verdict ≡ Pass → answeredOutcome a symbols ≡ step (shaped .job) (locate symbols)
+  pub frame-located : (a : Answered) → shaped .checked ≡ Pass → answeredOutcome a symbols ≡ step (shaped .job) (locate symbols)
       → columnsLine (replyAnswer (a .reply)) (a .columns) ≡ outputOf (frame n checks symbols)
   unfolding frameLine
   frame-located a e l =
       ap (λ (o : Outcome). columnsLine (o .answer) (o .marks)) l ∙
-      ap (λ (v : Verdict). frameLine (verdictAnswer v) (shapeOutcome shaped) (step (shaped .job) (locate symbols))) (sym e) ∙ by-outcome
+      ap (λ (v : Checked). frameLine (checkedAnswer v) (shapeOutcome shaped) (step (shaped .job) (locate symbols))) (sym e) ∙ by-outcome

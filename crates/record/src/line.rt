@@ -8,8 +8,8 @@ use link::locate::locate;
 use link::shape::shape;
 use link::states::empty;
 use reader::fields;
+use refusal::Checked;
 use refusal::Refusal;
-use refusal::Verdict;
 ghost use mathlib.Core.Path.{_≡_};
 ghost use Prim.Native.Nat.{_+_, _≤_, _<_};
 ghost use lib.ListN.{length, getD};
@@ -35,8 +35,8 @@ fn frame_line(out: &mut [u8], at: usize, n: u16, checks: &[u16], symbols: &[u16]
     ensures { λ r. ⌜ r ≤ at + 1024 ⌝ }
 {
     let shaped = shape(empty(), n as usize, checks);
-    let verdict = shaped.verdict;
-    if let Verdict::Refuse(k) = verdict {
+    let checked = shaped.checked;
+    if let Checked::Refuse(k) = checked {
         return refusal_line(out, at, k);
     }
     let located = locate(shaped.job, symbols);

@@ -3,14 +3,14 @@ use mathlib.Core.List.{List}
 use Prim.Native.Nat.{ℕ}
 use Rattle.refusal.specs.Number.{number}
 use Rattle.refusal.specs.Order.{Test, firstOf}
-use Rattle.refusal.specs.declared.Verdict.{Verdict}
-use Rattle.refusal.specs.declared.Verdict.the-variants.{Pass, Refuse}
+use Rattle.refusal.specs.declared.Checked.{Checked}
+use Rattle.refusal.specs.declared.Checked.the-variants.{Pass, Refuse}
 
 pub data Outcome : Type 0 where
   passed : Outcome
   refused : ℕ → Outcome
 
-abbrev pub outcomeOf : Verdict → Outcome
+abbrev pub outcomeOf : Checked → Outcome
 outcomeOf Pass = passed
 outcomeOf (Refuse r) = refused (number r)
 

@@ -21,7 +21,7 @@ pub enum Refusal {
 }
 
 // What a test of the input finds: nothing to refuse, or the refusal.
-pub enum Verdict {
+pub enum Checked {
     Pass,
     Refuse(Refusal),
 }

@@ -1,7 +1,7 @@
 // What the library answers, as the number of the refusal of document 01, or 0.
 use finder::Found;
 use job::Reply;
-use refusal::Verdict;
+use refusal::Checked;
 use refusal::number_of;
 
 pub(crate) fn of_found(found: Found) -> u32 {
@@ -14,10 +14,10 @@ pub(crate) fn of_found(found: Found) -> u32 {
     }
 }
 
-pub(crate) fn of_verdict(verdict: Verdict) -> u32 {
-    match verdict {
-        Verdict::Pass => 0,
-        Verdict::Refuse(refusal) => number_of(refusal),
+pub(crate) fn of_checked(checked: Checked) -> u32 {
+    match checked {
+        Checked::Pass => 0,
+        Checked::Refuse(refusal) => number_of(refusal),
     }
 }
 

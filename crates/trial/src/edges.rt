@@ -1,6 +1,6 @@
 // The edges of document 01: what is just taken and what is just refused, and which of two reasons to refuse comes first.
+use crate::answers::of_checked;
 use crate::answers::of_found;
-use crate::answers::of_verdict;
 use crate::call_edges::encode_edge;
 use crate::call_edges::locate_edge;
 use crate::call_edges::repair_edge;
@@ -110,8 +110,8 @@ fn shapes(rows: usize, columns: usize, checks: u16, last: u16) -> u32 {
     set(&mut room, 9, checks);
     put(&mut room, minus(rows, 1), last);
     let shaped = link::shape::shape(link::states::empty(), columns, part(&room, 0, rows));
-    let verdict = shaped.verdict;
-    of_verdict(verdict)
+    let checked = shaped.checked;
+    of_checked(checked)
 }
 
 fn shape_edge(i: usize) -> bool {

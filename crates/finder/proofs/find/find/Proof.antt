@@ -9,8 +9,8 @@ use Rattle.finder.proofs.find.find.Tie as tie
 check-requires : tie.Need-check-requires
 check-requires c κs = search needs
 
-enum-known-verdict : tie.Need-enum-known-verdict
-enum-known-verdict c = search needs
+enum-known-checked : tie.Need-enum-known-checked
+enum-known-checked c = search needs
 
 enum-told : tie.Need-enum-told
 enum-told c = search needs
@@ -21,7 +21,7 @@ synthesize-requires c κs = sym (c .before .before .before .check .ensures) ∙ 
 returns : tie.Need-returns
 returns c =
     let args = c .before .before .before .before .before .before .before .args in
-    refuses (args .p) (args .lengths .now) (args .symbols .now) (args .taps .now) _ (sym (c .before .before .before .check .ensures) ∙ ap outcomeOf (c .before .verdict .given .1))
+    refuses (args .p) (args .lengths .now) (args .symbols .now) (args .taps .now) _ (sym (c .before .before .before .check .ensures) ∙ ap outcomeOf (c .before .checked .given .1))
 
 same-length : tie.Need-same-length
 same-length c = search needs
@@ -34,7 +34,7 @@ find-spec =
     tie.close
     (tie.spec
     check-requires
-    enum-known-verdict
+    enum-known-checked
     enum-told
     synthesize-requires
     returns

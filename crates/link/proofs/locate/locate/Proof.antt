@@ -27,14 +27,14 @@ full c = sym (c .before .counts-as-empty .ensures) ∙ c .if1 .left
 check-frame-requires : tie.Need-check-frame-requires
 check-frame-requires c κs = has-shape _ (full c)
 
-enum-known-verdict : tie.Need-enum-known-verdict
-enum-known-verdict c = search needs
+enum-known-checked : tie.Need-enum-known-checked
+enum-known-checked c = search needs
 
 refuse-requires-2 : tie.Need-refuse-requires-2
 refuse-requires-2 c κs = search needs
 
 returns-2 : tie.Need-returns-2
-returns-2 c = refusal-outcome _ _ (c .refuse2 .ensures) refl ∙ locate-refused _ _ (full (c .before .before .before .before .before)) _ (sym (c .before .before .before .before .check-frame .ensures) ∙ ap outcomeOf (c .before .before .verdict .given .1))
+returns-2 c = refusal-outcome _ _ (c .refuse2 .ensures) refl ∙ locate-refused _ _ (full (c .before .before .before .before .before)) _ (sym (c .before .before .before .before .check-frame .ensures) ∙ ap outcomeOf (c .before .before .checked .given .1))
 
 enum-told : tie.Need-enum-told
 enum-told c = search needs
@@ -58,7 +58,7 @@ locate-spec =
     refuse-requires
     returns
     check-frame-requires
-    enum-known-verdict
+    enum-known-checked
     refuse-requires-2
     returns-2
     enum-told

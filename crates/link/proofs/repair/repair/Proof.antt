@@ -48,8 +48,8 @@ located c = sym (c .before .is-located .ensures) ∙ not-false _ (c .if2 .left)
 check-frame-requires : tie.Need-check-frame-requires
 check-frame-requires c κs = has-shape _ (full (c .before .before .before))
 
-enum-known-verdict : tie.Need-enum-known-verdict
-enum-known-verdict c = search needs
+enum-known-checked : tie.Need-enum-known-checked
+enum-known-checked c = search needs
 
 refuse-requires-3 : tie.Need-refuse-requires-3
 refuse-requires-3 c κs = search needs
@@ -60,7 +60,7 @@ same-length c = search needs
 returns-3 : tie.Need-returns-3
 returns-3 c =
     refusal-outcome _ _ (c .refuse3 .ensures) refl
-    ∙ repair-refused _ _ (full (c .before .before .before .before .before .before .before .before)) (located (c .before .before .before .before .before .before)) _ (sym (c .before .before .before .before .check-frame .ensures) ∙ ap outcomeOf (c .before .before .verdict .given .1))
+    ∙ repair-refused _ _ (full (c .before .before .before .before .before .before .before .before)) (located (c .before .before .before .before .before .before)) _ (sym (c .before .before .before .before .check-frame .ensures) ∙ ap outcomeOf (c .before .before .checked .given .1))
 
 enum-told : tie.Need-enum-told
 enum-told c = search needs
@@ -126,7 +126,7 @@ repair-spec =
     refuse-requires-2
     returns-2
     check-frame-requires
-    enum-known-verdict
+    enum-known-checked
     refuse-requires-3
     same-length
     returns-3

@@ -11,8 +11,8 @@ empty-requires c κs = search needs
 shape-requires : tie.Need-shape-requires
 shape-requires c κs = search needs
 
-enum-known-verdict : tie.Need-enum-known-verdict
-enum-known-verdict c = search needs
+enum-known-checked : tie.Need-enum-known-checked
+enum-known-checked c = search needs
 
 refusal-line-requires : tie.Need-refusal-line-requires
 refusal-line-requires c κs = search needs
@@ -23,7 +23,7 @@ same-length c = search needs
 returns : tie.Need-returns
 returns c =
     let line = c .before .before .refusal-line .ensures in
-    let refused = frame-refused _ _ _ _ (c .before .before .before .before .before .before .before .before .empty .ensures) (c .before .before .before .before .before .before .before .shape .result) (c .before .before .before .before .before .before .before .shape .ensures) _ (c .before .before .before .before .before .verdict .given .1) in
+    let refused = frame-refused _ _ _ _ (c .before .before .before .before .before .before .before .before .empty .ensures) (c .before .before .before .before .before .before .before .shape .result) (c .before .before .before .before .before .before .before .shape .ensures) _ (c .before .before .before .before .before .checked .given .1) in
     (written-as _ _ _ _ _ _ refused (line .0), line .1)
 
 enum-told : tie.Need-enum-told
@@ -54,7 +54,7 @@ frame-line-spec =
     (tie.spec
     empty-requires
     shape-requires
-    enum-known-verdict
+    enum-known-checked
     refusal-line-requires
     same-length
     returns
