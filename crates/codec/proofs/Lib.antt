@@ -1,7 +1,6 @@
 pub mod Accumulation
 pub mod BlockSums
 pub mod CheckColumns
-pub mod Division
 pub mod FoldedRows
 pub mod FoldedSums
 pub mod FrameTests
@@ -12,13 +11,7 @@ pub mod LocatorOrder
 pub mod Multiplication
 pub mod Padding
 pub mod PowerTable
-pub mod Quotient
-pub mod ReadOff
-pub mod ReadSymbols
-pub mod Reading
 pub mod RowPlace
 pub mod RowSums
 pub mod RowsCompleted
 pub mod ShapeTests
-pub mod WeightTable
-pub mod Writing

@@ -1,6 +1,4 @@
-// The encoder and the check sums of frames over the field of 257.
-pub mod complete;
-pub mod encode;
+// The powers of 3, shapes, symbols and check sums of frames over the field of 257.
 pub mod locator;
 pub mod powers;
 pub mod shape;
@@ -8,4 +6,3 @@ pub mod stages;
 pub mod sums;
 pub mod symbols;
 pub mod values;
-pub mod weights;

@@ -1,0 +1,43 @@
+-- Synthetic division, coefficient after coefficient, and what it gives: where f is g times 1 − x·z, the quotient is g. Assumes nothing.
+use mathlib.Core.Path.{_≡_, refl, sym, ap, ap₂, _∙_}
+use mathlib.Core.List.{List}
+use Prim.Native.Nat.{ℕ, suc, _+_, _*_, _%_, _≤_, _<_}
+use native.Mathlib.Nat.{mod-lt, mul-le-mul}
+use native.Mathlib.Numerals.{add-one}
+use native.Mathlib.Omega.{arith}
+use lib.Dec.{lit<}
+use lib.ListN.{length, getD, set}
+use Rattle.lists.proofs.Filling.{Filled, filled-none, filled-more}
+use Rattle.completion.specs.Weights.{carried}
+
+pub carried-zero : (f : List ℕ) (x : ℕ) → carried f x 0 ≡ 0
+unfolding carried
+carried-zero f x = refl
+
+pub carried-suc : (f : List ℕ) (x k : ℕ) → carried f x (suc k) ≡ (getD f k 0 + x * carried f x k) % 257
+unfolding carried
+carried-suc f x k = refl
+
+module _ (f : List ℕ) (x : ℕ) (from : List ℕ) where
+  -- k coefficients are done, and `carry` is the last of them
+  pub record Divided (k carry : ℕ) (quotient : List ℕ) : Type 0 where
+    pub filled : Filled (λ k. carried f x (suc k)) from k quotient
+    pub last : carry ≡ carried f x k
+    pub small : carry < 257
+
+  pub divided-none : Divided 0 0 from
+  divided-none = record { filled = filled-none _ from; last = sym (carried-zero f x); small = lit< tt }
+
+  module _ (k carry : ℕ) (quotient : List ℕ) (a : Divided k carry quotient) where
+    pub divided-more : (c : ℕ) → k < length quotient → c ≡ getD f k 0
+        → Divided (k + 1) ((c + x * carry) % 257) (set quotient k ((c + x * carry) % 257))
+    divided-more c h e =
+        let next : (c + x * carry) % 257 ≡ carried f x (suc k) = ap₂ (λ (u v : ℕ). (u + x * v) % 257) e (a .last) ∙ sym (carried-suc f x k) in
+        record {
+          filled = filled-more _ from k _ quotient (a .filled) h next;
+          last = next ∙ ap (carried f x) (sym (add-one k));
+          small = mod-lt (c + x * carry) (lit< tt);
+        }
+
+    pub carry-fits : x < 257 → x * carry ≤ 256 * 256
+    carry-fits h = mul-le-mul (let l : x ≤ 256 = omega arith in l) (let s = a .small in let l : carry ≤ 256 = omega arith in l)

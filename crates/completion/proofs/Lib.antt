@@ -1,0 +1,7 @@
+pub mod Division
+pub mod Quotient
+pub mod ReadOff
+pub mod ReadSymbols
+pub mod Reading
+pub mod WeightTable
+pub mod Writing

@@ -1,0 +1,87 @@
+-- `completion::complete::read_off` meets its contract. Assumes nothing.
+use Prim.Native.Nat.{_+_, _-_}
+use native.Mathlib.Omega.{arith}
+use Rattle.completion.proofs.Reading.{Read, read-none, read-more, read-fits, read-all}
+use borrow.Author.Needs.{needs}
+use Rattle.completion.proofs.complete.read_off.Statement.{statement}
+use Rattle.completion.proofs.complete.read_off.Tie as tie
+
+abbrev Inv-loop : tie.InvT-loop
+Inv-loop coefficients sums m total₀ k₀ total k = Read coefficients sums k total
+
+abbrev μ-loop : tie.MeasureT-loop
+μ-loop coefficients sums m total₀ k₀ total k = m - k
+
+loop-holds : tie.Need-loop-holds Inv-loop μ-loop
+loop-holds c = read-none _ _
+
+mul-times : tie.Need-mul-times Inv-loop μ-loop
+mul-times c = omega arith
+
+shared-slice-read-times : tie.Need-shared-slice-read-times Inv-loop μ-loop
+shared-slice-read-times c = omega arith
+
+sub-times : tie.Need-sub-times Inv-loop μ-loop
+sub-times c = omega arith
+
+sub-times-2 : tie.Need-sub-times-2 Inv-loop μ-loop
+sub-times-2 c = omega arith
+
+mul-times-2 : tie.Need-mul-times-2 Inv-loop μ-loop
+mul-times-2 c = omega arith
+
+shared-slice-read-times-2 : tie.Need-shared-slice-read-times-2 Inv-loop μ-loop
+shared-slice-read-times-2 c = omega arith
+
+times-requires : tie.Need-times-requires Inv-loop μ-loop
+times-requires c κs = search needs
+
+-- one coefficient more
+grown : (c : tie.After-times Inv-loop μ-loop) →
+    let loop = c .before .before .before .before .loop in
+    let args = c .before .before .before .before .before .before .before .args in
+    Read (args .coefficients .now) (args .sums .now) (loop .k + 1) (loop .total + c .times .result)
+grown c =
+    let at = c .before .before .before .before in
+    read-more _ _ (at .loop .k) (at .loop .total) (at .loop .inv) (c .times .result) (c .before .before .before .loop-test .taken) (c .times .ensures)
+
+add-total : tie.Need-add-total Inv-loop μ-loop
+add-total c =
+    let entered = c .before .before .before .before .before .before in
+    read-fits _ _ _ _ (grown c) (entered .before .pre .0) (entered .shared-slice-known .given) (entered .before .pre .2)
+
+add-k : tie.Need-add-k Inv-loop μ-loop
+add-k c = omega arith
+
+loop-less : tie.Need-loop-less Inv-loop μ-loop
+loop-less c = omega arith
+
+loop-again : tie.Need-loop-again Inv-loop μ-loop
+loop-again c = grown c
+
+cast-result : tie.Need-cast-result Inv-loop μ-loop
+cast-result c = omega arith
+
+returns : tie.Need-returns Inv-loop μ-loop
+returns c = read-all _ _ _ _ (c .before .loop .inv) (c .loop-test .left)
+
+pub read-off-spec : {M : Type 1} → statement M
+read-off-spec =
+    tie.close
+    (tie.spec
+    Inv-loop
+    μ-loop
+    loop-holds
+    mul-times
+    shared-slice-read-times
+    sub-times
+    sub-times-2
+    mul-times-2
+    shared-slice-read-times-2
+    times-requires
+    add-total
+    add-k
+    loop-less
+    loop-again
+    cast-result
+    returns)

@@ -1,0 +1,64 @@
+-- `completion::weights::factor` meets its contract. Assumes nothing.
+use mathlib.Core.Path.{ap, _∙_}
+use Prim.Native.Nat.{_≤_}
+use native.Mathlib.Nat.{mul-le-mul}
+use native.Mathlib.Omega.{arith}
+use lib.ListN.{length}
+use Rattle.field.specs.Residue.{times}
+use Rattle.completion.proofs.ReadOff.{factor-is}
+use borrow.Author.Needs.{needs}
+use Rattle.completion.proofs.weights.factor.Statement.{statement}
+use Rattle.completion.proofs.weights.factor.Tie as tie
+
+sub-value-at : tie.Need-sub-value-at
+sub-value-at c = search needs
+
+value-at-requires : tie.Need-value-at-requires
+value-at-requires c κs = search needs
+
+mul-entry : tie.Need-mul-entry
+mul-entry c =
+    let start = c .before .before in
+    let less : start .args .i ≤ 255 = omega (arith, start .pre .1) in
+    let few : length (start .args .others .now) ≤ 64 = start .pre .2 in
+    omega (arith, mul-le-mul less few)
+
+entry-requires : tie.Need-entry-requires
+entry-requires c κs = search needs
+
+wide-requires : tie.Need-wide-requires
+wide-requires c κs = search needs
+
+product-requires : tie.Need-product-requires
+product-requires c κs = search needs
+
+inverse-requires : tie.Need-inverse-requires
+inverse-requires c κs = search needs
+
+difference-requires : tie.Need-difference-requires
+difference-requires c κs = search needs
+
+returns : tie.Need-returns
+returns c =
+    let start = c .before .before .before .before .before .before .before in
+    let wide = c .before .before .before in (
+      factor-is (length (start .args .others .now)) (start .args .i) _ (wide .before .before .value-at .result) (wide .before .entry .result) (c .before .before .product .result)
+          (c .before .inverse .result) (c .difference .result) (omega (arith, start .pre .1)) (wide .before .before .value-at .ensures .0) (wide .before .entry .ensures)
+          (c .before .before .product .ensures .0 ∙ ap (times 257 (wide .before .entry .result)) (wide .wide .ensures .0)) (c .before .inverse .ensures .0)
+          (c .difference .ensures .0),
+      c .difference .ensures .1,
+    )
+
+pub factor-spec : {M : Type 1} → statement M
+factor-spec =
+    tie.close
+    (tie.spec
+    sub-value-at
+    value-at-requires
+    mul-entry
+    entry-requires
+    wide-requires
+    product-requires
+    inverse-requires
+    difference-requires
+    returns)

@@ -1,0 +1,92 @@
+// The coefficients with which the symbols at a set of columns are read off the check sums, shared by all rows that are
+// completed at the same set.
+use codec::locator::locator_polynomial;
+use codec::powers::entry;
+use codec::powers::wide;
+use codec::values::value_at;
+use columns::Columns;
+use columns::next;
+use columns::size;
+use field::residue::difference;
+use field::residue::inverse;
+use field::residue::product;
+ghost use mathlib.Core.Path.{_≡_};
+ghost use Prim.Native.Nat.{suc, _≤_, _<_};
+ghost use lib.ListN.{length, getD};
+ghost use Rattle.codec.specs.Table.{table};
+ghost use Rattle.columns.specs.Columns.{members};
+ghost use Rattle.completion.specs.Weights.{carried, factorOf, readOff, weightsOf};
+ghost use Rattle.field.specs.Residue.{times};
+ghost use Rattle.frame.specs.Powers.{locatorOf};
+ghost use Rattle.lists.specs.Tabulate.{tabulate};
+
+// The quotient of f by 1 - x z, by synthetic division, as many coefficients as there are places for.
+fn divide(f: &[u16; 65], x: u32, quotient: &mut [u16])
+    requires { ⌜ (x < 257) × (length (now quotient) ≤ 64) ⌝ }
+    ensures { λ r. ⌜ now (quotient .exit) ≡ tabulate (length (now (quotient .entry))) (λ k. carried (now (f .entry)) x (suc k)) ⌝ }
+{
+    let mut carry: u32 = 0;
+    let mut k = 0;
+    while k < quotient.len() {
+        carry = (wide(f[k]) + x * carry) % 257;
+        quotient[k] = carry as u16;
+        k += 1;
+    }
+}
+
+// Each entry times c.
+fn scale(row: &mut [u16], c: u32)
+    requires { ⌜ c < 257 ⌝ }
+    ensures { λ r. ⌜ now (row .exit) ≡ tabulate (length (now (row .entry))) (λ k. times 257 (getD (now (row .entry)) k 0) c) ⌝ }
+{
+    let mut k = 0;
+    while k < row.len() {
+        row[k] = ((wide(row[k]) * c) % 257) as u16;
+        k += 1;
+    }
+}
+
+// What the coefficients of column i are multiples of, for the locator polynomial of the other columns of its set.
+fn factor(powers: &[u16; 256], others: &[u16], i: usize) -> u32
+    requires { ⌜ (now powers ≡ table) × (i < 256) × (length (now others) ≤ 64) ⌝ }
+    ensures equals { λ r. ⌜ r ≡ factorOf (length (now (others .entry))) i (now (others .entry)) ⌝ }
+    ensures below { λ r. ⌜ r < 257 ⌝ }
+{
+    let there = value_at(powers, others, 256 - i);
+    let weight = entry(powers, (i * others.len()) % 256);
+    let part = product(weight, wide(there), 257);
+    difference(0, inverse(part, 257), 257)
+}
+
+// The coefficients of column i of a set with the locator polynomial f, as many as the set has columns.
+fn weigh(powers: &[u16; 256], f: &[u16; 65], i: usize, row: &mut [u16])
+    requires { ⌜ (now powers ≡ table) × (i < 256) × (length (now row) ≤ 64) ⌝ }
+    ensures { λ r. ⌜
+        now (row .exit) ≡ tabulate (length (now (row .entry)))
+        (readOff (length (now (row .entry))) i (tabulate (length (now (row .entry))) (λ k. carried (now (f .entry)) (locatorOf i) (suc k))))
+        ⌝ }
+{
+    divide(f, entry(powers, i), row);
+    let c = factor(powers, row, i);
+    scale(row, c);
+}
+
+// The table of the coefficients: entry 64 a + k is coefficient k of the a-th column of the set, counted from 0.
+pub fn weights(powers: &[u16; 256], set: Columns) -> [u16; 4096]
+    requires { ⌜ (now powers ≡ table) × (length (members set) ≤ 64) ⌝ }
+    ensures { λ r. ⌜ r ≡ weightsOf set ⌝ }
+{
+    let m = size(set);
+    let f = locator_polynomial(powers, set);
+    let mut weights = [0u16; 4096];
+    let mut a = 0;
+    let mut i = next(set, 0);
+    while i < 256 {
+        let from = a * 64;
+        let to = from + m;
+        weigh(powers, &f, i, &mut weights[from..to]);
+        a += 1;
+        i = next(set, i + 1);
+    }
+    weights
+}
