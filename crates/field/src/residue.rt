@@ -30,21 +30,21 @@ pub fn product(a: u32, b: u32, p: u32) -> u32
     (a * b) % p
 }
 
-// The square of the power at half of e, times a where e is odd; m is the reciprocal of p.
-fn raise(a: u32, e: u32, p: u32, m: u64) -> u32
-    requires { ⌜ (p ≤ 65521) × (a < p) × (m ≡ 4294967296 / p) ⌝ }
-    ensures equals { λ r. ⌜ r ≡ powerOf p a e ⌝ }
+// s times a to the power e, from the power of the square of a at half of e; m is the reciprocal of p. The two products of a step do not wait for each
+// other.
+fn raise(s: u32, a: u32, e: u32, p: u32, m: u64) -> u32
+    requires { ⌜ (p ≤ 65521) × (s < p) × (a < p) × (m ≡ 4294967296 / p) ⌝ }
+    ensures equals { λ r. ⌜ r ≡ times p s (powerOf p a e) ⌝ }
     ensures below { λ r. ⌜ r < p ⌝ }
 {
     if e == 0 {
-        return 1 % p;
+        return s;
     }
-    let root = raise(a, e / 2, p, m);
-    let square = remainder(root * root, p, m);
+    let square = remainder(a * a, p, m);
     if e % 2 == 0 {
-        return square;
+        return raise(s, square, e / 2, p, m);
     }
-    remainder(square * a, p, m)
+    raise(remainder(s * a, p, m), square, e / 2, p, m)
 }
 
 // a to the power e.
@@ -53,7 +53,7 @@ pub fn power(a: u32, e: u32, p: u32) -> u32
     ensures equals { λ r. ⌜ r ≡ powerOf p a e ⌝ }
     ensures below { λ r. ⌜ r < p ⌝ }
 {
-    raise(a, e, p, reciprocal(p))
+    raise(1 % p, a, e, p, reciprocal(p))
 }
 
 // The inverse of a modulo a prime p, where a is not 0.
