@@ -59,6 +59,19 @@ pub prime-undivided : (p : ℕ) → Prime p → Undivided p p
 prime-undivided p prime e low high z =
     ⊎-elim (λ is-one. omega arith) (λ is-p. omega arith) (prime .divisor e (p / e) (mul-comm e (p / e) ∙ exact p e z))
 
+-- an odd number has no even divisor
+odd-undivided : (p e : ℕ) → (p % 2 ≡ 0 → ⊥) → e % 2 ≡ 0 → p % e ≡ 0 → ⊥
+odd-undivided p e odd even z =
+    let half : e ≡ e / 2 * 2 = omega arith in
+    let twice : p / e * (e / 2 * 2) ≡ p = ap (λ (x : ℕ). p / e * x) (sym half) ∙ exact p e z in
+    odd (omega arith)
+
+-- for an odd p, past an odd d comes the next odd one
+pub undivided-two-more : (p d : ℕ) → (p % 2 ≡ 0 → ⊥) → d % 2 ≡ 1 → Undivided p d → (p % d ≡ 0 → ⊥) → Undivided p (d + 2)
+undivided-two-more p d odd d-odd h here =
+    let next = undivided-more p (suc d) (undivided-more p d h here) (odd-undivided p (suc d) odd (omega arith)) in
+    λ e low high. next e low (omega arith)
+
 -- a divisor up to the square root is neither 1 nor p
 pub divided-below-root : (p d : ℕ) → 2 ≤ d → d * d ≤ p → p % d ≡ 0 → Prime p → ⊥
 divided-below-root p d low root z prime =
