@@ -1,8 +1,8 @@
 -- Remainders without a division. The quotient of q·y by p comes from the ratio of q to p in parts of a power of two (Barrett for q = 1, Shoup): it is
 -- right or one too small, so at most one p is left to take off; and a difference of residues goes below 0 by less than p. Assumes nothing.
-use mathlib.Core.Path.{_≡_, sym, ap, _∙_}
+use mathlib.Core.Path.{_≡_, refl, sym, ap, _∙_}
 use Prim.Native.Nat.{ℕ, _+_, _-_, _*_, _/_, _%_, _≤_, _<_}
-use native.Mathlib.Nat.{add-mul-mod-self-right, div-add-mod', div-le-self, div-lt-iff-lt-mul, div-mul-le-self, le-of-mul-le-mul-right, lt-div-mul-add, lt-of-mul-lt-mul-right, mod-eq-of-lt, mod-lt, mul-le-mul, mul-le-mul-right}
+use native.Mathlib.Nat.{add-mul-mod-self-right, div-add-mod', div-le-self, div-lt-iff-lt-mul, div-mul-le-self, le-of-mul-le-mul-right, lt-div-mul-add, lt-of-mul-lt-mul-right, mod-eq-of-lt, mod-lt, mul-le-mul, mul-le-mul-left, mul-le-mul-right, one-mul}
 use native.Mathlib.Omega.{arith}
 
 -- a number below p that differs from v by a multiple of p is the remainder
@@ -17,6 +17,17 @@ pub reciprocal-fits : (p : ℕ) {v m : ℕ} → v < 4294967296 → m ≡ 4294967
 reciprocal-fits p {v} {m} hv eq =
     let small : m ≤ 4294967296 = rw eq (div-le-self 4294967296 p) in
     omega (arith, mul-le-mul small (let e : v ≤ 4294967295 = omega arith in e))
+
+-- a sum of 129 products of residues times the wide reciprocal of p
+pub wide-reciprocal-fits : {p v m : ℕ} → p ≤ 65521 → v ≤ 129 * (p * p) → m ≡ 1099511627776 / p → m * v < 18446744073709551616
+wide-reciprocal-fits {p} {v} {m} small hv eq =
+    let part : m * p ≤ 1099511627776 = rw eq (div-mul-le-self 1099511627776 p) in
+    let whole : m * v ≤ m * (129 * (p * p)) = mul-le-mul-left m hv in
+    let scaled : m * p * (129 * p) ≤ 1099511627776 * 8452209 = mul-le-mul part (let e : 129 * p ≤ 8452209 = omega arith in e) in
+    omega arith
+
+pub wide-below : {p v : ℕ} → p ≤ 65521 → v ≤ 129 * (p * p) → v ≤ 1099511627776
+wide-below {p} {v} small hv = omega (arith, mul-le-mul small small)
 
 pub ratio-fits : {p q : ℕ} → q < p → q * 65536 / p < 65536
 ratio-fits {p} {q} less = div-lt-iff-lt-mul {k = p} {x = q * 65536} {y = 65536} (omega arith) .1 (omega arith)
@@ -47,6 +58,21 @@ module _ {b p v w t : ℕ} (q y : ℕ) (base : 0 < b) (pos : 0 < p) (within : y 
   corrected above =
       let below : v - t * p - p < p = omega (arith, one-short) in
       (remainder-is v (t + 1) p (v - t * p - p) (omega (arith, not-above)) below, below)
+
+-- ---- a reciprocal of p in parts of b: m·v / b is the quotient of v by p, or one less (Barrett)
+
+module _ {b p v m : ℕ} (base : 0 < b) (pos : 0 < p) (within : v ≤ b) (reciprocal : m ≡ b / p) where
+  part-of-one : m ≡ 1 * b / p
+  part-of-one = rw one-mul reciprocal
+
+  pub reciprocal-not-above : m * v / b * p ≤ v
+  reciprocal-not-above = not-above 1 v base pos within (sym (one-mul v)) part-of-one refl
+
+  pub reciprocal-right : v - m * v / b * p < p → v - m * v / b * p ≡ v % p
+  reciprocal-right = right 1 v base pos within (sym (one-mul v)) part-of-one refl
+
+  pub reciprocal-corrected : p ≤ v - m * v / b * p → (v - m * v / b * p - p ≡ v % p) × (v - m * v / b * p - p < p)
+  reciprocal-corrected = corrected 1 v base pos within (sym (one-mul v)) part-of-one refl
 
 -- ---- the difference of two residues
 
