@@ -1,12 +1,15 @@
 -- How the code keeps the state of Algorithm 4 between steps: the lengths and places in a struct by value, the taps in an array of 129 entries,
 -- and the saved registers of the eight sequences one after the other in one flat array of 8 × 129.
 use mathlib.Core.Path.{_≡_}
+use mathlib.Core.Bool.{cond}
 use mathlib.Core.List.{List}
 use Prim.Native.Nat.{ℕ, suc, _+_, _-_, _*_, _≤_, _<_, max}
+use lib.Dec.{ltb}
 use lib.ListN.{length, getD, take, drop}
 use Rattle.field.specs.Residue.{inverse}
 use Rattle.finder.specs.declared.Progress.{Progress}
 use Rattle.register.specs.Algorithm4.{State}
+use Rattle.register.specs.Register.{discrepancy}
 
 -- the part of the flat array that belongs to sequence h
 abbrev pub block : ℕ → List ℕ → List ℕ
@@ -25,6 +28,10 @@ stateOf g taps saved =
             taps = take (suc (getD (g .sizes) h 0)) (block h saved);
           };
     }
+
+-- the discrepancy at (n, h) of a register of length l with the taps σ, s being sequence h, or 0 where nothing is asked for
+unfoldable pub dueAt : (p N l : ℕ) (σ s : List ℕ) (n : ℕ) → ℕ
+dueAt p N l σ s n = cond (ltb (l + (N - length s)) n) (discrepancy p l σ s (n + length s - N)) 0
 
 -- the arrays are whole, the entries of the taps past the register are 0, so that a longer one grows into zeros, and beside each discrepancy stands its
 -- inverse modulo p

@@ -70,17 +70,19 @@ pub fn longest(lengths: &[u16]) -> usize
     most
 }
 
+// No early return, so that many symbols are compared at once.
 fn below(symbols: &[u16], p: u32) -> bool
     ensures { λ r. ⌜ r ≡ isBelow p (now (symbols .entry)) ⌝ }
 {
+    let mut all = true;
     let mut i = 0;
     while i < symbols.len() {
         if symbols[i] as u32 >= p {
-            return false;
+            all = false;
         }
         i += 1;
     }
-    true
+    all
 }
 
 // The refusal of the first test that fails.

@@ -1,7 +1,8 @@
 // The rounds of Algorithm 4: its start, each round, all of them, and the alone mark at the end.
 use crate::Order;
 use crate::Progress;
-use crate::step::step;
+use crate::step::change;
+use crate::step::due;
 ghost use mathlib.Core.Path.{_≡_};
 ghost use Prim.Native.Nat.{ℕ, _+_, _≤_, _<_, min};
 ghost use lib.ListN.{getD};
@@ -31,7 +32,7 @@ pub fn start(longest: usize, order: Order, count: usize) -> Progress
     g
 }
 
-// Round n + 1: a step for each sequence.
+// Round n + 1: a step for each sequence. Where no change is due, nothing of the state is copied.
 fn round(
     p: u32,
     longest: usize,
@@ -53,7 +54,10 @@ fn round(
     while h < count {
         let a = order.starts[h] as usize;
         let e = a + (order.lengths[h] as usize);
-        state = step(p, longest, &symbols[a..e], n + 1, h, state, taps, saved);
+        let d = due(p, longest, state.length, taps, &symbols[a..e], n + 1);
+        if d != 0 {
+            state = change(p, n + 1, h, d, state, taps, saved);
+        }
         h += 1;
     }
     state

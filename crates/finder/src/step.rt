@@ -1,15 +1,30 @@
-// One step (n, h) of Algorithm 4. Its state can be kept between calls: `Progress` by value, the taps and the saved registers in two arrays.
+// One step (n, h) of Algorithm 4: the discrepancy that is due, and the change by it where it is not 0. The state can be kept between steps: `Progress`
+// by value, the taps and the saved registers in two arrays.
 use crate::Progress;
 use crate::discrepancy::discrepancy_at;
 use crate::reduce::keep;
 use crate::reduce::reduce;
 ghost use mathlib.Core.Path.{_≡_};
-ghost use Rattle.register.specs.Algorithm4.{step, changed};
-ghost use Rattle.finder.specs.Progress.{stateOf, Ended, Ready, Changeable, Stepped};
+ghost use Prim.Native.Nat.{_≤_};
+ghost use lib.ListN.{length};
+ghost use Rattle.register.specs.Algorithm4.{changed};
+ghost use Rattle.finder.specs.Progress.{stateOf, dueAt, Ended, Changeable, Stepped};
+
+// The discrepancy at (n, h) of a register of length l, s being sequence h, or 0 where nothing is asked for.
+pub fn due(p: u32, longest: usize, l: usize, taps: &[u16; 129], s: &[u16], n: usize) -> u32
+    requires { ⌜ (2 ≤ p) × (longest ≤ 128) × (length (now s) ≤ longest) × (l ≤ n) × (n ≤ longest) ⌝ }
+    ensures { λ r. ⌜ r ≡ dueAt p longest l (now (taps .entry)) (now (s .entry)) n ⌝ }
+{
+    let gap = longest - s.len();
+    if n <= l + gap {
+        return 0;
+    }
+    discrepancy_at(p, l, taps, s, n - gap)
+}
 
 // The change by a discrepancy d at (n, h). It divides by the saved discrepancy with the inverse kept beside it; an inverse is worked out only when a
 // register is saved.
-fn change(
+pub fn change(
     p: u32,
     n: usize,
     h: usize,
@@ -41,30 +56,4 @@ fn change(
     next.discs[h] = d as u16;
     next.inverses[h] = field::residue::inverse(d, p) as u16;
     next
-}
-
-pub fn step(
-    p: u32,
-    longest: usize,
-    s: &[u16],
-    n: usize,
-    h: usize,
-    g: Progress,
-    taps: &mut [u16; 129],
-    saved: &mut [u16; 1032],
-) -> Progress
-    requires { ⌜ Ready p longest (now s) n h (stateOf g (now taps) (now saved)) ⌝ }
-    requires { ⌜ Ended p g (now taps) (now saved) ⌝ }
-    ensures { λ r. ⌜ Stepped p (step p longest (now (s .entry)) n h (stateOf g (now (taps .entry)) (now (saved .entry)))) r (now (taps .exit)) (now (saved .exit)) ⌝ }
-{
-    let l = g.length;
-    let gap = longest - s.len();
-    if n <= l + gap {
-        return g;
-    }
-    let d = discrepancy_at(p, l, taps, s, n - gap);
-    if d == 0 {
-        return g;
-    }
-    change(p, n, h, d, g, taps, saved)
 }

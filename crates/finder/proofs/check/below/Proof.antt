@@ -1,25 +1,26 @@
--- `below` answers whether every symbol is below p. The invariant: the symbols passed are. Assumes nothing.
+-- `below` answers whether every symbol is below p. The invariant: it is what the symbols passed answer. Assumes nothing.
 use mathlib.Core.Path.{_≡_, sym}
-use mathlib.Core.Bool.{true}
+use mathlib.Core.Logic.{⊎-elim}
 use Prim.Native.Nat.{_-_, _≤_}
 use native.Mathlib.Omega.{arith}
 use borrow.Author.Needs.{needs}
 use borrow.Author.Tests.{lt-ltb, le-ltb}
 use lib.Dec.{ltb}
 use lib.ListN.{length, getD}
-use Rattle.lists.proofs.Tabulated.{every-zero, every-more, every-all, every-fails}
+use Rattle.lists.proofs.Tabulated.{every-zero}
 use Rattle.lists.specs.Tabulate.{every}
+use Rattle.finder.proofs.Checks.{every-kept, every-lost, every-passed}
 use Rattle.finder.proofs.check.below.Statement.{statement}
 use Rattle.finder.proofs.check.below.Tie as tie
 
 abbrev Inv-loop : tie.InvT-loop
-Inv-loop symbols p i₀ i = (i ≤ length symbols) × (every i (λ k. ltb (getD symbols k 0) p) ≡ true)
+Inv-loop symbols p all₀ i₀ all i = (i ≤ length symbols) × (all ≡ every i (λ k. ltb (getD symbols k 0) p))
 
 abbrev μ-loop : tie.MeasureT-loop
-μ-loop symbols p i₀ i = length symbols - i
+μ-loop symbols p all₀ i₀ all i = length symbols - i
 
 loop-holds : tie.Need-loop-holds Inv-loop μ-loop
-loop-holds c = (search needs, every-zero _)
+loop-holds c = (search needs, sym (every-zero _))
 
 mul-if1 : tie.Need-mul-if1 Inv-loop μ-loop
 mul-if1 c = search needs
@@ -30,9 +31,6 @@ shared-slice-read-if1 c = search needs
 cast-if1 : tie.Need-cast-if1 Inv-loop μ-loop
 cast-if1 c = omega (arith, c .shared-slice-known .given (c .before .before .loop .i))
 
-returns : tie.Need-returns Inv-loop μ-loop
-returns c = sym (every-fails _ _ (c .before .before .before .loop .i) (search needs) (le-ltb _ _ (c .if1 .taken)))
-
 add-i : tie.Need-add-i Inv-loop μ-loop
 add-i c = search needs
 
@@ -40,10 +38,14 @@ loop-less : tie.Need-loop-less Inv-loop μ-loop
 loop-less c = search needs
 
 loop-again : tie.Need-loop-again Inv-loop μ-loop
-loop-again c = (search needs, every-more _ _ (c .before .before .before .loop .inv .1) (lt-ltb _ _ (c .if1 .left)))
+loop-again c =
+    let at = c .before .before .before .loop in (
+      search needs,
+      ⊎-elim (λ w. every-lost _ _ (w .1) (le-ltb _ _ (w .0 .taken))) (λ w. every-kept _ _ (at .inv .1) (w .1) (lt-ltb _ _ (w .0 .left))) (c .if1 .came),
+    )
 
-returns-2 : tie.Need-returns-2 Inv-loop μ-loop
-returns-2 c = every-all _ (c .before .loop .inv .1) (omega arith)
+returns : tie.Need-returns Inv-loop μ-loop
+returns c = every-passed _ (c .before .loop .inv .1) (omega arith)
 
 pub below-spec : {M : Type 1} → statement M
 below-spec =
@@ -55,8 +57,7 @@ below-spec =
     mul-if1
     shared-slice-read-if1
     cast-if1
-    returns
     add-i
     loop-less
     loop-again
-    returns-2)
+    returns)

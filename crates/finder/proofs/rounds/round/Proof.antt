@@ -1,4 +1,5 @@
 -- `round` makes a round of Algorithm 4. The invariant: the sequences passed have had their step. Assumes nothing.
+use mathlib.Core.Logic.{⊎-elim}
 use Prim.Native.Nat.{_+_, _-_, _≤_}
 use native.Mathlib.Omega.{arith}
 use borrow.Author.Needs.{needs}
@@ -6,6 +7,7 @@ use Rattle.register.specs.Algorithm4.{turn, rounds}
 use Rattle.finder.specs.Places.{sequencesAt}
 use Rattle.finder.specs.Rounds.{Reached}
 use Rattle.finder.proofs.Running.{ready, stepped, round-begins, round-ends}
+use Rattle.finder.proofs.Steps.{due-asks, resting, changeable, changing, same-after}
 use Rattle.finder.proofs.rounds.round.Statement.{statement}
 use Rattle.finder.proofs.rounds.round.Tie as tie
 
@@ -40,26 +42,37 @@ cast-e c = search needs
 add-e : tie.Need-add-e Inv-loop μ-loop
 add-e c = omega (arith, c .before .before .before .before .before .pre .0 .within (c .before .before .before .loop .h) (search needs))
 
-mul-step : tie.Need-mul-step Inv-loop μ-loop
-mul-step c = omega (arith, c .before .before .before .before .before .pre .0 .within (c .before .before .before .loop .h) (search needs))
+mul-due : tie.Need-mul-due Inv-loop μ-loop
+mul-due c = omega (arith, c .before .before .before .before .before .before .pre .0 .within (c .before .before .before .before .loop .h) (search needs))
 
-sub-step : tie.Need-sub-step Inv-loop μ-loop
-sub-step c = search needs
+sub-due : tie.Need-sub-due Inv-loop μ-loop
+sub-due c = search needs
 
-part-step-start : tie.Need-part-step-start Inv-loop μ-loop
-part-step-start c = search needs
+part-due-start : tie.Need-part-due-start Inv-loop μ-loop
+part-due-start c = search needs
 
-part-step-end : tie.Need-part-step-end Inv-loop μ-loop
-part-step-end c = omega (arith, c .before .before .before .before .before .pre .0 .within (c .before .before .before .loop .h) (search needs))
+part-due-end : tie.Need-part-due-end Inv-loop μ-loop
+part-due-end c = omega (arith, c .before .before .before .before .before .before .pre .0 .within (c .before .before .before .before .loop .h) (search needs))
 
-add-step : tie.Need-add-step Inv-loop μ-loop
-add-step c = search needs
+add-due : tie.Need-add-due Inv-loop μ-loop
+add-due c = search needs
 
-step-requires : tie.Need-step-requires Inv-loop μ-loop
-step-requires c κs =
-    let at = c .before .before .before .before .before .before .loop in
-    let pre = c .before .before .before .before .before .before .before .before .pre in
-    (ready (pre .0) (pre .1 .0) (search needs) (at .inv .1), at .inv .1 .ended)
+due-requires : tie.Need-due-requires Inv-loop μ-loop
+due-requires c κs =
+    let at = c .before .before .before .before .before .loop in
+    let pre = c .before .before .before .before .before .before .before .pre in
+    due-asks (ready (pre .0) (pre .1 .0) (search needs) (at .inv .1)) (at .inv .1 .ended)
+
+add-change : tie.Need-add-change Inv-loop μ-loop
+add-change c = search needs
+
+change-requires : tie.Need-change-requires Inv-loop μ-loop
+change-requires c κs =
+    let computed = c .before .before .before in
+    let at = computed .before .before .before .before .before .before .loop in
+    let pre = computed .before .before .before .before .before .before .before .before .pre in
+    let begun = ready (pre .0) (pre .1 .0) (search needs) (at .inv .1) in
+    (changeable begun (at .inv .1 .ended) (computed .due .ensures) (c .before .before .if1 .taken), at .inv .1 .ended)
 
 add-h : tie.Need-add-h Inv-loop μ-loop
 add-h c = search needs
@@ -71,7 +84,15 @@ loop-again : tie.Need-loop-again Inv-loop μ-loop
 loop-again c =
     let at = c .before .before .before .before .before .before .before .loop in
     let pre = c .before .before .before .before .before .before .before .before .before .pre in
-    (search needs, stepped (pre .0) (pre .1 .0) (search needs) (at .inv .1) (c .step .ensures))
+    let begun = ready (pre .0) (pre .1 .0) (search needs) (at .inv .1) in
+    let due = c .before .due .ensures in (
+      search needs,
+      stepped (pre .0) (pre .1 .0) (search needs) (at .inv .1)
+          (⊎-elim
+          (λ w. same-after (w .6) (w .4) (w .5) (changing begun (at .inv .1 .ended) due (w .0 .taken) (w .3 .ensures)))
+          (λ w. same-after (w .3) (w .1) (w .2) (resting begun (at .inv .1 .ended) due (w .0 .left)))
+          (c .if1 .came)),
+    )
 
 returns : tie.Need-returns Inv-loop μ-loop
 returns c = round-ends (c .before .before .before .pre .0) _ _ (omega arith) (c .before .loop .inv .1)
@@ -90,12 +111,14 @@ round-spec =
     element-copy-out-e
     cast-e
     add-e
-    mul-step
-    sub-step
-    part-step-start
-    part-step-end
-    add-step
-    step-requires
+    mul-due
+    sub-due
+    part-due-start
+    part-due-end
+    add-due
+    due-requires
+    add-change
+    change-requires
     add-h
     loop-less
     loop-again
