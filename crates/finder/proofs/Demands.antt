@@ -106,20 +106,24 @@ module _ (p : ℕ) (lengths symbols buffer : List ℕ) (l : ℕ) (mark : Bool) (
   same-mark : alone ≡ mark
   same-mark = registers-same size l alone mark is-found .1
 
-  taps : length σ ≡ suc l
-  taps = omega (arith, shortest .shortest .generator .register .taps, same-size)
+  pub tap-count : length σ ≡ suc l
+  tap-count = omega (arith, shortest .shortest .generator .register .taps, same-size)
 
-  left : tapsLeft p lengths symbols buffer ≡ σ ++ drop (suc l) buffer
+  pub taps-left : tapsLeft p lengths symbols buffer ≡ σ ++ drop (suc l) buffer
   unfolding tapsLeft
-  left = given-passed (λ _. buffer) _ ts ok ∙ ap (λ (n : ℕ). σ ++ drop n buffer) taps
+  taps-left = given-passed (λ _. buffer) _ ts ok ∙ ap (λ (n : ℕ). σ ++ drop n buffer) tap-count
+
+  -- the first entries of the buffer
+  pub first-left : take (suc l) (tapsLeft p lengths symbols buffer) ≡ σ
+  first-left = ap (take (suc l)) taps-left ∙ take-at σ (drop (suc l) buffer) (suc l) tap-count
 
   written : Written p lengths symbols buffer l mark
   written =
       record {
         found =
-            rw (ap (take (suc l)) left ∙ take-at σ (drop (suc l) buffer) (suc l) taps, ← same-mark)
+            rw (first-left, ← same-mark)
             (subst (λ (m : ℕ). IsShortest p m ss σ alone) same-size shortest);
-        kept = ap (drop (suc l)) left ∙ drop-at σ (drop (suc l) buffer) (suc l) taps;
+        kept = ap (drop (suc l)) taps-left ∙ drop-at σ (drop (suc l) buffer) (suc l) tap-count;
       }
 
 pub demand-2 : Demand2

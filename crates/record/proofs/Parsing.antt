@@ -1,6 +1,6 @@
 -- What a record is, by the tests of its bytes and of its fields. Assumes nothing.
 use mathlib.Core.Path.{_≡_, refl, sym, ap, ap₂, _∙_}
-use mathlib.Core.Bool.{Bool, true, false, cond, _&&_, and-false}
+use mathlib.Core.Bool.{Bool, true, false, cond, _&&_}
 use mathlib.Core.List.{List}
 use Prim.Native.Nat.{ℕ, _+_, _-_, _*_, _%_, _/_, _≤_, _<_, min}
 use native.Mathlib.Nat.{min-eq-left, sub-zero}
@@ -14,7 +14,7 @@ use Rattle.reader.specs.declared.Field.the-variants.{Value, End}
 use Rattle.reader.proofs.Filling.{length-fields}
 use Rattle.reader.proofs.Handed.{value-means, end-means}
 use Rattle.record.specs.Line.{refusalLine, outputOf, lineOf}
-use Rattle.record.specs.Record.{Record, bad, sequences, frame, claimedBy, isWhole, bodyOf, recordOf}
+use Rattle.record.specs.Record.{Record, bad, sequences, frame, claimedBy, isWhole, ofKind, countedOf, bodyOf, recordOf}
 
 module _ (bytes : List ℕ) where
   pub claims : (n : ℕ) → Value n ≡ fieldAt bytes (2 * 0) → n ≡ claimedBy bytes
@@ -54,61 +54,53 @@ pub bad-line : (r : Record) → r ≡ bad → refusalLine 9 ≡ outputOf r
 unfolding outputOf
 bad-line r e = ap outputOf (sym e)
 
+rest : (n : ℕ) (xs : List ℕ) → take (length xs - n) (drop n xs) ≡ drop n xs
+rest n xs = take-all (length xs - n) (drop n xs) (omega (arith, length-drop n xs))
+
+cond-same : (b c : Bool) → cond b bad (cond c bad bad) ≡ bad
+cond-same true c = refl
+cond-same false true = refl
+cond-same false false = refl
+
+module _ (kind n : ℕ) (counted symbols : List ℕ) where
+  pub kind-sequences : kind ≡ 1 → sequences n counted symbols ≡ ofKind kind n counted symbols
+  kind-sequences e = rw (eq-eqb kind 1 e) refl
+
+  pub kind-frame : (kind ≡ 1 → ⊥) → frame n counted symbols ≡ ofKind kind n counted symbols
+  kind-frame h = rw (ne-eqb kind 1 h) refl
+
 -- what the fields from the kind on say, by the tests of the kind and of the number of fields
 module _ (xs : List ℕ) where
-  neither : (eqb (getD xs 0 0) 1 && leb (3 + getD xs 2 0) (length xs)) ≡ false
-      → (eqb (getD xs 0 0) 2 && leb (3 + getD xs 1 0) (length xs)) ≡ false → bodyOf xs ≡ bad
-  unfolding bodyOf
-  neither p q = rw (p, q) refl
+  module _ (made : List ℕ → List ℕ → Record) (n : ℕ) where
+    pub counted-short : length xs < 3 + n → countedOf made n xs ≡ bad
+    unfolding countedOf
+    counted-short h = rw (lt-leb (3 + n) (length xs) h) refl
 
-  other-kind : (k count : ℕ) → (getD xs 0 0 ≡ k → ⊥) → (eqb (getD xs 0 0) k && leb (3 + count) (length xs)) ≡ false
-  other-kind k count h = ap (λ (b : Bool). b && leb (3 + count) (length xs)) (ne-eqb (getD xs 0 0) k h)
-
-  too-short : (k count : ℕ) → length xs < 3 + count → (eqb (getD xs 0 0) k && leb (3 + count) (length xs)) ≡ false
-  too-short k count h =
-      ap (λ (b : Bool). eqb (getD xs 0 0) k && b) (lt-leb (3 + count) (length xs) h) ∙ and-false (eqb (getD xs 0 0) k)
+    -- the counted fields and those after them, as parts that end at 3 + n
+    pub counted-said : 3 + n ≤ length xs
+        → made (take (3 + n - 3) (drop 3 xs)) (take (length xs - (3 + n)) (drop (3 + n) xs)) ≡ countedOf made n xs
+    unfolding countedOf
+    counted-said h =
+        ap₂ made (ap (λ (k : ℕ). take k (drop 3 xs)) (let e : 3 + n - 3 ≡ n = omega arith in e)) (rest (3 + n) xs) ∙
+        rw (le-leb (3 + n) (length xs) h) refl
 
   pub body-short : length xs < 3 → bodyOf xs ≡ bad
-  body-short h = neither (too-short 1 (getD xs 2 0) (omega arith)) (too-short 2 (getD xs 1 0) (omega arith))
+  unfolding bodyOf
+  body-short h =
+      rw (counted-short (sequences (getD xs 1 0)) (getD xs 2 0) (omega arith), counted-short (frame (getD xs 2 0)) (getD xs 1 0) (omega arith))
+      (cond-same (eqb (getD xs 0 0) 1) (eqb (getD xs 0 0) 2))
 
   pub body-unknown : (getD xs 0 0 ≡ 1 → ⊥) → (getD xs 0 0 ≡ 2 → ⊥) → bodyOf xs ≡ bad
-  body-unknown p q = neither (other-kind 1 (getD xs 2 0) p) (other-kind 2 (getD xs 1 0) q)
+  unfolding bodyOf
+  body-unknown p q = rw (ne-eqb (getD xs 0 0) 1 p, ne-eqb (getD xs 0 0) 2 q) refl
 
-  -- the counted fields and those after them, as parts that end at 3 + n
-  counted : (n : ℕ) → take (3 + n - 3) (drop 3 xs) ≡ take n (drop 3 xs)
-  counted n = ap (λ (k : ℕ). take k (drop 3 xs)) (let e : 3 + n - 3 ≡ n = omega arith in e)
+  pub body-sequences : getD xs 0 0 ≡ 1 → countedOf (ofKind (getD xs 0 0) (getD xs 1 0)) (getD xs 2 0) xs ≡ bodyOf xs
+  unfolding bodyOf
+  body-sequences kind = rw (eq-eqb (getD xs 0 0) 1 kind) refl
 
-  pub rest : (n : ℕ) → take (length xs - n) (drop n xs) ≡ drop n xs
-  rest n = take-all (length xs - n) (drop n xs) (omega (arith, length-drop n xs))
-
-  module _ (kind : getD xs 0 0 ≡ 1) (n : ℕ) (count : n ≡ getD xs 2 0) where
-    pub sequences-short : length xs < 3 + n → bodyOf xs ≡ bad
-    sequences-short h = neither (too-short 1 (getD xs 2 0) (omega arith)) (other-kind 2 (getD xs 1 0) (λ e. let z : ⊥ = omega arith in z))
-
-    said : 3 + getD xs 2 0 ≤ length xs → sequences (getD xs 1 0) (take (getD xs 2 0) (drop 3 xs)) (drop (3 + getD xs 2 0) xs) ≡ bodyOf xs
-    unfolding bodyOf
-    said h = rw (eq-eqb (getD xs 0 0) 1 kind, le-leb (3 + getD xs 2 0) (length xs) h) refl
-
-    pub sequences-said : 3 + n ≤ length xs
-        → sequences (getD xs 1 0) (take (3 + n - 3) (drop 3 xs)) (take (length xs - (3 + n)) (drop (3 + n) xs)) ≡ bodyOf xs
-    sequences-said h =
-        ap₂ (sequences (getD xs 1 0)) (counted n) (rest (3 + n)) ∙
-        ap (λ (k : ℕ). sequences (getD xs 1 0) (take k (drop 3 xs)) (drop (3 + k) xs)) count ∙ said (omega arith)
-
-  module _ (kind : getD xs 0 0 ≡ 2) (n : ℕ) (count : n ≡ getD xs 1 0) where
-    pub frame-short : length xs < 3 + n → bodyOf xs ≡ bad
-    frame-short h = neither (other-kind 1 (getD xs 2 0) (λ e. let z : ⊥ = omega arith in z)) (too-short 2 (getD xs 1 0) (omega arith))
-
-    framed : 3 + getD xs 1 0 ≤ length xs → frame (getD xs 2 0) (take (getD xs 1 0) (drop 3 xs)) (drop (3 + getD xs 1 0) xs) ≡ bodyOf xs
-    unfolding bodyOf
-    framed h =
-        rw (ne-eqb (getD xs 0 0) 1 (λ e. let z : ⊥ = omega arith in z), eq-eqb (getD xs 0 0) 2 kind, le-leb (3 + getD xs 1 0) (length xs) h) refl
-
-    pub frame-said : 3 + n ≤ length xs
-        → frame (getD xs 2 0) (take (3 + n - 3) (drop 3 xs)) (take (length xs - (3 + n)) (drop (3 + n) xs)) ≡ bodyOf xs
-    frame-said h =
-        ap₂ (frame (getD xs 2 0)) (counted n) (rest (3 + n)) ∙
-        ap (λ (k : ℕ). frame (getD xs 2 0) (take k (drop 3 xs)) (drop (3 + k) xs)) count ∙ framed (omega arith)
+  pub body-frame : getD xs 0 0 ≡ 2 → countedOf (ofKind (getD xs 0 0) (getD xs 2 0)) (getD xs 1 0) xs ≡ bodyOf xs
+  unfolding bodyOf
+  body-frame kind = rw (ne-eqb (getD xs 0 0) 1 (λ e. let z : ⊥ = omega arith in z), eq-eqb (getD xs 0 0) 2 kind) refl
 
 -- a record that is not whole is bad; the fields of a whole one are read into entries enough
 module _ (bytes : List ℕ) (b : Bool) (tested : b ≡ isWhole bytes) where
@@ -126,8 +118,8 @@ module _ (bytes : List ℕ) (b : Bool) (tested : b ≡ isWhole bytes) where
     where
       read : take n after ≡ fieldsOf (drop 2 bytes)
       read =
-          let part = ap length (rest bytes 2) in
+          let part = ap length (rest 2 bytes) in
           let d = length-drop 2 bytes in
           let all : n ≡ length (take (length bytes - 2) (drop 2 bytes)) / 2 = e ∙ min-eq-left (omega arith) in
-          f .read ∙ ap (λ (l : List ℕ). take n (fieldsOf l)) (rest bytes 2) ∙
+          f .read ∙ ap (λ (l : List ℕ). take n (fieldsOf l)) (rest 2 bytes) ∙
           take-all n (fieldsOf (drop 2 bytes)) (rw (length-fields (drop 2 bytes)) (omega arith))

@@ -1,24 +1,20 @@
 -- The line of a record of sequences, by what the finder answers and leaves in its tap buffer. Assumes nothing.
 use mathlib.Core.Path.{_≡_, sym, ap, ap₂, _∙_, subst}
 use mathlib.Core.Bool.{Bool}
-use mathlib.Core.List.{List, _++_}
+use mathlib.Core.List.{List}
 use Prim.Native.Nat.{ℕ, suc, _+_, _-_, _≤_}
 use native.Mathlib.Nat.{sub-zero}
 use native.Mathlib.Numerals.{add-one}
 use native.Mathlib.Omega.{arith}
 use lib.ListN.{length, take, drop, length-append}
-use lib.Seq.{take-at}
-use Rattle.field.specs.Prime.{isModulus}
-use Rattle.field.proofs.Modulus.{modulus-prime}
-use Rattle.finder.specs.Finder.{Answer, register, refused, answerOf, tests, answer, tapsLeft}
+use Rattle.finder.specs.Finder.{Answer, register, refused, answerOf, answer, tapsLeft}
 use Rattle.finder.specs.declared.Found.{Found}
 use Rattle.finder.specs.declared.Found.the-variants.{Register, Refused}
+use Rattle.finder.proofs.Demands.{tap-count, taps-left, first-left}
 use Rattle.refusal.specs.Number.{number}
 use Rattle.refusal.specs.declared.Refusal.{Refusal}
-use Rattle.refusal.proofs.Orders.{Pass, no-fail, by-tests, pass-otherwise}
-use Rattle.register.specs.Algorithm4.{found, foundAlone}
+use Rattle.register.specs.Algorithm4.{found}
 use Rattle.register.specs.Sequences.{longest, split}
-use Rattle.register.proofs.Bounds.{bounded-rounds}
 use Rattle.record.specs.Line.{refusalLine, registerLine, outputOf}
 use Rattle.record.specs.Record.{sequences}
 use Rattle.record.specs.Answered.{tapCount, foundLine}
@@ -37,35 +33,17 @@ module _ (p : ℕ) (lengths symbols : List ℕ) where
     refused-line k a = ap (λ (x : Answer). registerLine x taps) (ap (answer p lengths symbols) (sym width) ∙ sym a)
 
     module _ (l : ℕ) (a : Bool) (answered : register l a ≡ answer p lengths symbols (length buffer)) where
-      passes : Pass (tests p lengths symbols (length buffer)) × (found p ss (longest ss) .size ≡ l)
-      unfolding answer
-      passes =
-          by-tests refused (register (found p ss (longest ss) .size) (foundAlone p ss (longest ss)))
-          (λ x. register l a ≡ x → Pass (tests p lengths symbols (length buffer)) × (found p ss (longest ss) .size ≡ l))
-          (tests p lengths symbols (length buffer))
-          (λ k among e. absurd (let z : _≡_ {A = ℕ} 0 1 = cc in let b : ⊥ = omega arith in b)) (λ pass e. (pass, cc)) answered
-
-      two : 2 ≤ p
-      unfolding tests
-      two = modulus-prime p (no-fail (isModulus p) (passes .0 .0)) .0 .two-or-more
-
-      tap-count : length taps ≡ suc l
-      unfolding found
-      tap-count = bounded-rounds p (longest ss) _ two (longest ss) .taps ∙ ap suc (passes .1)
-
-      buffer-left : left ≡ taps ++ drop (length taps) buffer
-      unfolding tapsLeft
-      buffer-left = written ∙ pass-otherwise (λ k. buffer) (taps ++ drop (length taps) buffer) (tests p lengths symbols (length buffer)) (passes .0)
-
-      taps-left : take (l + 1) left ≡ taps
-      taps-left = ap (take (l + 1)) buffer-left ∙ take-at taps (drop (length taps) buffer) (l + 1) (tap-count ∙ sym (add-one l))
+      taps-written : take (l + 1) left ≡ taps
+      taps-written = ap₂ take (add-one l) written ∙ first-left p lengths symbols buffer l a (sym answered)
 
       register-line : outputOf (sequences p lengths symbols) ≡ registerLine (register l a) (take (l + 1) left)
       unfolding outputOf
-      register-line = ap₂ registerLine (ap (answer p lengths symbols) (sym width) ∙ sym answered) (sym taps-left)
+      register-line = ap₂ registerLine (ap (answer p lengths symbols) (sym width) ∙ sym answered) (sym taps-written)
 
       taps-fit : l + 1 ≤ length left
-      taps-fit = let e = ap length buffer-left ∙ length-append taps (drop (length taps) buffer) in omega (arith, tap-count)
+      taps-fit =
+          let e = ap length (written ∙ taps-left p lengths symbols buffer l a (sym answered)) ∙ length-append taps (drop (suc l) buffer) in
+          omega (arith, tap-count p lengths symbols buffer l a (sym answered))
 
     pub found-taps : (r : Found) → answerOf r ≡ answer p lengths symbols (length buffer) → tapCount r ≤ length left
     found-taps (Register l a) e = taps-fit l a e

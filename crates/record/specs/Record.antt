@@ -20,16 +20,20 @@ claimedBy bytes = cond (leb 2 (length bytes)) (fieldOf bytes 0) 0
 unfoldable pub isWhole : List ℕ → Bool
 isWhole bytes = leb 2 (claimedBy bytes) && (eqb (claimedBy bytes % 2) 0 && eqb (length bytes) (2 + claimedBy bytes))
 
--- The fields from the kind on. Kind 1: p, count, lengths, symbols. Kind 2: rows, columns, check counts, symbols. The fields before the symbols are there.
+-- a record by its kind, of the two that there are
+abbrev pub ofKind : (kind n : ℕ) → List ℕ → List ℕ → Record
+ofKind kind n = cond (eqb kind 1) (sequences n) (frame n)
+
+-- after three fields, as many as are counted, and the symbols; the fields before the symbols are there
+unfoldable pub countedOf : (made : List ℕ → List ℕ → Record) (count : ℕ) → List ℕ → Record
+countedOf made count xs = cond (leb (3 + count) (length xs)) (made (take count (drop 3 xs)) (drop (3 + count) xs)) bad
+
+-- The fields from the kind on. Kind 1: p, count, lengths, symbols. Kind 2: rows, columns, check counts, symbols.
 unfoldable pub bodyOf : List ℕ → Record
 bodyOf xs =
     let kind : ℕ = getD xs 0 0 in
-    let holds : ℕ → Bool = λ count. leb (3 + count) (length xs) in
-    cond (eqb kind 1 && holds (getD xs 2 0))
-    (sequences (getD xs 1 0) (take (getD xs 2 0) (drop 3 xs)) (drop (3 + getD xs 2 0) xs))
-    (cond (eqb kind 2 && holds (getD xs 1 0))
-    (frame (getD xs 2 0) (take (getD xs 1 0) (drop 3 xs)) (drop (3 + getD xs 1 0) xs))
-    bad)
+    cond (eqb kind 1) (countedOf (sequences (getD xs 1 0)) (getD xs 2 0) xs)
+    (cond (eqb kind 2) (countedOf (frame (getD xs 2 0)) (getD xs 1 0) xs) bad)
 
 unfoldable pub recordOf : List ℕ → Record
 recordOf bytes = cond (isWhole bytes) (bodyOf (fieldsOf (drop 2 bytes))) bad

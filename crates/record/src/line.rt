@@ -11,10 +11,10 @@ use reader::fields;
 use refusal::Checked;
 use refusal::Refusal;
 ghost use mathlib.Core.Path.{_≡_};
-ghost use Prim.Native.Nat.{_+_, _≤_, _<_};
+ghost use Prim.Native.Nat.{_+_, _≤_};
 ghost use lib.ListN.{length, getD};
 ghost use Rattle.record.specs.Line.{outputOf, lineOf};
-ghost use Rattle.record.specs.Record.{sequences, frame, bodyOf};
+ghost use Rattle.record.specs.Record.{sequences, frame, ofKind, countedOf, bodyOf};
 ghost use Rattle.record.specs.Written.{Written};
 
 // The finder's tap buffer has room for the longest length that it takes.
@@ -44,38 +44,39 @@ fn frame_line(out: &mut [u8], at: usize, n: u16, checks: &[u16], symbols: &[u16]
     reply_line(out, at, reply, located.columns)
 }
 
-fn wide(x: u16) -> usize
-    ensures { λ r. ⌜ (r ≡ x) × (r < 65536) ⌝ }
-{
-    x as usize
-}
-
-// Kind 1: p, count, lengths, symbols.
-fn sequences_line(out: &mut [u8], at: usize, xs: &[u16]) -> usize
-    requires { ⌜ (at + 1024 ≤ length (now out)) × (3 ≤ length (now xs)) × (getD (now xs) 0 0 ≡ 1) ⌝ }
-    ensures { λ r. ⌜ Written (now (out .entry)) at (outputOf (bodyOf (now (xs .entry)))) (now (out .exit)) r ⌝ }
+// A record by its kind, of the two that there are.
+fn parts_line(
+    out: &mut [u8],
+    at: usize,
+    kind: u16,
+    n: u16,
+    counted: &[u16],
+    symbols: &[u16],
+) -> usize
+    requires { ⌜ at + 1024 ≤ length (now out) ⌝ }
+    ensures { λ r. ⌜ Written (now (out .entry)) at (outputOf (ofKind kind n (now (counted .entry)) (now (symbols .entry)))) (now (out .exit)) r ⌝ }
     ensures { λ r. ⌜ r ≤ at + 1024 ⌝ }
 {
-    let end = 3 + wide(xs[2]);
+    if kind == 1 {
+        return register_line(out, at, n, counted, symbols);
+    }
+    frame_line(out, at, n, counted, symbols)
+}
+
+// After three fields, one of them n, those that `count` counts and the symbols.
+fn counted_line(out: &mut [u8], at: usize, xs: &[u16], n: u16, count: u16) -> usize
+    requires { ⌜ (at + 1024 ≤ length (now out)) × (3 ≤ length (now xs)) ⌝ }
+    ensures { λ r. ⌜ Written (now (out .entry)) at (outputOf (countedOf (ofKind (getD (now (xs .entry)) 0 0) n) count (now (xs .entry)))) (now (out .exit)) r ⌝ }
+    ensures { λ r. ⌜ r ≤ at + 1024 ⌝ }
+{
+    let end = 3 + count as usize;
     if xs.len() < end {
         return refusal_line(out, at, Refusal::BadRecord);
     }
-    register_line(out, at, xs[1], &xs[3..end], &xs[end..])
+    parts_line(out, at, xs[0], n, &xs[3..end], &xs[end..])
 }
 
-// Kind 2: rows, columns, check counts, symbols.
-fn rows_line(out: &mut [u8], at: usize, xs: &[u16]) -> usize
-    requires { ⌜ (at + 1024 ≤ length (now out)) × (3 ≤ length (now xs)) × (getD (now xs) 0 0 ≡ 2) ⌝ }
-    ensures { λ r. ⌜ Written (now (out .entry)) at (outputOf (bodyOf (now (xs .entry)))) (now (out .exit)) r ⌝ }
-    ensures { λ r. ⌜ r ≤ at + 1024 ⌝ }
-{
-    let end = 3 + wide(xs[1]);
-    if xs.len() < end {
-        return refusal_line(out, at, Refusal::BadRecord);
-    }
-    frame_line(out, at, xs[2], &xs[3..end], &xs[end..])
-}
-
+// Kind 1: p, count, lengths, symbols. Kind 2: rows, columns, check counts, symbols.
 fn body_line(out: &mut [u8], at: usize, xs: &[u16]) -> usize
     requires { ⌜ at + 1024 ≤ length (now out) ⌝ }
     ensures { λ r. ⌜ Written (now (out .entry)) at (outputOf (bodyOf (now (xs .entry)))) (now (out .exit)) r ⌝ }
@@ -85,10 +86,10 @@ fn body_line(out: &mut [u8], at: usize, xs: &[u16]) -> usize
         return refusal_line(out, at, Refusal::BadRecord);
     }
     if xs[0] == 1 {
-        return sequences_line(out, at, xs);
+        return counted_line(out, at, xs, xs[1], xs[2]);
     }
     if xs[0] == 2 {
-        return rows_line(out, at, xs);
+        return counted_line(out, at, xs, xs[2], xs[1]);
     }
     refusal_line(out, at, Refusal::BadRecord)
 }

@@ -1,0 +1,41 @@
+-- `record::line::parts_line` meets its contract. Assumes nothing.
+use mathlib.Core.Path.{ap}
+use borrow.Author.Needs.{needs}
+use Rattle.record.specs.Line.{outputOf}
+use Rattle.record.proofs.Parsing.{kind-sequences, kind-frame}
+use Rattle.record.proofs.Writing.{written-as}
+use Rattle.record.proofs.line.parts_line.Statement.{statement}
+use Rattle.record.proofs.line.parts_line.Tie as tie
+
+register-line-requires : tie.Need-register-line-requires
+register-line-requires c κs = search needs
+
+same-length : tie.Need-same-length
+same-length c = search needs
+
+returns : tie.Need-returns
+returns c =
+    let line = c .before .before .register-line .ensures in
+    (written-as _ _ _ _ _ _ (ap outputOf (kind-sequences (c .before .before .before .before .before .before .before .before .args .kind) _ _ _ (search needs))) (line .0), line .1)
+
+frame-line-requires : tie.Need-frame-line-requires
+frame-line-requires c κs = search needs
+
+same-length-2 : tie.Need-same-length-2
+same-length-2 c = search needs
+
+returns-2 : tie.Need-returns-2
+returns-2 c =
+    let line = c .before .before .frame-line .ensures in
+    (written-as _ _ _ _ _ _ (ap outputOf (kind-frame (c .before .before .before .before .before .before .before .before .args .kind) _ _ _ (search needs))) (line .0), line .1)
+
+pub parts-line-spec : {M : Type 1} → statement M
+parts-line-spec =
+    tie.close
+    (tie.spec
+    register-line-requires
+    same-length
+    returns
+    frame-line-requires
+    same-length-2
+    returns-2)
