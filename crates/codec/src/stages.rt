@@ -25,7 +25,7 @@ fn padded(x: &[u16]) -> [u16; 256]
 }
 
 // Adds w times x to the cells.
-fn add_multiple(cells: &mut [u32], x: &[u16], w: u16)
+pub fn add_multiple(cells: &mut [u32], x: &[u16], w: u16)
     requires { ⌜ (length (now cells) ≡ length (now x))
         × ((k : ℕ) → k < length (now x) → getD (now cells) k 0 + getD (now x) k 0 * w < 4294967296) ⌝ }
     ensures { λ r. ⌜ now (cells .exit)
