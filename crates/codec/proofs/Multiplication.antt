@@ -24,11 +24,11 @@ module _ (from : List ℕ) (x : ℕ) where
     pub kept : below ≡ shifted 1 from k
     pub fits : Fits w16 below
 
-  shifted-zero : shifted 1 from 0 ≡ 0
+  pub shifted-zero : shifted 1 from 0 ≡ 0
   unfolding shifted
   shifted-zero = refl
 
-  shifted-next : (k : ℕ) → shifted 1 from (k + 1) ≡ getD from k 0
+  pub shifted-next : (k : ℕ) → shifted 1 from (k + 1) ≡ getD from k 0
   unfolding shifted
   shifted-next k =
       ap₂ (λ (b : Bool) (m : ℕ). cond b 0 (getD from m 0)) (le-ltb (k + 1) 1 (omega arith)) (let q : k + 1 - 1 ≡ k = omega arith in q)
