@@ -1,0 +1,65 @@
+-- `encoder::encode::encode_frame` meets its contract: by each way its answer and the frame that it leaves. Assumes nothing.
+use mathlib.Core.Path.{refl, sym, _∙_}
+use mathlib.Core.Bool.{true, false}
+use native.Mathlib.Omega.{arith}
+use borrow.Author.Tests.{eq-eqb, ne-eqb, not-true, not-false}
+use Rattle.refusal.specs.Outcome.{passed, refused}
+use Rattle.codec.proofs.FrameTests.{by-encode-tests}
+use Rattle.codec.proofs.RowPlace.{frame-small}
+use borrow.Author.Needs.{needs}
+use Rattle.encoder.proofs.encode.encode_frame.Statement.{statement}
+use Rattle.encoder.proofs.encode.encode_frame.Tie as tie
+
+mul-if1 : tie.Need-mul-if1
+mul-if1 c = omega (arith, frame-small _ (c .before .before .pre))
+
+returns : tie.Need-returns
+returns c =
+    let frame = c .before .before .before .args .frame .now in
+    let size = ne-eqb _ _ (c .if1 .taken) in
+    (by-encode-tests refused passed _ frame false _ size refl, by-encode-tests (λ k. frame) _ _ frame false _ size refl)
+
+data-below-requires : tie.Need-data-below-requires
+data-below-requires c κs = search needs
+
+same-length : tie.Need-same-length
+same-length c = search needs
+
+returns-2 : tie.Need-returns-2
+returns-2 c =
+    let frame = c .before .before .before .before .before .before .args .frame .now in
+    let size = eq-eqb _ _ (c .before .before .before .if1 .left) in
+    let symbols = sym (c .before .data-below .ensures) ∙ not-true _ (c .if2 .taken) in
+    (by-encode-tests refused passed _ frame true false size symbols, by-encode-tests (λ k. frame) _ _ frame true false size symbols)
+
+fill-checks-requires : tie.Need-fill-checks-requires
+fill-checks-requires c κs = (
+  c .before .before .before .before .before .before .before .pre,
+  c .before .before .before .before .if1 .left,
+  sym (c .before .before .data-below .ensures) ∙ not-false _ (c .before .if2 .left),
+)
+
+same-length-2 : tie.Need-same-length-2
+same-length-2 c = search needs
+
+returns-3 : tie.Need-returns-3
+returns-3 c =
+    let frame = c .before .before .before .before .before .before .before .before .before .before .args .frame .now in
+    let size = eq-eqb _ _ (c .before .before .before .before .before .before .before .if1 .left) in
+    let symbols = sym (c .before .before .before .before .before .data-below .ensures) ∙ not-false _ (c .before .before .before .before .if2 .left) in (
+      by-encode-tests refused passed _ frame true true size symbols,
+      c .before .before .fill-checks .ensures ∙ by-encode-tests (λ k. frame) _ _ frame true true size symbols,
+    )
+
+pub encode-frame-spec : {M : Type 1} → statement M
+encode-frame-spec =
+    tie.close
+    (tie.spec
+    mul-if1
+    returns
+    data-below-requires
+    same-length
+    returns-2
+    fill-checks-requires
+    same-length-2
+    returns-3)

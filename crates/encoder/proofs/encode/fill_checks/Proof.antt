@@ -1,0 +1,153 @@
+-- `encoder::encode::fill_checks` meets its contract. Assumes nothing.
+use mathlib.Core.Path.{ap}
+use Prim.Native.Nat.{_-_, _≤_}
+use native.Mathlib.Omega.{arith}
+use lib.ListN.{length}
+use Rattle.codec.proofs.RowPlace.{RowPlace, row-place}
+use Rattle.codec.proofs.RowsCompleted.{RowsCompleted, completed-none, completed-more, completed-all, length-part}
+use Rattle.frame.specs.Encode.{encoded}
+use Rattle.frame.specs.Shape.{checksOf}
+use Rattle.frame.proofs.Encoding.{firstColumns}
+use Rattle.frame.proofs.Shapes.{shape-ranges}
+use Rattle.encoder.specs.Generator.{Generator}
+use Rattle.encoder.proofs.RowData.{row-small}
+use borrow.Author.Needs.{needs}
+use Rattle.encoder.proofs.encode.fill_checks.Statement.{statement}
+use Rattle.encoder.proofs.encode.fill_checks.Tie as tie
+
+abbrev Inv-loop : tie.InvT-loop
+Inv-loop frame₀ s rows columns count₀ held₀ h₀ frame count held h =
+    RowsCompleted columns rows (λ i. firstColumns (checksOf s i)) frame₀ h frame × Generator count held
+
+abbrev μ-loop : tie.MeasureT-loop
+μ-loop frame₀ s rows columns count₀ held₀ h₀ frame count held h = rows - h
+
+place : (c : tie.In-loop Inv-loop μ-loop) →
+    let args = c .before .before .before .before .before .before .args in
+    RowPlace (args .t1) (length (args .frame .now)) (c .before .loop .h)
+place c =
+    let start = c .before .before .before .before .before .before in
+    row-place (start .args .t1) (length (start .args .frame .now)) (c .before .loop .h) (start .pre .0) (start .pre .1) (c .loop-test .taken)
+
+element-copy-out-wide : tie.Need-element-copy-out-wide Inv-loop μ-loop
+element-copy-out-wide c = search needs
+
+wide-requires : tie.Need-wide-requires Inv-loop μ-loop
+wide-requires c κs = search needs
+
+cast-count : tie.Need-cast-count Inv-loop μ-loop
+cast-count c = omega arith
+
+generator-requires : tie.Need-generator-requires Inv-loop μ-loop
+generator-requires c κs =
+    let start = c .before .before .before in
+    let r = shape-ranges (start .args .t1) (start .pre .0) in
+    omega (arith, c .wide .ensures .0, r .checks 0 (r .rows-least) .most)
+
+loop-holds : tie.Need-loop-holds Inv-loop μ-loop
+loop-holds c = (completed-none _ _ _ _, c .generator .ensures)
+
+mul-wide : tie.Need-mul-wide Inv-loop μ-loop
+mul-wide c = let p = place c in omega arith
+
+element-copy-out-wide-2 : tie.Need-element-copy-out-wide-2 Inv-loop μ-loop
+element-copy-out-wide-2 c = let p = place c in omega arith
+
+wide-requires-2 : tie.Need-wide-requires-2 Inv-loop μ-loop
+wide-requires-2 c κs = search needs
+
+cast-checks : tie.Need-cast-checks Inv-loop μ-loop
+cast-checks c = omega arith
+
+generator-for-requires : tie.Need-generator-for-requires Inv-loop μ-loop
+generator-for-requires c κs =
+    let p = place (c .before .before) in
+    (c .before .before .before .loop .inv .1, omega (arith, c .wide2 .ensures .0))
+
+mul-a : tie.Need-mul-a Inv-loop μ-loop
+mul-a c = let p = place (c .before .before .before) in omega arith
+
+add-e : tie.Need-add-e Inv-loop μ-loop
+add-e c = let p = place (c .before .before .before) in omega arith
+
+slice-aggregate-encode-row : tie.Need-slice-aggregate-encode-row Inv-loop μ-loop
+slice-aggregate-encode-row c = omega arith
+
+mul-encode-row : tie.Need-mul-encode-row Inv-loop μ-loop
+mul-encode-row c = let p = place (c .before .before .before .before) in omega arith
+
+sub-encode-row : tie.Need-sub-encode-row Inv-loop μ-loop
+sub-encode-row c = omega arith
+
+part-encode-row-start : tie.Need-part-encode-row-start Inv-loop μ-loop
+part-encode-row-start c = let p = place (c .before .before .before .before) in omega arith
+
+part-encode-row-end : tie.Need-part-encode-row-end Inv-loop μ-loop
+part-encode-row-end c =
+    let p = place (c .before .before .before .before) in let q = c .before .before .before .before .before .loop .inv .0 .size in omega arith
+
+encode-row-requires : tie.Need-encode-row-requires Inv-loop μ-loop
+encode-row-requires c κs =
+    let inside = c .before .before .before .before .before in
+    let at = inside .before in
+    let start = at .before .before .before .before .before in
+    let p = place inside in
+    let size = length-part _ _ _ _ _ _ (at .loop .inv .0) (p .inside) in
+    let count = c .before .before .before .wide2 .ensures .0 in (
+      c .before .before .generator-for .ensures,
+      omega (arith, size, count),
+      omega (arith, size),
+      (λ i le l. row-small (start .args .t1) _ (start .pre .2) _ (inside .loop-test .taken) _ _ (at .loop .inv .0) (p .inside) i (omega (arith, count)) (omega (arith, size))),
+    )
+
+add-h : tie.Need-add-h Inv-loop μ-loop
+add-h c = let p = place (c .before .before .before .before .before .before .before .before) in omega arith
+
+loop-less : tie.Need-loop-less Inv-loop μ-loop
+loop-less c = let t = c .before .before .before .before .before .before .before .before .loop-test .taken in omega arith
+
+loop-again : tie.Need-loop-again Inv-loop μ-loop
+loop-again c =
+    let inside = c .before .before .before .before .before .before .before .before in
+    let at = inside .before in (
+      completed-more _ _ _ _ _ _ (at .loop .inv .0) (place inside .inside) _ _ (inside .loop-test .taken)
+          (ap firstColumns (c .before .before .before .before .before .before .wide2 .ensures .0)) (c .before .before .encode-row .ensures),
+      c .before .before .before .before .before .generator-for .ensures,
+    )
+
+same-length : tie.Need-same-length Inv-loop μ-loop
+same-length c = c .before .loop .inv .0 .size
+
+returns : tie.Need-returns Inv-loop μ-loop
+unfolding encoded
+returns c = completed-all _ _ _ _ _ _ (c .before .loop .inv .0) (c .loop-test .left)
+
+pub fill-checks-spec : {M : Type 1} → statement M
+fill-checks-spec =
+    tie.close
+    (tie.spec
+    Inv-loop
+    μ-loop
+    element-copy-out-wide
+    wide-requires
+    cast-count
+    generator-requires
+    loop-holds
+    mul-wide
+    element-copy-out-wide-2
+    wide-requires-2
+    cast-checks
+    generator-for-requires
+    mul-a
+    add-e
+    slice-aggregate-encode-row
+    mul-encode-row
+    sub-encode-row
+    part-encode-row-start
+    part-encode-row-end
+    encode-row-requires
+    add-h
+    loop-less
+    loop-again
+    same-length
+    returns)
