@@ -1,6 +1,5 @@
 pub mod Accumulation
 pub mod BlockSums
-pub mod CheckColumns
 pub mod FoldedRows
 pub mod FoldedSums
 pub mod FrameTests

@@ -1,8 +1,8 @@
 -- The weights of the columns in a check sum, in the field: that of a + k is the product of those of a and of k, that of column 1 in S_j is 3^j, the root
 -- of the generator polynomial. Assumes nothing.
-use mathlib.Core.Path.{_≡_, refl, sym, ap, _∙_}
+use mathlib.Core.Path.{_≡_, sym, ap, _∙_}
 use mathlib.Core.List.{List}
-use Prim.Native.Nat.{ℕ, suc, _+_, _-_, _*_, _%_, _^_, _≤_}
+use Prim.Native.Nat.{ℕ, suc, _+_, _-_, _*_, _^_, _≤_}
 use native.Mathlib.Nat.{mod-self}
 use native.Mathlib.Omega.{arith}
 use Rattle.algebra.specs.Ring.{CRing}

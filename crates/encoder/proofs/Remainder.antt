@@ -14,7 +14,6 @@ use mir.Val.{Fits}
 use lib.Dec.{lit<, ltb}
 use lib.ListN.{length, getD, List·getD-eq-default}
 use Rattle.algebra.specs.Ring.{CRing}
-use Rattle.columns.specs.Columns.{has}
 use Rattle.columns.proofs.Marks.{has-columnsOf}
 use Rattle.field.proofs.Bridge.{res-zero, res-mod}
 use Rattle.field.proofs.Prime257.{prime-257}
@@ -30,7 +29,7 @@ use Rattle.lists.proofs.Parts.{replaced-in}
 use Rattle.lists.proofs.Tabulated.{length-tabulate, getD-tabulate}
 use Rattle.encoder.proofs.CheckWeights.{res-negative, sum-is-zero}
 use Rattle.encoder.proofs.WeighedSums.{remainder-put}
-open CRing R257 using (zero as 𝟘, neg)
+open CRing R257 using (neg)
 
 module _ (m : ℕ) (x cells : List ℕ) (fewer : m ≤ length x) (narrow : length x ≤ 256) (room : length cells ≡ 256)
     (filled : (k : ℕ) → getD cells k 0 ≡ cond (ltb k m) 0 (getD x k 0)) where

@@ -4,7 +4,6 @@
 use mathlib.Core.Path.{_≡_, sym, ap, ap₂, _∙_}
 use mathlib.Core.List.{[], _∷_}
 use Prim.Native.Nat.{ℕ, suc, _+_, _<_}
-use native.Mathlib.Nat.{lt-suc-self, le-step}
 use native.Mathlib.Numerals.{add-one}
 use Rattle.algebra.specs.Ring.{CRing}
 use Rattle.algebra.specs.Sum.{sum}

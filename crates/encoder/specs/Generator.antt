@@ -6,7 +6,7 @@ use lib.ListN.{length, getD}
 use Rattle.frame.specs.Frame.{checkSum}
 
 -- The coefficients of minus the product of z − 3^j over j = 1 .. m: the leading one is −1, and as a row of m + 1 columns they have the check sums
--- S_1 .. S_m, the values at 3^1 .. 3^m, equal to 0. No other residues are so.
+-- S_1 .. S_m, the values at 3^1 .. 3^m, equal to 0. (The leading coefficient and m roots determine a polynomial of degree m.)
 pub record Generator (m : ℕ) (g : List ℕ) : Type 0 where
   pub size : m < length g
   pub below : (k : ℕ) → getD g k 0 < 257

@@ -2,7 +2,7 @@
 // dividing by it adds and never subtracts.
 use codec::powers::wide;
 ghost use mathlib.Core.Path.{_≡_};
-ghost use Prim.Native.Nat.{ℕ, _+_, _-_, _*_, _%_, _≤_, _<_};
+ghost use Prim.Native.Nat.{_+_, _-_, _*_, _%_, _≤_, _<_};
 ghost use lib.ListN.{length, getD};
 ghost use Rattle.encoder.specs.Generator.{Generator};
 ghost use Rattle.field.specs.Coefficients.{shifted};

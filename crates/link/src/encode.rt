@@ -1,6 +1,6 @@
 // Encoding: the job is read for its shape, and kept.
 use crate::sound::counts_as_empty;
-use completion::encode::encode_frame;
+use encoder::encode::encode_frame;
 use job::Job;
 use refusal::Checked;
 use refusal::Refusal;

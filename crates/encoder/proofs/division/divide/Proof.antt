@@ -1,7 +1,6 @@
 -- `encoder::division::divide` meets its contract. Assumes nothing.
 use native.Mathlib.Omega.{arith}
 use Rattle.encoder.proofs.DivisionSteps.{Divided, divided-none, divided-more, divided-all, same-size, added-fits}
-use borrow.Author.Needs.{needs}
 use Rattle.encoder.proofs.division.divide.Statement.{statement}
 use Rattle.encoder.proofs.division.divide.Tie as tie
 

@@ -7,7 +7,6 @@ use lib.Dec.{ltb}
 use lib.ListN.{length, getD}
 use Rattle.lists.specs.Tabulate.{tabulate}
 use Rattle.lists.proofs.Filling.{Filled, filled-none, filled-more}
-use borrow.Author.Needs.{needs}
 use Rattle.encoder.proofs.division.put_negatives.Statement.{statement}
 use Rattle.encoder.proofs.division.put_negatives.Tie as tie
 

@@ -1,5 +1,4 @@
 -- `encoder::generator::generator` meets its contract. Assumes nothing.
-use mathlib.Core.Path.{_≡_}
 use Prim.Native.Nat.{_-_, _≤_}
 use native.Mathlib.Omega.{arith}
 use Rattle.encoder.proofs.GeneratorBuilding.{Building, building-none, building-more, generator-built}
