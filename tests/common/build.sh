@@ -5,13 +5,18 @@ out=target/rust
 flags=(--edition 2024 -C opt-level=3 -C codegen-units=1 -D warnings --check-cfg 'cfg(library, flint)' --out-dir "$out" -L "$out")
 mkdir -p "$out"
 
+# quietly COMMAND..: what it says is shown where it fails
+quietly() {
+  if ! "$@" >"$out/quietly.log" 2>&1; then
+    cat "$out/quietly.log"
+    exit 1
+  fi
+}
+
 # Proves the library and has the programs link its archive.
 with_library() {
   echo "proving the library and writing its archive .."
-  if ! rt staticlib capi >"$out/staticlib.log" 2>&1; then
-    cat "$out/staticlib.log"
-    exit 1
-  fi
+  quietly rt staticlib capi
   flags+=(--cfg library)
   linked+=(-C link-arg=target/staticlib/libcapi.a)
 }

@@ -1,9 +1,11 @@
-//! Compares every call of the library with an independent implementation, on many inputs that are
-//! the same in every run. With `--plain` the plain implementation of the benchmarks takes the
-//! library's place. `tests/run` builds and runs it.
+//! Compares every call of the library, and what the program prints, with an independent
+//! implementation, on many inputs that are the same in every run. With `--plain` the plain
+//! implementation of the benchmarks takes the library's place, and the program is not run.
+//! `tests/run` builds and runs it.
 
 mod independent;
 mod judge;
+mod records;
 mod trials;
 
 use std::process::ExitCode;
@@ -12,9 +14,13 @@ use std::time::Instant;
 use common::interface::Calls;
 use judge::Judge;
 
+fn plain() -> bool {
+    std::env::args().nth(1).as_deref() == Some("--plain")
+}
+
 fn subject() -> Box<dyn Calls> {
     #[cfg(library)]
-    if std::env::args().nth(1).as_deref() != Some("--plain") {
+    if !plain() {
         return Box::new(common::interface::Library);
     }
     Box::new(plain::Plain)
@@ -36,7 +42,11 @@ const TRIALS: [(&str, Trial); 8] = [
 fn main() -> ExitCode {
     let subject = subject();
     let mut judge = Judge::new(&*subject);
-    for (name, run) in TRIALS {
+    let mut trials = TRIALS.to_vec();
+    if !plain() {
+        trials.push(("program", trials::program::run));
+    }
+    for (name, run) in trials {
         let start = Instant::now();
         run(&mut judge);
         println!("{name}: {:.1} s", start.elapsed().as_secs_f64());

@@ -6,6 +6,7 @@ pub mod forged;
 pub mod frames;
 pub mod layout;
 pub mod lists;
+pub mod program;
 pub mod shapes;
 pub mod vectors;
 

@@ -1,0 +1,138 @@
+//! The program on streams of records: good ones, bad ones, random bytes, streams cut short, and many
+//! records. It answers a line for each, whether the bytes come all at once or a few at a time.
+
+use std::io::{Read, Write};
+use std::process::{Command, Stdio};
+use std::thread;
+use std::time::Duration;
+
+use common::random::Random;
+
+use crate::judge::Judge;
+use crate::records::lines;
+use crate::trials::vectors::VECTORS;
+use crate::trials::{damaged, malformed, some_legal_frame, some_shape};
+
+/// What the program prints, and whether it ended well, within a minute.
+fn answers(pieces: Vec<Vec<u8>>) -> (bool, String) {
+    let mut program = Command::new("timeout")
+        .args(["60", "target/bin/tomkhadi"])
+        .stdin(Stdio::piped())
+        .stdout(Stdio::piped())
+        .spawn()
+        .expect("the program starts");
+    let mut stdin = program.stdin.take().expect("it has an input");
+    let writer = thread::spawn(move || {
+        for piece in &pieces {
+            stdin.write_all(piece).expect("it reads all of its input");
+            if pieces.len() > 1 {
+                thread::sleep(Duration::from_micros(20));
+            }
+        }
+    });
+    let mut printed = String::new();
+    let mut stdout = program.stdout.take().expect("it has an output");
+    stdout.read_to_string(&mut printed).expect("it prints text");
+    writer.join().expect("the input is written");
+    let status = program.wait().expect("it ends");
+    (status.success(), printed)
+}
+
+fn at_once(judge: &mut Judge, input: &[u8]) {
+    let expected = lines(judge, input);
+    let got = answers(vec![input.to_vec()]);
+    judge.compare("the program", &input, (true, expected), got);
+}
+
+fn slowly(judge: &mut Judge, random: &mut Random, mut input: &[u8]) {
+    let expected = lines(judge, input);
+    let mut pieces = Vec::new();
+    while !input.is_empty() {
+        let (piece, rest) = input.split_at(random.from_to(1, 7).min(input.len()));
+        pieces.push(piece.to_vec());
+        input = rest;
+    }
+    let got = answers(pieces);
+    judge.compare("the program on pieces", &(), (true, expected), got);
+}
+
+/// The record of the fields, with the length that they have.
+fn record(fields: &[u16]) -> Vec<u8> {
+    let bytes = fields.iter().flat_map(|field| field.to_le_bytes());
+    let length = 2 * fields.len() as u16;
+    length.to_le_bytes().into_iter().chain(bytes).collect()
+}
+
+fn some_sequences(random: &mut Random) -> Vec<u8> {
+    let p = random.pick(&[2, 3, 257, 65521, 4, 1]);
+    let lengths: Vec<u16> = (0..random.from_to(1, 4))
+        .map(|_| random.from_to(0, 20) as u16)
+        .collect();
+    let order = random.below(6);
+    let symbols = random.generated(p, &lengths, order);
+    let head = [1, p as u16, lengths.len() as u16];
+    record(&[&head, &lengths[..], &symbols].concat())
+}
+
+fn some_frame(random: &mut Random) -> Vec<u8> {
+    let shape = some_shape(random, 30);
+    let sent = some_legal_frame(random, &shape);
+    let count = random.below(shape.least_checks() + 1);
+    let mut frame = damaged(random, &shape, &sent, count.min(shape.columns));
+    if random.once_in(4) {
+        frame = malformed(random, &shape, &sent);
+    }
+    let head = [2, shape.checks.len() as u16, shape.columns as u16];
+    record(&[&head, &shape.checks[..], &frame].concat())
+}
+
+/// A record whose length is that of random bytes, odd or even, with a kind that may be known.
+fn some_bytes(random: &mut Random, most: usize) -> Vec<u8> {
+    let length = random.below(most + 1);
+    let mut bytes: Vec<u8> = (0..length).map(|_| random.bits() as u8).collect();
+    if let Some(kind) = bytes.first_chunk_mut() {
+        *kind = [random.below(4) as u8, 0];
+    }
+    [&(length as u16).to_le_bytes()[..], &bytes].concat()
+}
+
+fn some_stream(random: &mut Random) -> Vec<u8> {
+    let mut stream = Vec::new();
+    for _ in 0..random.from_to(1, 40) {
+        stream.extend(match random.below(8) {
+            0..3 => some_sequences(random),
+            3..6 => some_frame(random),
+            6 => some_bytes(random, 12),
+            _ => some_bytes(random, 65535),
+        });
+    }
+    for _ in 0..random.below(3) {
+        let place = random.below(stream.len());
+        stream[place] = random.bits() as u8;
+    }
+    if random.once_in(2) {
+        stream.truncate(random.below(stream.len()));
+    }
+    stream
+}
+
+pub fn run(judge: &mut Judge) {
+    let mut random = Random::new(8);
+    let vectors: Vec<u8> = VECTORS
+        .iter()
+        .flat_map(|&(records, _)| records)
+        .copied()
+        .collect();
+    slowly(judge, &mut random, &vectors);
+    for size in 0..5 {
+        at_once(judge, &vectors[..size]);
+    }
+    at_once(judge, &[0; 2_000_000]);
+    at_once(judge, &[0xff; 200_000]);
+    for _ in 0..100 {
+        let stream = some_stream(&mut random);
+        at_once(judge, &stream);
+    }
+    let stream = some_stream(&mut random);
+    slowly(judge, &mut random, &stream[..stream.len().min(20_000)]);
+}
