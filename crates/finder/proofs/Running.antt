@@ -6,6 +6,7 @@ use native.Mathlib.Nat.{add-sub-cancel-left}
 use native.Mathlib.Numerals.{add-one}
 use native.Mathlib.Omega.{arith}
 use lib.ListN.{length, getD, take, drop}
+use lib.Seq.{getD-take, getD-drop}
 use Rattle.lists.proofs.Tabulated.{length-tabulate, getD-tabulate}
 use Rattle.register.proofs.Bounds.{Bounded, bounded-later, bounded-turn, bounded-rounds}
 use Rattle.register.specs.Algorithm4.{Saved, State, start, step, turn, rounds}
@@ -45,6 +46,13 @@ module _ {p N : ℕ} {o : Order} {k : ℕ} {symbols : List ℕ} (r : Running p N
   length-part h b =
       ap length (part-is h b ∙ sequence-at o k symbols h b) ∙ length-within (getD (o .starts) h 0) (getD (o .lengths) h 0) symbols (r .within h b)
 
+  part-below : (h : ℕ) → h < k → (i : ℕ) → i < length (part h) → getD (part h) i 0 < p
+  part-below h b i less =
+      let a : ℕ = getD (o .starts) h 0 in
+      let n : ℕ = getD (o .lengths) h 0 in
+      let small : i < a + n - a = omega (arith, length-part h b) in
+      rw (getD-take (a + n - a) (drop a symbols) i 0 small, getD-drop a symbols i 0) (r .residues (a + i) (omega (arith, r .within h b)))
+
   -- in round n + 1, when h sequences have had their step
   abbrev pub during : (n h : ℕ) → State
   during n h = turn p N ss (n + 1) h (rounds p N ss n)
@@ -71,6 +79,7 @@ module _ {p N : ℕ} {o : Order} {k : ℕ} {symbols : List ℕ} (r : Running p N
           place = rw (ap (λ (w : Saved). w .place) v, part-is h more) (b .place h);
           saved-size = subst (λ (w : Saved). w .size ≤ w .place) (sym v) (b .saved-size h);
           residues = λ i. rw (a .taps) (b .residues i);
+          symbols = λ i b. part-below h more i b;
         }
 
     pub stepped : {g′ : Progress} {taps′ saved′ : List ℕ} →

@@ -3,7 +3,7 @@
 use mathlib.Core.Path.{_≡_, refl, sym, ap, _∙_}
 use mathlib.Core.Logic.{_≢_, _⊎_, inl, inr, ⊎-elim}
 use mathlib.Core.List.{List}
-use Prim.Native.Nat.{ℕ, suc, _+_, _-_, _*_, _%_, _≤_, _<_}
+use Prim.Native.Nat.{ℕ, suc, _+_, _-_, _*_, _/_, _%_, _≤_, _<_}
 use native.Mathlib.Decide.{decLt}
 use native.Mathlib.Omega.{arith}
 use borrow.Author.Tests.{lt-ltb, le-ltb}
@@ -15,7 +15,7 @@ use Rattle.register.proofs.Cases.{step-cases}
 use Rattle.register.specs.Algorithm4.{State, step, changed}
 use Rattle.register.specs.Register.{discrepancy}
 use Rattle.register.specs.Sequences.{symbol}
-use Rattle.finder.specs.Progress.{stateOf, dueAt, Ended, Ready, Changeable, Stepped}
+use Rattle.finder.specs.Progress.{stateOf, dueAt, Summable, Ended, Ready, Changeable, Stepped}
 use Rattle.finder.specs.declared.Progress.{Progress}
 
 -- a discrepancy looks at the register's own taps only
@@ -42,9 +42,20 @@ module _ {p N : ℕ} {s : List ℕ} {n h : ℕ} {g : Progress} {taps saved : Lis
   abbrev st : State
   st = stateOf g taps saved
 
-  pub due-asks : (2 ≤ p) × (N ≤ 128) × (length s ≤ N) × (g .length ≤ n) × (n ≤ N)
+  pub summable : {m : ℕ} → m ≡ 1099511627776 / p → Summable p m (g .length) taps s
   unfolding stateOf
-  due-asks = (ready .two-or-more, ready .longest, ready .shorter, ready .size, ready .round)
+  summable reciprocal =
+      record {
+        two-or-more = ready .two-or-more;
+        modulus = ready .modulus;
+        reciprocal = reciprocal;
+        residues = λ i le. rw (← getD-take (suc (g .length)) taps i 0 (omega arith)) (ready .residues i);
+        symbols = ready .symbols;
+      }
+
+  pub in-reach : (N ≤ 128) × (length s ≤ N) × (g .length ≤ n) × (n ≤ N)
+  unfolding stateOf
+  in-reach = (ready .longest, ready .shorter, ready .size, ready .round)
 
   module _ {d : ℕ} (due : d ≡ dueAt p N (g .length) taps s n) where
     abbrev asked : Type 0

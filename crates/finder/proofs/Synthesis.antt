@@ -77,6 +77,7 @@ module _ {p : ℕ} {lengths symbols : List ℕ} {room : ℕ} (fine : Accepted p 
           count = fine .count;
           within = stands .within;
           shorter = shorter;
+          residues = fine .below;
         }
 
     module _ {g : Progress} {taps saved : List ℕ} (reached : Reached p k (rounds p N (sequencesAt o k symbols) N) g taps saved) where

@@ -3,7 +3,7 @@
 use mathlib.Core.Path.{_≡_}
 use mathlib.Core.Bool.{cond}
 use mathlib.Core.List.{List}
-use Prim.Native.Nat.{ℕ, suc, _+_, _-_, _*_, _≤_, _<_, max}
+use Prim.Native.Nat.{ℕ, suc, _+_, _-_, _*_, _/_, _≤_, _<_, max}
 use lib.Dec.{ltb}
 use lib.ListN.{length, getD, take, drop}
 use Rattle.field.specs.Residue.{inverse}
@@ -53,6 +53,15 @@ pub record Ready (p N : ℕ) (s : List ℕ) (n h : ℕ) (st : State) : Type 0 wh
   pub place : st .saved h .place ≤ max n (N - length s)
   pub saved-size : st .saved h .size ≤ st .saved h .place
   pub residues : (i : ℕ) → getD (st .taps) i 0 < p
+  pub symbols : (i : ℕ) → i < length s → getD s i 0 < p
+
+-- what holds of the taps 0 .. l and of a sequence s when a discrepancy is computed with the reciprocal m of p in parts of 2^40
+pub record Summable (p m l : ℕ) (taps s : List ℕ) : Type 0 where
+  pub two-or-more : 2 ≤ p
+  pub modulus : p ≤ 65521
+  pub reciprocal : m ≡ 1099511627776 / p
+  pub residues : (i : ℕ) → i ≤ l → getD taps i 0 < p
+  pub symbols : (i : ℕ) → i < length s → getD s i 0 < p
 
 -- what holds of the state when it is changed by a discrepancy d at (n, h)
 pub record Changeable (p n h d : ℕ) (st : State) : Type 0 where

@@ -11,7 +11,7 @@ use Rattle.finder.specs.declared.Order.{Order}
 use Rattle.finder.specs.declared.Progress.{Progress}
 use Rattle.finder.specs.Progress.{stateOf, Ended}
 
--- the modulus is in its range, and the k sequences lie within the symbols and are no longer than N
+-- the modulus is in its range, the k sequences lie within the symbols and are no longer than N, and the symbols are residues
 pub record Running (p N : ℕ) (o : Order) (k : ℕ) (symbols : List ℕ) : Type 0 where
   pub two-or-more : 2 ≤ p
   pub modulus : p ≤ 65521
@@ -19,6 +19,7 @@ pub record Running (p N : ℕ) (o : Order) (k : ℕ) (symbols : List ℕ) : Type
   pub count : k ≤ 8
   pub within : (h : ℕ) → h < k → getD (o .starts) h 0 + getD (o .lengths) h 0 ≤ length symbols
   pub shorter : (h : ℕ) → h < k → getD (o .lengths) h 0 ≤ N
+  pub residues : (i : ℕ) → i < length symbols → getD symbols i 0 < p
 
 -- the states are the same as far as the first k sequences go: the arrays have no place for others
 pub record Agree (k : ℕ) (st su : State) : Type 0 where

@@ -3,16 +3,18 @@ ghost use mathlib.Core.Path.{_≡_};
 ghost use Prim.Native.Nat.{_≤_, _<_};
 ghost use lib.ListN.{length};
 ghost use Rattle.register.specs.Register.{discrepancy};
+ghost use Rattle.finder.specs.Progress.{Summable};
 
 pub fn wide(x: u16) -> u64
-    ensures { λ r. ⌜ (r ≡ x) × (r < 65536) ⌝ }
+    ensures { λ r. ⌜ r ≡ x ⌝ }
 {
     x as u64
 }
 
-// 129 products of 16-bit numbers fit 64 bits, so there is one remainder at the end.
-pub fn discrepancy_at(p: u32, l: usize, taps: &[u16; 129], s: &[u16], j: usize) -> u32
-    requires { ⌜ (2 ≤ p) × (l ≤ 128) × (l < j) × (j ≤ length (now s)) ⌝ }
+// 129 products of residues fit 64 bits, so there is one remainder at the end, by the reciprocal m of p.
+pub fn discrepancy_at(p: u32, m: u64, l: usize, taps: &[u16; 129], s: &[u16], j: usize) -> u32
+    requires { ⌜ Summable p m l (now taps) (now s) ⌝ }
+    requires { ⌜ (l ≤ 128) × (l < j) × (j ≤ length (now s)) ⌝ }
     ensures { λ r. ⌜ r ≡ discrepancy p l (now (taps .entry)) (now (s .entry)) j ⌝ }
 {
     let mut sum: u64 = 0;
@@ -21,5 +23,5 @@ pub fn discrepancy_at(p: u32, l: usize, taps: &[u16; 129], s: &[u16], j: usize) 
         sum += wide(taps[i]) * wide(s[j - 1 - i]);
         i += 1;
     }
-    (sum % (p as u64)) as u32
+    field::reciprocal::wide_remainder(sum, p, m)
 }

@@ -18,6 +18,7 @@ fn synthesize(p: u32, lengths: &[u16], symbols: &[u16], taps: &mut [u16]) -> Fou
     requires { ⌜ outcome (tests p (now lengths) (now symbols) (length (now taps))) ≡ passed ⌝ }
     ensures { λ r. ⌜ Finds p (now (lengths .entry)) (now (symbols .entry)) (now (taps .entry)) (now (taps .exit)) r ⌝ }
 {
+    let m = field::reciprocal::wide_reciprocal(p);
     let count = lengths.len();
     let most = longest(lengths);
     let order = by_length(lengths, symbols);
@@ -27,6 +28,7 @@ fn synthesize(p: u32, lengths: &[u16], symbols: &[u16], taps: &mut [u16]) -> Fou
     let before = start(most, order, count);
     let g = rounds(
         p,
+        m,
         most,
         symbols,
         order,

@@ -4,7 +4,7 @@ use crate::Progress;
 use crate::step::change;
 use crate::step::due;
 ghost use mathlib.Core.Path.{_≡_};
-ghost use Prim.Native.Nat.{ℕ, _+_, _≤_, _<_, min};
+ghost use Prim.Native.Nat.{ℕ, _+_, _/_, _≤_, _<_, min};
 ghost use lib.ListN.{getD};
 ghost use Rattle.register.specs.Algorithm4.{start as startState, rounds as roundsOf};
 ghost use Rattle.finder.specs.Places.{sequencesAt};
@@ -32,9 +32,10 @@ pub fn start(longest: usize, order: Order, count: usize) -> Progress
     g
 }
 
-// Round n + 1: a step for each sequence. Where no change is due, nothing of the state is copied.
+// Round n + 1: a step for each sequence; m is the wide reciprocal of p. Where no change is due, nothing of the state is copied.
 fn round(
     p: u32,
+    m: u64,
     longest: usize,
     symbols: &[u16],
     order: Order,
@@ -47,6 +48,7 @@ fn round(
     requires { ⌜ Running p longest order count (now symbols) ⌝ }
     requires { ⌜ n < longest ⌝ }
     requires { ⌜ Reached p count (roundsOf p longest (sequencesAt order count (now symbols)) n) g (now taps) (now saved) ⌝ }
+    requires { ⌜ m ≡ 1099511627776 / p ⌝ }
     ensures { λ r. ⌜ Reached p count (roundsOf p longest (sequencesAt order count (now (symbols .entry))) (n + 1)) r (now (taps .exit)) (now (saved .exit)) ⌝ }
 {
     let mut state = g;
@@ -54,7 +56,7 @@ fn round(
     while h < count {
         let a = order.starts[h] as usize;
         let e = a + (order.lengths[h] as usize);
-        let d = due(p, longest, state.length, taps, &symbols[a..e], n + 1);
+        let d = due(p, m, longest, state.length, taps, &symbols[a..e], n + 1);
         if d != 0 {
             state = change(p, n + 1, h, d, state, taps, saved);
         }
@@ -65,6 +67,7 @@ fn round(
 
 pub fn rounds(
     p: u32,
+    m: u64,
     longest: usize,
     symbols: &[u16],
     order: Order,
@@ -75,12 +78,13 @@ pub fn rounds(
 ) -> Progress
     requires { ⌜ Running p longest order count (now symbols) ⌝ }
     requires { ⌜ Reached p count (startState longest (sequencesAt order count (now symbols))) g (now taps) (now saved) ⌝ }
+    requires { ⌜ m ≡ 1099511627776 / p ⌝ }
     ensures { λ r. ⌜ Reached p count (roundsOf p longest (sequencesAt order count (now (symbols .entry))) longest) r (now (taps .exit)) (now (saved .exit)) ⌝ }
 {
     let mut state = g;
     let mut n = 0;
     while n < longest {
-        state = round(p, longest, symbols, order, count, n, state, taps, saved);
+        state = round(p, m, longest, symbols, order, count, n, state, taps, saved);
         n += 1;
     }
     state

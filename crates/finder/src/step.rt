@@ -8,18 +8,19 @@ ghost use mathlib.Core.Path.{_≡_};
 ghost use Prim.Native.Nat.{_≤_};
 ghost use lib.ListN.{length};
 ghost use Rattle.register.specs.Algorithm4.{changed};
-ghost use Rattle.finder.specs.Progress.{stateOf, dueAt, Ended, Changeable, Stepped};
+ghost use Rattle.finder.specs.Progress.{stateOf, dueAt, Summable, Ended, Changeable, Stepped};
 
 // The discrepancy at (n, h) of a register of length l, s being sequence h, or 0 where nothing is asked for.
-pub fn due(p: u32, longest: usize, l: usize, taps: &[u16; 129], s: &[u16], n: usize) -> u32
-    requires { ⌜ (2 ≤ p) × (longest ≤ 128) × (length (now s) ≤ longest) × (l ≤ n) × (n ≤ longest) ⌝ }
+pub fn due(p: u32, m: u64, longest: usize, l: usize, taps: &[u16; 129], s: &[u16], n: usize) -> u32
+    requires { ⌜ Summable p m l (now taps) (now s) ⌝ }
+    requires { ⌜ (longest ≤ 128) × (length (now s) ≤ longest) × (l ≤ n) × (n ≤ longest) ⌝ }
     ensures { λ r. ⌜ r ≡ dueAt p longest l (now (taps .entry)) (now (s .entry)) n ⌝ }
 {
     let gap = longest - s.len();
     if n <= l + gap {
         return 0;
     }
-    discrepancy_at(p, l, taps, s, n - gap)
+    discrepancy_at(p, m, l, taps, s, n - gap)
 }
 
 // The change by a discrepancy d at (n, h). It divides by the saved discrepancy with the inverse kept beside it; an inverse is worked out only when a

@@ -1,7 +1,6 @@
--- `discrepancy_at` computes the discrepancy. The invariant: the sum is that of the terms passed, each at most 65535². Assumes nothing.
+-- `discrepancy_at` computes the discrepancy. The invariant: the sum is that of the terms passed, each at most p². Assumes nothing.
 use mathlib.Core.Path.{_≡_, sym, ap, ap₂, _∙_}
-use Prim.Native.Nat.{ℕ, suc, _%_, _-_, _*_, _≤_, _<_}
-use native.Mathlib.Nat.{mod-lt}
+use Prim.Native.Nat.{ℕ, suc, _%_, _-_, _*_, _≤_}
 use native.Mathlib.Omega.{arith}
 use borrow.Author.Needs.{needs}
 use lib.ListN.{getD}
@@ -9,15 +8,15 @@ use Rattle.field.proofs.Totals.{total-zero}
 use Rattle.field.specs.Total.{total}
 use Rattle.register.specs.Register.{discrepancy}
 use Rattle.register.specs.Sequences.{symbol}
-use Rattle.finder.proofs.Discrepancies.{total-more, total-all, product-below, back}
+use Rattle.finder.proofs.Discrepancies.{total-more, total-all, product-below, product-fits, more-below, sum-below, sum-fits, back}
 use Rattle.finder.proofs.discrepancy.discrepancy_at.Statement.{statement}
 use Rattle.finder.proofs.discrepancy.discrepancy_at.Tie as tie
 
 abbrev Inv-loop : tie.InvT-loop
-Inv-loop p l taps s j sum₀ i₀ sum i = (i ≤ suc l) × (sum ≤ i * 4294836225) × (sum ≡ total i (λ k. getD taps k 0 * symbol s (j - k)))
+Inv-loop p m l taps s j sum₀ i₀ sum i = (i ≤ suc l) × (sum ≤ i * (p * p)) × (sum ≡ total i (λ k. getD taps k 0 * symbol s (j - k)))
 
 abbrev μ-loop : tie.MeasureT-loop
-μ-loop p l taps s j sum₀ i₀ sum i = suc l - i
+μ-loop p m l taps s j sum₀ i₀ sum i = suc l - i
 
 loop-holds : tie.Need-loop-holds Inv-loop μ-loop
 loop-holds c = (search needs, search needs, sym (total-zero _))
@@ -46,11 +45,21 @@ shared-slice-read-wide c = search needs
 wide-requires-2 : tie.Need-wide-requires-2 Inv-loop μ-loop
 wide-requires-2 c κs = search needs
 
+-- the product that is added is at most p²
+added : (c : tie.After-wide2 Inv-loop μ-loop) →
+    let p = c .before .before .before .before .before .before .before .args .p in
+    c .before .before .wide .result * c .wide2 .result ≤ p * p
+added c =
+    let at = c .before .before .before .before .before .before .before in
+    product-below (c .before .before .wide .ensures) (c .wide2 .ensures) (at .pre .0 .residues _ (search needs)) (at .pre .0 .symbols _ (search needs))
+
 mul-sum : tie.Need-mul-sum Inv-loop μ-loop
-mul-sum c = omega (arith, product-below (c .before .before .wide .ensures .1) (c .wide2 .ensures .1))
+mul-sum c = record { fits = product-fits (c .before .before .before .before .before .before .before .pre .0 .modulus) (added c) }
 
 add-sum : tie.Need-add-sum Inv-loop μ-loop
-add-sum c = omega (arith, product-below (c .before .before .wide .ensures .1) (c .wide2 .ensures .1))
+add-sum c =
+    let at = c .before .before .before .before .before in
+    record { fits = sum-fits (at .before .before .pre .0 .modulus) (omega arith) (at .loop .inv .1) (added c) }
 
 add-i : tie.Need-add-i Inv-loop μ-loop
 add-i c = search needs
@@ -63,20 +72,22 @@ loop-again c =
     let at = c .before .before .before .before .before .loop in
     let args = c .before .before .before .before .before .before .before .args in (
       search needs,
-      omega (arith, product-below (c .before .before .wide .ensures .1) (c .wide2 .ensures .1)),
+      more-below (args .p) (at .i) (at .inv .1) (added c),
       total-more _ _ (at .inv .2)
-          (ap₂ _*_ (c .before .before .wide .ensures .0) (c .wide2 .ensures .0 ∙ back (args .s .now) (args .j) (at .i))),
+          (ap₂ _*_ (c .before .before .wide .ensures) (c .wide2 .ensures ∙ back (args .s .now) (args .j) (at .i))),
     )
 
-rem-result : tie.Need-rem-result Inv-loop μ-loop
-rem-result c = search needs
-
-cast-result : tie.Need-cast-result Inv-loop μ-loop
-cast-result c = omega (arith, mod-lt (c .before .loop .sum) (let e : 0 < c .before .before .before .args .p = omega arith in e))
+wide-remainder-requires : tie.Need-wide-remainder-requires Inv-loop μ-loop
+wide-remainder-requires c κs =
+    let at = c .before .before .before in
+    let with = at .pre .0 in
+    (omega (arith, with .two-or-more), with .modulus, sum-below (at .args .p) (omega arith) (c .before .loop .inv .1), with .reciprocal)
 
 returns : tie.Need-returns Inv-loop μ-loop
 unfolding discrepancy
-returns c = ap (λ (x : ℕ). x % c .before .before .before .args .p) (total-all _ (c .before .loop .inv .2) (omega arith))
+returns c =
+    let at = c .before .before in
+    c .wide-remainder .ensures .0 ∙ ap (λ (x : ℕ). x % at .before .before .args .p) (total-all _ (at .loop .inv .2) (omega arith))
 
 pub discrepancy-at-spec : {M : Type 1} → statement M
 discrepancy-at-spec =
@@ -98,6 +109,5 @@ discrepancy-at-spec =
     add-i
     loop-less
     loop-again
-    rem-result
-    cast-result
+    wide-remainder-requires
     returns)

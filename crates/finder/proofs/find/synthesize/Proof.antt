@@ -1,3 +1,4 @@
+-- `synthesize` answers and leaves the register that Algorithm 4 finds. Assumes nothing.
 use Prim.Native.Nat.{_+_, _-_}
 use native.Mathlib.Omega.{arith}
 use borrow.Author.Needs.{needs}
@@ -7,14 +8,15 @@ use Rattle.finder.proofs.Synthesis.{sortable, running, size-within, tap
 use Rattle.finder.proofs.find.synthesize.Statement.{statement}
 use Rattle.finder.proofs.find.synthesize.Tie as tie
 
--- `synthesize` answers and leaves the register that Algorithm 4 finds. Assumes nothing.
+wide-reciprocal-requires : tie.Need-wide-reciprocal-requires
+wide-reciprocal-requires c κs = omega (arith, accepted _ _ _ _ (c .before .before .before .pre) .prime .two-or-more)
 
 longest-requires : tie.Need-longest-requires
 longest-requires c κs = search needs
 
 by-length-requires : tie.Need-by-length-requires
 by-length-requires c κs =
-    let at = c .before .before .before .before in
+    let at = c .before .before .before .before .before in
     sortable (accepted _ _ _ _ (at .pre))
 
 array-write-sigma : tie.Need-array-write-sigma
@@ -23,21 +25,21 @@ array-write-sigma c = search needs
 start-requires : tie.Need-start-requires
 start-requires c κs =
     let sorted = c in
-    let at = sorted .before .before .before .before .before in
+    let at = sorted .before .before .before .before .before .before in
     let r = running (accepted _ _ _ _ (at .pre)) (sorted .before .longest .ensures) (sorted .by-length .ensures) in
     (r .longest, r .count, r .shorter)
 
 rounds-requires : tie.Need-rounds-requires
 rounds-requires c κs =
     let sorted = c .before .before .before in
-    let at = sorted .before .before .before .before .before in
+    let at = sorted .before .before .before .before .before .before in
     let r = running (accepted _ _ _ _ (at .pre)) (sorted .before .longest .ensures) (sorted .by-length .ensures) in
-    (r, reached-start r (c .before .before .start .ensures))
+    (r, (reached-start r (c .before .before .start .ensures), sorted .before .before .wide-reciprocal .ensures))
 
 add-e : tie.Need-add-e
 add-e c =
     let sorted = c .before .before .before .before in
-    let at = sorted .before .before .before .before .before in
+    let at = sorted .before .before .before .before .before .before in
     let size = size-within (accepted _ _ _ _ (at .pre)) (sorted .before .longest .ensures) (sorted .by-length .ensures) (c .rounds .ensures) in
     omega (arith, running (accepted _ _ _ _ (at .pre)) (sorted .before .longest .ensures) (sorted .by-length .ensures) .longest)
 
@@ -50,7 +52,7 @@ part-copy-start c = search needs
 part-copy-end : tie.Need-part-copy-end
 part-copy-end c =
     let sorted = c .before .before .before .before in
-    let at = sorted .before .before .before .before .before in
+    let at = sorted .before .before .before .before .before .before in
     buffer-room (accepted _ _ _ _ (at .pre)) (sorted .before .longest .ensures) (sorted .by-length .ensures) (c .rounds .ensures)
 
 sub-copy-2 : tie.Need-sub-copy-2
@@ -62,7 +64,7 @@ part-copy-start-2 c = search needs
 part-copy-end-2 : tie.Need-part-copy-end-2
 part-copy-end-2 c =
     let sorted = c .before .before .before .before .before .before in
-    let at = sorted .before .before .before .before .before in
+    let at = sorted .before .before .before .before .before .before in
     taps-room (accepted _ _ _ _ (at .pre)) (sorted .before .longest .ensures) (sorted .by-length .ensures) (c .before .before .rounds .ensures)
 
 copy-requires : tie.Need-copy-requires
@@ -71,7 +73,7 @@ copy-requires c κs = search needs
 alone-requires : tie.Need-alone-requires
 alone-requires c κs =
     let sorted = c .before .before .before .before .before .before .before .before .before .before in
-    let at = sorted .before .before .before .before .before in
+    let at = sorted .before .before .before .before .before .before in
     let r = running (accepted _ _ _ _ (at .pre)) (sorted .before .longest .ensures) (sorted .by-length .ensures) in
     let size = size-within (accepted _ _ _ _ (at .pre)) (sorted .before .longest .ensures) (sorted .by-length .ensures) (c .before .before .before .before .before .before .rounds .ensures) in
     (r .longest, r .count, size, r .shorter)
@@ -82,7 +84,7 @@ same-length c = search needs
 returns : tie.Need-returns
 returns c =
     let sorted = c .before .before .before .before .before .before .before .before .before .before .before in
-    let at = sorted .before .before .before .before .before in
+    let at = sorted .before .before .before .before .before .before in
     let ran = c .before .before .before .before .before .before .before in
     finds (accepted _ _ _ _ (at .pre)) (sorted .before .longest .ensures) (sorted .by-length .ensures) (ran .rounds .ensures) (at .pre)
     (ran .rounds .result .length + 1 - 0) (c .alone .ensures) (omega arith) (c .before .before .before .copy .ensures)
@@ -91,6 +93,7 @@ pub synthesize-spec : {M : Type 1} → statement M
 synthesize-spec =
     tie.close
     (tie.spec
+    wide-reciprocal-requires
     longest-requires
     by-length-requires
     array-write-sigma

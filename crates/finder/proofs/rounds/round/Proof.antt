@@ -7,19 +7,19 @@ use Rattle.register.specs.Algorithm4.{turn, rounds}
 use Rattle.finder.specs.Places.{sequencesAt}
 use Rattle.finder.specs.Rounds.{Reached}
 use Rattle.finder.proofs.Running.{ready, stepped, round-begins, round-ends}
-use Rattle.finder.proofs.Steps.{due-asks, resting, changeable, changing, same-after}
+use Rattle.finder.proofs.Steps.{summable, in-reach, resting, changeable, changing, same-after}
 use Rattle.finder.proofs.rounds.round.Statement.{statement}
 use Rattle.finder.proofs.rounds.round.Tie as tie
 
 abbrev Inv-loop : tie.InvT-loop
-Inv-loop p longest symbols count n taps₀ saved₀ order state₀ h₀ taps saved state h =
+Inv-loop p m longest symbols count n taps₀ saved₀ order state₀ h₀ taps saved state h =
     (h ≤ count) × Reached p count (turn p longest (sequencesAt order count symbols) (n + 1) h (rounds p longest (sequencesAt order count symbols) n)) state taps saved
 
 abbrev μ-loop : tie.MeasureT-loop
-μ-loop p longest symbols count n taps₀ saved₀ order state₀ h₀ taps saved state h = count - h
+μ-loop p m longest symbols count n taps₀ saved₀ order state₀ h₀ taps saved state h = count - h
 
 loop-holds : tie.Need-loop-holds Inv-loop μ-loop
-loop-holds c = (search needs, round-begins (c .before .pre .0) _ (c .before .pre .1 .1))
+loop-holds c = (search needs, round-begins (c .before .pre .0) _ (c .before .pre .1 .1 .0))
 
 mul-a : tie.Need-mul-a Inv-loop μ-loop
 mul-a c = search needs
@@ -61,7 +61,8 @@ due-requires : tie.Need-due-requires Inv-loop μ-loop
 due-requires c κs =
     let at = c .before .before .before .before .before .loop in
     let pre = c .before .before .before .before .before .before .before .pre in
-    due-asks (ready (pre .0) (pre .1 .0) (search needs) (at .inv .1)) (at .inv .1 .ended)
+    let begun = ready (pre .0) (pre .1 .0) (search needs) (at .inv .1) in
+    (summable begun (at .inv .1 .ended) (pre .1 .1 .1), in-reach begun (at .inv .1 .ended))
 
 add-change : tie.Need-add-change Inv-loop μ-loop
 add-change c = search needs

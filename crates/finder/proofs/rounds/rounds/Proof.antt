@@ -10,17 +10,19 @@ use Rattle.finder.proofs.rounds.rounds.Statement.{statement}
 use Rattle.finder.proofs.rounds.rounds.Tie as tie
 
 abbrev Inv-loop : tie.InvT-loop
-Inv-loop p longest symbols order count taps₀ saved₀ state₀ n₀ taps saved state n =
+Inv-loop p m longest symbols order count taps₀ saved₀ state₀ n₀ taps saved state n =
     (n ≤ longest) × Reached p count (rounds p longest (sequencesAt order count symbols) n) state taps saved
 
 abbrev μ-loop : tie.MeasureT-loop
-μ-loop p longest symbols order count taps₀ saved₀ state₀ n₀ taps saved state n = longest - n
+μ-loop p m longest symbols order count taps₀ saved₀ state₀ n₀ taps saved state n = longest - n
 
 loop-holds : tie.Need-loop-holds Inv-loop μ-loop
-loop-holds c = (search needs, none-run (c .before .pre .0) (c .before .pre .1))
+loop-holds c = (search needs, none-run (c .before .pre .0) (c .before .pre .1 .0))
 
 round-requires : tie.Need-round-requires Inv-loop μ-loop
-round-requires c κs = (c .before .before .before .before .before .pre .0, (search needs, c .before .before .before .loop .inv .1))
+round-requires c κs =
+    let pre = c .before .before .before .before .before .pre in
+    (pre .0, (search needs, (c .before .before .before .loop .inv .1, pre .1 .1)))
 
 add-n : tie.Need-add-n Inv-loop μ-loop
 add-n c = search needs
