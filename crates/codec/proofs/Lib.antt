@@ -14,3 +14,4 @@ pub mod RowPlace
 pub mod RowSums
 pub mod RowsCompleted
 pub mod ShapeTests
+pub mod Testing

@@ -1,11 +1,12 @@
 -- The locator polynomial of a set, built by one factor for each member in rising order, in a list of 65 coefficients. Assumes nothing.
 use mathlib.Core.Path.{_≡_, refl, sym, ap, fun-ext, _∙_}
 use mathlib.Core.List.{List, [], _∷_, _++_, map}
-use Prim.Native.Nat.{ℕ, zero, suc, _+_, _≤_, _<_}
+use Prim.Native.Nat.{ℕ, zero, suc, _+_, _-_, _≤_, _<_}
 use native.Mathlib.Nat.{mod-lt}
 use native.Mathlib.Decide.{decLt}
 use native.Mathlib.Numerals.{add-one}
 use native.Mathlib.Omega.{arith}
+use borrow.Rule.Slice.PartMut.{midOf, putMid}
 use lib.Dec.{lit<}
 use lib.ListN.{length, getD, take, replicate, length-map, List·getD-eq-default}
 use lib.Seq.{length-take-le, take-all, take-suc}
@@ -25,6 +26,7 @@ use Rattle.frame.proofs.Field257.{R257, res257, res-tells}
 use Rattle.frame.proofs.LocatorPolynomial.{factor-entry, locator-coefficients}
 use Rattle.frame.proofs.Locators.{locatorAt}
 use Rattle.codec.proofs.LocatorOrder.{locator-last}
+use Rattle.codec.proofs.Multiplication.{front-multiplied}
 
 length-reduced : (l : ℕ) (f : List ℕ) (x : ℕ) → length (reduced 257 l f x 1 f) ≡ suc l
 unfolding reduced
@@ -68,9 +70,18 @@ module _ (J : Columns) where
       entries (suc k) = ap res257 (zeros-entry 64 k) ∙ res-zero 257 prime-257
 
   module _ (d : ℕ) (f : List ℕ) (b : Building d f) where
-    pub building-more : (i : ℕ) (g : List ℕ) → length (members J) ≤ 64 → d < length (members J) → getD (members J) d 0 ≡ i
+    -- there are no coefficients past the degree
+    past : d ≤ length (members J) → (k : ℕ) → d < k → getD f k 0 ≡ 0
+    past le k h =
+        res-tells (getD f k 0) 0 (b .small k) (lit< tt)
+        (b .coefficients k
+        ∙ locator-degree R257 (map locatorAt (take d (members J))) k
+        (let s = length-map (take d (members J)) locatorAt in let t = length-take-le d (members J) le in omega arith)
+        ∙ sym (res-zero 257 prime-257))
+
+    grown : (i : ℕ) (g : List ℕ) → length (members J) ≤ 64 → d < length (members J) → getD (members J) d 0 ≡ i
         → g ≡ reduced 257 64 f (locatorOf i) 1 f → Building (d + 1) g
-    building-more i g le h e q = record {
+    grown i g le h e q = record {
       size = ap length q ∙ length-reduced 64 f (locatorOf i);
       small = λ k. rw q (reduced-below 64 f (locatorOf i) k);
       coefficients = λ k. ap (λ (l : List ℕ). symbols l k) q ∙ at k (decLt k 65);
@@ -90,6 +101,14 @@ module _ (J : Columns) where
             ∙ res-zero 257 prime-257
             ∙ sym (locator-degree R257 (map locatorAt (take (d + 1) (members J))) k
             (let s = length-map (take (d + 1) (members J)) locatorAt in let t = length-take-le (d + 1) (members J) (omega arith) in omega arith))
+
+    -- a factor changes one coefficient more than there are
+    pub building-more : (i e : ℕ) (y : List ℕ) → length (members J) ≤ 64 → d < length (members J) → getD (members J) d 0 ≡ i → e ≡ d + 2
+        → (let front = midOf 0 (e - 0) f in y ≡ reduced 257 (length front - 1) front (locatorOf i) 1 front)
+        → Building (d + 1) (putMid 0 (e - 0) f y)
+    building-more i e y le h here q m =
+        grown i (putMid 0 (e - 0) f y) le h here
+        (front-multiplied 64 (e - 0) (locatorOf i) f (b .size) (omega arith) (omega arith) (λ k l. past (omega arith) k (omega arith)) y m)
 
     pub building-all : d ≡ length (members J) → (k : ℕ) → getD f k 0 ≡ getD (locatorPolynomial (members J)) k 0
     building-all e k =

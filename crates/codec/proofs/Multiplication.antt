@@ -2,17 +2,23 @@
 use mathlib.Core.Path.{_≡_, refl, sym, ap, ap₂, _∙_}
 use mathlib.Core.Bool.{Bool, cond}
 use mathlib.Core.List.{List}
-use Prim.Native.Nat.{ℕ, _+_, _-_, _*_, _%_, _≤_, _<_}
-use native.Mathlib.Nat.{mul-le-mul}
+use Prim.Native.Nat.{ℕ, zero, suc, _+_, _-_, _*_, _%_, _≤_, _<_}
+use native.Mathlib.Decide.{decLt}
+use native.Mathlib.Nat.{mul-le-mul, mul-zero}
+use native.Mathlib.Numerals.{add-one}
 use native.Mathlib.Omega.{arith}
 use mir.Syntax.{w16}
 use mir.Val.{Fits}
 use borrow.Author.Tests.{le-ltb}
-use lib.ListN.{length, getD, set}
+use borrow.Rule.Slice.PartMut.{midOf, putMid, same-len-mid}
+use lib.ListN.{length, getD, set, List·getD-append}
+use lib.Seq.{getD-take, length-take-le}
 use Rattle.field.specs.Coefficients.{reduced, shifted}
 use Rattle.field.specs.Residue.{minus, times}
 use Rattle.lists.specs.Tabulate.{tabulate}
-use Rattle.lists.proofs.Filling.{Filled, filled-none, filled-more, filled-rest, filled-all}
+use Rattle.lists.proofs.Filling.{Filled, filled-none, filled-more, filled-rest, filled-all, by-entries}
+use Rattle.lists.proofs.Parts.{replaced-after}
+use Rattle.lists.proofs.Tabulated.{getD-tabulate, length-tabulate}
 
 module _ (from : List ℕ) (x : ℕ) where
   abbrev product : ℕ → ℕ
@@ -51,8 +57,51 @@ module _ (from : List ℕ) (x : ℕ) where
     pub product-fits : x < 257 → x * below ≤ 256 * 65535
     product-fits h = mul-le-mul (let l : x ≤ 256 = omega arith in l) (let b = a .fits in let l : below ≤ 65535 = omega arith in l)
 
-    pub multiplied-all : length from ≡ 65 → 65 ≤ k → f ≡ reduced 257 64 from x 1 from
+    pub multiplied-all : 0 < length from → length from ≤ k → f ≡ reduced 257 (length from - 1) from x 1 from
     unfolding reduced
     multiplied-all l h =
         filled-all product from k f (a .filled) (let s = a .filled .size in omega arith)
-        ∙ ap (λ (n : ℕ). tabulate n product) l
+        ∙ ap (λ (n : ℕ). tabulate n product) (let q : length from ≡ suc (length from - 1) = omega arith in q)
+
+-- Where f is 0 from n - 1 on, multiplying its first n coefficients multiplies all of them.
+module _ (l n x : ℕ) (f : List ℕ) (size : length f ≡ suc l) (some : 0 < n) (room : n ≤ suc l) (past : (k : ℕ) → n ≤ suc k → getD f k 0 ≡ 0) where
+  abbrev front : List ℕ
+  front = midOf 0 n f
+
+  length-front : length front ≡ n
+  length-front = length-take-le n f (omega arith)
+
+  front-entry : (k : ℕ) → k < n → getD front k 0 ≡ getD f k 0
+  front-entry k h = getD-take n f k 0 h
+
+  front-shifted : (k : ℕ) → k < n → shifted 1 front k ≡ shifted 1 f k
+  front-shifted zero h = shifted-zero front x ∙ sym (shifted-zero f x)
+  front-shifted (suc k) h =
+      ap (shifted 1 front) (sym (add-one k)) ∙ shifted-next front x k ∙ front-entry k (omega arith) ∙ sym (shifted-next f x k)
+      ∙ ap (shifted 1 f) (add-one k)
+
+  shifted-past : (k : ℕ) → n ≤ k → shifted 1 f k ≡ 0
+  shifted-past zero h = absurd (let z : ⊥ = omega arith in z)
+  shifted-past (suc k) h = ap (shifted 1 f) (sym (add-one k)) ∙ shifted-next f x k ∙ past k h
+
+  pub front-multiplied : (y : List ℕ) → y ≡ reduced 257 (length front - 1) front x 1 front → putMid 0 n f y ≡ reduced 257 l f x 1 f
+  unfolding reduced
+  front-multiplied y m =
+      by-entries (suc l) (product f x) (putMid 0 n f y) (same-len-mid 0 n f y (fits ∙ sym length-front) ∙ size) (λ k h. at k (decLt k n))
+    where
+      is : y ≡ tabulate n (product front x)
+      is = m ∙ ap (λ (j : ℕ). tabulate j (product front x)) (let q = length-front in let s : suc (length front - 1) ≡ n = omega arith in s)
+
+      fits : length y ≡ n
+      fits = ap length is ∙ length-tabulate n (product front x)
+
+      nothing : minus 257 0 (times 257 x 0) ≡ 0
+      nothing = ap (λ (z : ℕ). minus 257 0 (z % 257)) (mul-zero x)
+
+      at : (k : ℕ) → Dec (k < n) → getD (putMid 0 n f y) k 0 ≡ product f x k
+      at k (yes h) =
+          List·getD-append y _ 0 k (let q = fits in omega arith) ∙ ap (λ (z : List ℕ). getD z k 0) is ∙ getD-tabulate n (product front x) k 0 h
+          ∙ ap₂ (λ (a b : ℕ). minus 257 a (times 257 x b)) (front-entry k h) (front-shifted k h)
+      at k (no h) =
+          replaced-after 0 n f y (omega arith) fits 0 k (omega arith) ∙ past k (omega arith)
+          ∙ sym (ap₂ (λ (a b : ℕ). minus 257 a (times 257 x b)) (past k (omega arith)) (shifted-past k (omega arith)) ∙ nothing)

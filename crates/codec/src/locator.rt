@@ -4,7 +4,7 @@ use crate::powers::wide;
 use columns::Columns;
 use columns::next;
 ghost use mathlib.Core.Path.{_≡_};
-ghost use Prim.Native.Nat.{ℕ, _≤_, _<_};
+ghost use Prim.Native.Nat.{ℕ, _-_, _≤_, _<_};
 ghost use lib.ListN.{length, getD};
 ghost use Rattle.codec.specs.Table.{table};
 ghost use Rattle.columns.specs.Columns.{members};
@@ -13,8 +13,8 @@ ghost use Rattle.frame.specs.Completion.{locatorPolynomial};
 
 // f times 1 - x z, in place: the coefficient below is kept before it is changed.
 fn multiply(f: &mut [u16], x: u32)
-    requires { ⌜ (length (now f) ≡ 65) × (x < 257) ⌝ }
-    ensures { λ r. ⌜ now (f .exit) ≡ reduced 257 64 (now (f .entry)) x 1 (now (f .entry)) ⌝ }
+    requires { ⌜ (0 < length (now f)) × (x < 257) ⌝ }
+    ensures { λ r. ⌜ now (f .exit) ≡ reduced 257 (length (now (f .entry)) - 1) (now (f .entry)) x 1 (now (f .entry)) ⌝ }
 {
     let mut below: u32 = 0;
     let mut k = 0;
@@ -26,16 +26,18 @@ fn multiply(f: &mut [u16], x: u32)
     }
 }
 
-// The coefficients, and zeros after them.
+// The coefficients, and zeros after them. Only those that a factor can change are multiplied.
 pub fn locator_polynomial(powers: &[u16; 256], set: Columns) -> [u16; 65]
     requires { ⌜ (now powers ≡ table) × (length (members set) ≤ 64) ⌝ }
     ensures { λ r. ⌜ ((k : ℕ) → getD r k 0 ≡ getD (locatorPolynomial (members set)) k 0) ⌝ }
 {
     let mut f = [0u16; 65];
     f[0] = 1;
+    let mut e = 1;
     let mut i = next(set, 0);
     while i < 256 {
-        multiply(&mut f, entry(powers, i));
+        e += 1;
+        multiply(&mut f[0..e], entry(powers, i));
         i = next(set, i + 1);
     }
     f

@@ -14,18 +14,19 @@ ghost use Rattle.frame.specs.Shape.{isShape};
 ghost use Rattle.lists.specs.Tabulate.{every};
 ghost use Rattle.refusal.specs.Outcome.{outcome, outcomeOf};
 
-// Whether every cell holds a symbol.
+// Whether every cell holds a symbol. All cells are read, with no way out between, so that several are compared at once.
 pub fn all_below(cells: &[u16]) -> bool
     ensures { λ r. ⌜ r ≡ every (length (now (cells .entry))) (λ k. ltb (getD (now (cells .entry)) k 0) 257) ⌝ }
 {
+    let mut all = true;
     let mut k = 0;
     while k < cells.len() {
         if cells[k] > 256 {
-            return false;
+            all = false;
         }
         k += 1;
     }
-    true
+    all
 }
 
 // The refusals of a frame that is not well-formed.
