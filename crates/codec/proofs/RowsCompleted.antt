@@ -1,5 +1,4 @@
--- A frame whose rows are completed one after the other, each at a set of columns of its own: the encoder takes the check columns of the row, a repair the
--- marked columns. Assumes nothing.
+-- A frame whose rows are completed one after the other, each at a set of columns of its own. Assumes nothing.
 use mathlib.Core.Path.{_≡_, refl, sym, ap, ap₂, _∙_}
 use mathlib.Core.List.{List}
 use Prim.Native.Nat.{ℕ, _+_, _-_, _*_, _≤_, _<_, zero-le}

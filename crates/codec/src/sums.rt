@@ -32,7 +32,7 @@ fn plain_sums(powers: &[u16; 256], x: &[u16], sums: &mut [u16])
 }
 
 // The same, in two stages from 64 columns on: measured, shorter rows gain nothing by them.
-pub fn row_sums(powers: &[u16; 256], x: &[u16], sums: &mut [u16])
+fn row_sums(powers: &[u16; 256], x: &[u16], sums: &mut [u16])
     requires { ⌜ (now powers ≡ table) × (length (now x) ≤ 256) ⌝ }
     ensures { λ r. ⌜ now (sums .exit) ≡ checkSums (length (now (x .entry))) (length (now (sums .entry))) (now (x .entry)) ⌝ }
 {

@@ -1,7 +1,10 @@
+pub mod ColumnMending
+pub mod ColumnWeights
 pub mod Division
+pub mod MendedFrame
+pub mod Mending
+pub mod Passing
 pub mod Quotient
+pub mod ReadForm
 pub mod ReadOff
-pub mod ReadSymbols
 pub mod Reading
-pub mod WeightTable
-pub mod Writing

@@ -55,7 +55,7 @@ module _ (J : Columns) (a i : ℕ) (h : a < length (members J)) (here : getD (me
   gap : others ≡ take a (members J) ++ drop (suc a) (members J)
   gap = without-one i (members J) a h here (λ p l n e. n (members-distinct J p a l h (e ∙ sym here)))
 
-  pub length-others : suc (length others) ≡ length (members J)
+  length-others : suc (length others) ≡ length (members J)
   length-others =
       let q = ap length gap ∙ length-append (take a (members J)) (drop (suc a) (members J)) in
       let t = length-take-le a (members J) (omega arith) in

@@ -1,18 +1,14 @@
--- The coefficients with which the symbols at a set of columns are read off the check sums of the cleared row. They depend on the set alone, so that
--- rows completed at the same set share them.
-use mathlib.Core.Bool.{cond}
+-- The coefficients with which the symbols at a set of columns are read off the check sums of a row. They depend on the set alone, so that rows completed
+-- at the same set share them.
 use mathlib.Core.List.{List}
-use Prim.Native.Nat.{ℕ, zero, suc, _+_, _-_, _*_, _/_, _%_}
-use lib.Dec.{ltb}
+use Prim.Native.Nat.{ℕ, zero, suc, _+_, _*_, _%_}
 use lib.ListN.{length, getD}
 use Rattle.columns.specs.Columns.{members}
 use Rattle.columns.specs.declared.Columns.{Columns}
 use Rattle.field.specs.Coefficients.{value}
 use Rattle.field.specs.Residue.{minus, times, inverse}
-use Rattle.field.specs.Total.{total}
 use Rattle.frame.specs.Completion.{locatorPolynomial, without}
 use Rattle.frame.specs.Powers.{locatorOf, weight}
-use Rattle.lists.specs.Tabulate.{tabulate}
 
 -- Synthetic division of f by 1 − x·z: what is carried to coefficient k is coefficient k − 1 of the quotient.
 unfoldable pub carried : (f : List ℕ) (x k : ℕ) → ℕ
@@ -31,13 +27,3 @@ readOff m i others k = times 257 (getD others k 0) (factorOf m i others)
 
 unfoldable pub coefficient : (J : Columns) (i k : ℕ) → ℕ
 coefficient J i k = readOff (length (members J)) i (locatorPolynomial (without i (members J))) k
-
--- the symbol at column i of the set, read off the check sums S_1 .. S_m
-unfoldable pub symbolAt : (J : Columns) (sums : List ℕ) (i : ℕ) → ℕ
-symbolAt J sums i =
-    let m : ℕ = length (members J) in total m (λ k. coefficient J i k * getD sums (m - suc k) 0) % 257
-
--- the coefficients of all columns of a set of up to 64: 64 entries for each column, rising, and zeros after them
-unfoldable pub weightsOf : Columns → List ℕ
-weightsOf J =
-    tabulate 4096 (λ t. cond (ltb (t / 64) (length (members J))) (coefficient J (getD (members J) (t / 64) 0) (t % 64)) 0)

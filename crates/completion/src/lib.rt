@@ -1,3 +1,3 @@
-// Completing rows at a set of columns, over the field of 257.
-pub mod complete;
+// Mending a frame at a set of columns, over the field of 257.
+pub mod mend;
 pub mod weights;

@@ -1,12 +1,7 @@
-// The coefficients with which the symbols at a set of columns are read off the check sums, shared by all rows that are
-// completed at the same set.
-use codec::locator::locator_polynomial;
+// The coefficients with which the symbol at a column of a set is read off the check sums, shared by all rows.
 use codec::powers::entry;
 use codec::powers::wide;
 use codec::values::value_at;
-use columns::Columns;
-use columns::next;
-use columns::size;
 use field::residue::difference;
 use field::residue::inverse;
 use field::residue::product;
@@ -14,8 +9,7 @@ ghost use mathlib.Core.Path.{_≡_};
 ghost use Prim.Native.Nat.{suc, _≤_, _<_};
 ghost use lib.ListN.{length, getD};
 ghost use Rattle.codec.specs.Table.{table};
-ghost use Rattle.columns.specs.Columns.{members};
-ghost use Rattle.completion.specs.Weights.{carried, factorOf, readOff, weightsOf};
+ghost use Rattle.completion.specs.Weights.{carried, factorOf, readOff};
 ghost use Rattle.field.specs.Residue.{times};
 ghost use Rattle.frame.specs.Powers.{locatorOf};
 ghost use Rattle.lists.specs.Tabulate.{tabulate};
@@ -59,7 +53,7 @@ fn factor(powers: &[u16; 256], others: &[u16], i: usize) -> u32
 }
 
 // The coefficients of column i of a set with the locator polynomial f, as many as the set has columns.
-fn weigh(powers: &[u16; 256], f: &[u16; 65], i: usize, row: &mut [u16])
+pub fn weigh(powers: &[u16; 256], f: &[u16; 65], i: usize, row: &mut [u16])
     requires { ⌜ (now powers ≡ table) × (i < 256) × (length (now row) ≤ 64) ⌝ }
     ensures { λ r. ⌜
         now (row .exit) ≡ tabulate (length (now (row .entry)))
@@ -69,24 +63,4 @@ fn weigh(powers: &[u16; 256], f: &[u16; 65], i: usize, row: &mut [u16])
     divide(f, entry(powers, i), row);
     let c = factor(powers, row, i);
     scale(row, c);
-}
-
-// The table of the coefficients: entry 64 a + k is coefficient k of the a-th column of the set, counted from 0.
-pub fn weights(powers: &[u16; 256], set: Columns) -> [u16; 4096]
-    requires { ⌜ (now powers ≡ table) × (length (members set) ≤ 64) ⌝ }
-    ensures { λ r. ⌜ r ≡ weightsOf set ⌝ }
-{
-    let m = size(set);
-    let f = locator_polynomial(powers, set);
-    let mut weights = [0u16; 4096];
-    let mut a = 0;
-    let mut i = next(set, 0);
-    while i < 256 {
-        let from = a * 64;
-        let to = from + m;
-        weigh(powers, &f, i, &mut weights[from..to]);
-        a += 1;
-        i = next(set, i + 1);
-    }
-    weights
 }

@@ -1,48 +1,33 @@
 -- Completing a row at a set of columns: the row keeps its length and its symbols outside the set, gets symbols below 257 in it, and its first check sums, as
--- many as the set has columns, are 0; no other row has all this. Neither the start of the exponents nor `weight` plays a part: see `Locators.res-weight`.
+-- many as the set has columns, are 0; no other row has all this.
 -- Assumes nothing.
-use mathlib.Core.Path.{_≡_, refl, sym, ap, ap₂, fun-ext, _∙_}
+use mathlib.Core.Path.{_≡_, refl, sym, ap, ap₂, _∙_}
 use mathlib.Core.Logic.{_⊎_, inl, inr}
 use mathlib.Core.Bool.{true, false}
-use mathlib.Core.List.{List, [], _∷_, map}
-use Prim.Native.Nat.{ℕ, zero, suc, _-_, _*_, _%_, _≤_, _<_}
-use native.Mathlib.Nat.{mod-lt, le-of-lt}
+use mathlib.Core.List.{List, [], _∷_}
+use Prim.Native.Nat.{ℕ, zero, suc, _≤_, _<_}
+use native.Mathlib.Nat.{mod-lt}
 use native.Mathlib.Decide.{decLt}
 use native.Mathlib.Omega.{arith}
 use lib.Dec.{lit<}
 use lib.ListN.{length, getD}
-use Rattle.algebra.specs.Locator.{locator}
-use Rattle.algebra.specs.Polynomial.{conv, eval}
-use Rattle.algebra.specs.Ring.{CRing, Field}
-use Rattle.algebra.specs.Sum.{sum}
-use Rattle.algebra.proofs.Completion.{scale, weight-of, completion-solves}
-use Rattle.algebra.proofs.Convolution.{conv-sum}
-use Rattle.algebra.proofs.RingLaws.{zero-add, neg-mul}
-use Rattle.algebra.proofs.Sums.{sum-ext, sum-neg}
+use Rattle.algebra.specs.Ring.{CRing}
 use Rattle.algebra.proofs.Solver.{:0, :1, _:-_, :neg, _:=_, _:×_:≡_:⇒_, solve}
 use Rattle.columns.specs.Columns.{has}
 use Rattle.columns.specs.declared.Columns.{Columns}
 use Rattle.columns.proofs.Listing.{by-test}
-use Rattle.field.specs.Coefficients.{value}
-use Rattle.field.specs.Residue.{minus, times, inverse, quotient}
-use Rattle.field.specs.Total.{total}
-use Rattle.field.proofs.Bridge.{res-zero, res-mod, res-mul, res-total, res-minus, res-times, res-inverse, res-quotient}
+use Rattle.field.proofs.Bridge.{res-zero}
 use Rattle.field.proofs.Prime257.{prime-257}
 use Rattle.lists.proofs.Tabulated.{length-tabulate, getD-tabulate, getD-tabulate-past}
-use Rattle.frame.proofs.CheckSums.{weightAt, rowSum, symbols, checkSum-below, res-checkSum, rowSum-sub, rowSum-members, same-row}
-use Rattle.frame.proofs.Field257.{F257, R257, res257, res-tells-zero}
-use Rattle.frame.proofs.LocatorPolynomial.{length-locatorPolynomial, locator-coefficients, res-value}
-use Rattle.frame.proofs.Locators.{locatorAt, firstExponent, res-locator, res-weight}
-use Rattle.frame.proofs.Members.{size, member, Below, member-has, member-locators-distinct, member-locators-nonzero}
-use Rattle.frame.proofs.Others.{others, others-size, members-others}
-use Rattle.frame.specs.Completion.{locatorPolynomial, cleared, completion, completed}
+use Rattle.frame.proofs.CheckSums.{rowSum, symbols, checkSum-below, res-checkSum, rowSum-sub, same-row}
+use Rattle.frame.proofs.ClosedForm.{symbols-sum}
+use Rattle.frame.proofs.Field257.{R257, res257, res-tells-zero}
+use Rattle.frame.proofs.Members.{size, Below}
+use Rattle.frame.specs.Completion.{cleared, completion, completed}
 use Rattle.frame.specs.Frame.{checkSum}
-use Rattle.frame.specs.Powers.{locatorOf, weight}
-open Field F257 using (inv)
-open CRing R257 using (car, zero as 𝟘, add as _⊕_, mul as _⊗_, neg, add-neg)
+open CRing R257 using (car, zero as 𝟘, add as _⊕_, neg, add-neg)
 
 infixl 60 _⊕_
-infixl 70 _⊗_
 module _ (n : ℕ) (J : Columns) (x : List ℕ) where
   pub length-completed : length (completed n J x) ≡ n
   unfolding completed
@@ -81,50 +66,6 @@ module _ (n : ℕ) (J : Columns) (x : List ℕ) where
   abbrev kept : ℕ → car
   kept j = rowSum n (symbols (cleared n J x)) j
 
-  module _ (d : ℕ) (sized : size J ≡ suc d) (k : ℕ) (h : k < suc d) where
-    abbrev i : ℕ
-    i = member J k
-
-    abbrev rest : List ℕ
-    rest = locatorPolynomial (others J k)
-
-    abbrev Λ : ℕ → car
-    Λ = locator R257 (map locatorAt (others J k))
-
-    res-part : res257 (total (suc d) (λ t. getD rest t 0 * checkSum n (cleared n J x) (suc d - t)) % 257) ≡ conv R257 Λ kept d
-    res-part =
-        res-mod 257 prime-257 _ ∙ res-total 257 prime-257 (suc d) (λ t. getD rest t 0 * checkSum n (cleared n J x) (suc d - t))
-        ∙ sum-ext R257 (suc d) _ _ (λ t l.
-        let q : suc d - t ≡ suc (d - t) = omega arith in
-        res-mul 257 prime-257 (getD rest t 0) (checkSum n (cleared n J x) (suc d - t))
-        ∙ ap₂ _⊗_ (locator-coefficients (others J k) t)
-        (ap (λ (j : ℕ). res257 (checkSum n (cleared n J x) j)) q ∙ res-checkSum n (cleared n J x) (d - t)))
-        ∙ sym (conv-sum R257 Λ kept d)
-
-    res-scale : res257 (times 257 (weight i (suc d) % 257) (value 257 rest (inverse 257 (locatorOf i))))
-        ≡ scale F257 d firstExponent (locatorAt i) (map locatorAt (others J k))
-    res-scale =
-        res-times 257 prime-257 (weight i (suc d) % 257) (value 257 rest (inverse 257 (locatorOf i)))
-        ∙ ap₂ _⊗_ (res-mod 257 prime-257 (weight i (suc d)) ∙ res-weight i d)
-        (res-value d rest (inverse 257 (locatorOf i)) (length-locatorPolynomial (others J k) ∙ ap suc (others-size J d sized k h))
-        ∙ ap₂ (λ f y. eval R257 d f y) (fun-ext (locator-coefficients (others J k)))
-        (res-inverse 257 prime-257 (locatorOf i) ∙ ap inv (res-locator i)))
-
-    -- the definition, with the number of columns as m
-    abbrev symbol : (m : ℕ) → ℕ
-    symbol m =
-        minus 257 0 (quotient 257 (total m (λ t. getD rest t 0 * checkSum n (cleared n J x) (m - t)) % 257)
-        (times 257 (weight i m % 257) (value 257 rest (inverse 257 (locatorOf i)))))
-
-    res-completion : res257 (completion n J x i) ≡ neg (weight-of F257 d firstExponent (locatorAt i) (map locatorAt (others J k)) kept)
-    unfolding completion
-    res-completion =
-        ap (λ (m : ℕ). res257 (symbol m)) sized
-        ∙ res-minus 257 prime-257 0 _ (le-of-lt (mod-lt _ (lit< tt)))
-        ∙ ap₂ (λ a b. a ⊕ neg b) (res-zero 257 prime-257)
-        (res-quotient 257 prime-257 _ _ ∙ ap₂ (λ a b. a ⊗ inv b) res-part res-scale)
-        ∙ zero-add R257 _
-
   -- what completing puts into the columns of the set
   abbrev put : ℕ → car
   put i = symbols (completed n J x) i ⊕ neg (symbols (cleared n J x) i)
@@ -145,18 +86,10 @@ module _ (n : ℕ) (J : Columns) (x : List ℕ) where
 
   module _ (narrow : n ≤ 256) (below : Below n J) where
     put-sum : (d : ℕ) → size J ≡ suc d → (j : ℕ) → j < suc d → rowSum n put j ≡ neg (kept j)
+    unfolding completion
     put-sum d sized j h =
-        rowSum-members n J narrow below put put-outside j
-        ∙ ap (λ m. sum R257 m (λ k. put (member J k) ⊗ weightAt (member J k) j)) sized
-        ∙ sum-ext R257 (suc d) _ (λ k. neg (w k ⊗ weightAt (member J k) j)) (λ k l.
-        let inside = member-has J k (rw sized l) in
-        ap (λ a. a ⊗ weightAt (member J k) j) (put-inside (member J k) (below (member J k) inside) inside ∙ res-completion d sized k l)
-        ∙ neg-mul R257 (w k) (weightAt (member J k) j))
-        ∙ sum-neg R257 (suc d) (λ k. w k ⊗ weightAt (member J k) j)
-        ∙ ap neg (completion-solves F257 d (λ k. locatorAt (member J k)) (rw sized at (member-locators-distinct J)) (rw sized at (member-locators-nonzero J)) (λ k. map locatorAt (others J k)) (members-others J d sized) firstExponent kept j h)
-      where
-        w : ℕ → car
-        w k = weight-of F257 d firstExponent (locatorAt (member J k)) (map locatorAt (others J k)) kept
+        symbols-sum J (checkSum n (cleared n J x)) d sized n narrow below put put-outside (λ i t. put-inside i (below i t) t) j h
+        ∙ ap neg (res-checkSum n (cleared n J x) j)
 
     pub completed-sums : (j : ℕ) → j < size J → checkSum n (completed n J x) (suc j) ≡ 0
     completed-sums j h = pick (size J) refl h

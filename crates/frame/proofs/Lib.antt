@@ -1,4 +1,5 @@
 pub mod CheckSums
+pub mod ClosedForm
 pub mod CompletedFrames
 pub mod CompletionLaws
 pub mod Demands

@@ -1,4 +1,4 @@
--- What a sound job that is located tells of its marks: there are at most 64, and none is outside the shape. So a repair is safe.
+-- What a sound job that is located tells of its marks: no row has fewer checks, and none is outside the shape. So a repair is safe.
 -- Assumes nothing.
 use mathlib.Core.Path.{_≡_, sym, _∙_}
 use mathlib.Core.Bool.{Bool, true, false, not, _&&_, _||_, and-eq-true-iff, false≢true}
@@ -14,7 +14,6 @@ use Rattle.columns.proofs.Marks.{has-past}
 use Rattle.decoding.specs.Locating.{rowsReach}
 use Rattle.frame.specs.Shape.{checksOf, isShape}
 use Rattle.frame.specs.declared.Shape.{Shape}
-use Rattle.frame.proofs.Shapes.{shape-ranges}
 use Rattle.job.specs.Job.{findingsSound, isEmpty, isEmptyPhase, isLocatedPhase, phaseSound, sound}
 use Rattle.job.specs.declared.Findings.{Findings}
 use Rattle.job.specs.declared.Job.{Job}
@@ -25,8 +24,8 @@ use Rattle.lists.proofs.Tabulated.{every-at}
 use Rattle.refusal.proofs.Orders.{no-fail}
 
 pub record Marked (s : Shape) (J : Columns) : Type 0 where
-  pub few : length (members J) ≤ 64
   pub inside : (i : ℕ) → has J i ≡ true → i < s .columns
+  pub reach : (h : ℕ) → h < s .rows → length (members J) ≤ checksOf s h
 
 both : (a b : Bool) → (a && b) ≡ true → (a ≡ true) × (b ≡ true)
 both a b = and-eq-true-iff a b .0
@@ -35,7 +34,7 @@ marks-in : (b t : Bool) → (not b || t) ≡ true → b ≡ true → t ≡ true
 marks-in true t e m = e
 marks-in false t e m = absurd (false≢true m)
 
-module _ (s : Shape) (g : Findings) (four : Sound (g .columns)) (shape : isShape s ≡ true) where
+module _ (s : Shape) (g : Findings) (four : Sound (g .columns)) where
   abbrev J : Columns
   J = g .columns
 
@@ -46,13 +45,10 @@ module _ (s : Shape) (g : Findings) (four : Sound (g .columns)) (shape : isShape
       let (within, more) = both (every 256 (λ i. not (has J i) || ltb i (s .columns))) _ rest in
       let (count, last) = both (eqb (length (members J)) c) _ more in
       let (reach, below) = both (rowsReach s c) _ last in
-      record { few = few c reach (eqb-true _ c count); inside = λ i m. inside i within m (decLt i 256) }
+      record { inside = λ i m. inside i within m (decLt i 256); reach = reaches c reach (eqb-true _ c count) }
     where
-      few : (c : ℕ) → rowsReach s c ≡ true → length (members J) ≡ c → length (members J) ≤ 64
-      few c reach e =
-          let r = shape-ranges s shape in
-          let some = r .rows-least in
-          omega (arith, leb-true c (checksOf s 0) (every-at (s .rows) _ reach 0 (omega arith)), r .checks 0 (omega arith) .most)
+      reaches : (c : ℕ) → rowsReach s c ≡ true → length (members J) ≡ c → (h : ℕ) → h < s .rows → length (members J) ≤ checksOf s h
+      reaches c reach e h l = omega (arith, e, leb-true c (checksOf s h) (every-at (s .rows) _ reach h l))
 
       inside : (i : ℕ) → every 256 (λ i. not (has J i) || ltb i (s .columns)) ≡ true → has J i ≡ true → Dec (i < 256) → i < s .columns
       inside i within m (yes l) = ltb-true i (s .columns) (marks-in (has J i) (ltb i (s .columns)) (every-at 256 _ within i l) m)
@@ -66,5 +62,4 @@ located-marked j full located four = of-phase (j .phase) full located
     of-phase Empty e l = absurd (false≢true l)
     of-phase Shaped e l = absurd (false≢true l)
     of-phase (Located c a) e l =
-        let (shape, holds) = both (isShape (j .shape)) (findingsSound (j .shape) (j .findings) c a) (no-fail _ e) in
-        findings-marked (j .shape) (j .findings) four shape c a holds
+        findings-marked (j .shape) (j .findings) four c a (both (isShape (j .shape)) (findingsSound (j .shape) (j .findings) c a) (no-fail _ e) .1)

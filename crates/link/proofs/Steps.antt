@@ -3,8 +3,8 @@
 use mathlib.Core.Path.{_≡_, refl, sym, ap, ap₂, _∙_}
 use mathlib.Core.Bool.{true, false, cond, not}
 use mathlib.Core.List.{List, [], _∷_, _++_}
-use Prim.Native.Nat.{ℕ, _*_, _≤_}
-use lib.ListN.{length}
+use Prim.Native.Nat.{ℕ, _*_, _≤_, _<_}
+use lib.ListN.{length, getD}
 use Rattle.decoding.specs.Locating.{repaired}
 use Rattle.frame.specs.Encode.{encoded, encodeTests}
 use Rattle.frame.specs.Frame.{heldSums, frameTests}
@@ -39,6 +39,9 @@ mended-outcome j f e n l = cc
 
 pub passed-size : (s : Shape) (f : List ℕ) → outcome (frameTests s f) ≡ passed → length f ≡ s .rows * s .columns
 passed-size s f e = frame-passes s f (passed-pass (frameTests s f) e) .size
+
+pub passed-symbols : (s : Shape) (f : List ℕ) → outcome (frameTests s f) ≡ passed → (k : ℕ) → k < length f → getD f k 0 < 257
+passed-symbols s f e = frame-passes s f (passed-pass (frameTests s f) e) .symbols
 
 -- ---- shape
 

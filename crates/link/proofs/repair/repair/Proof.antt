@@ -7,12 +7,13 @@ use denote.Ref.{now}
 use borrow.Author.Tests.{not-true, not-false}
 use Rattle.columns.specs.Columns.{Sound}
 use Rattle.columns.proofs.Marks.{sound}
+use Rattle.decoding.specs.Locating.{repaired}
 use Rattle.frame.specs.Frame.{heldSums, frameTests}
 use Rattle.job.specs.Calls.{sameSums}
 use Rattle.job.specs.Job.{isEmpty, isLocatedPhase}
 use Rattle.job.proofs.Forms.{has-shape}
 use Rattle.refusal.specs.Outcome.{outcome, outcomeOf, passed}
-use Rattle.link.proofs.Steps.{refusal-outcome, mended-outcome, passed-size, repair-empty, repair-unlocated, repair-refused, repair-differs, repair-mends}
+use Rattle.link.proofs.Steps.{refusal-outcome, mended-outcome, passed-size, passed-symbols, repair-empty, repair-unlocated, repair-refused, repair-differs, repair-mends}
 use Rattle.link.proofs.Marked.{located-marked}
 use borrow.Author.Needs.{needs}
 use Rattle.link.proofs.repair.repair.Statement.{statement}
@@ -94,11 +95,16 @@ returns-4 c =
 words : (c : tie.Start) → Sound (c .args .j .findings .columns)
 words c = sound _ (search needs) (λ w. search needs)
 
-complete-rows-requires : tie.Need-complete-rows-requires
-complete-rows-requires c κs =
-    let told = c .before .before .before .before .before .before .before .before .before .before in
-    let marked = located-marked _ (full (told .before .before .before .before .before .before)) (located (told .before .before .before .before)) (words (c .before .before .before .before .before .before .before .before .before .before .before .before .before .before .before .before .before .before .before)) in
-    (has-shape _ (full (told .before .before .before .before .before .before)), passed-size _ _ (passes told), marked .few, marked .inside)
+slice-aggregate-mend : tie.Need-slice-aggregate-mend
+slice-aggregate-mend c = search needs
+
+mend-requires : tie.Need-mend-requires
+mend-requires c κs =
+    let summed = c .before .before .before .before .before .before .before .before .before in
+    let told = summed .before .before in
+    let nonempty = full (told .before .before .before .before .before .before) in
+    let marked = located-marked _ nonempty (located (told .before .before .before .before)) (words (told .before .before .before .before .before .before .before .before .before)) in
+    (has-shape _ nonempty, passed-size _ _ (passes told), passed-symbols _ _ (passes told), summed .frame-sums .ensures, marked .inside, marked .reach)
 
 length-of-requires : tie.Need-length-of-requires
 length-of-requires c κs = search needs
@@ -110,10 +116,11 @@ same-length-3 : tie.Need-same-length-3
 same-length-3 c = search needs
 
 returns-5 : tie.Need-returns-5
+unfolding repaired
 returns-5 c =
-    let told = c .before .before .before .before .before .before .before .before .before .before .before .before .before .before .before in
-    mended-outcome (told .before .before .before .before .before .before .before .before .before .args .j) _ (c .mended .ensures) (c .before .length-of .ensures) (c .before .before .before .before .complete-rows .ensures)
-    ∙ repair-mends _ _ (full (told .before .before .before .before .before .before)) (located (told .before .before .before .before)) (passes told) (compared (c .before .before .before .before .before .before .before .before) ∙ not-false _ (c .before .before .before .before .before .before .before .if3 .left))
+    let told = c .before .before .before .before .before .before .before .before .before .before .before .before .before .before .before .before in
+    mended-outcome (told .before .before .before .before .before .before .before .before .before .args .j) _ (c .mended .ensures) (c .before .length-of .ensures) (c .before .before .before .before .mend .ensures)
+    ∙ repair-mends _ _ (full (told .before .before .before .before .before .before)) (located (told .before .before .before .before)) (passes told) (compared (c .before .before .before .before .before .before .before .before .before) ∙ not-false _ (c .before .before .before .before .before .before .before .before .if3 .left))
 
 pub repair-spec : {M : Type 1} → statement M
 repair-spec =
@@ -136,7 +143,8 @@ repair-spec =
     refuse-requires-4
     same-length-2
     returns-4
-    complete-rows-requires
+    slice-aggregate-mend
+    mend-requires
     length-of-requires
     mended-requires
     same-length-3

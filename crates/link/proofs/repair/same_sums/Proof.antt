@@ -1,25 +1,29 @@
--- `link::repair::same_sums` meets its contract: the sums passed agree. Assumes nothing.
-use mathlib.Core.Path.{_≡_, sym}
-use mathlib.Core.Bool.{true}
-use Prim.Native.Nat.{ℕ, _-_, _≤_, _<_}
+-- `link::repair::same_sums` meets its contract. Assumes nothing.
+use mathlib.Core.Bool.{Bool}
+use mathlib.Core.List.{List}
+use mathlib.Core.Logic.{⊎-elim}
+use Prim.Native.Nat.{ℕ, _-_}
 use native.Mathlib.Omega.{arith}
 use lib.Dec.{eqb}
 use lib.ListN.{getD}
-use borrow.Author.Count.{below-none, below-more}
 use borrow.Author.Tests.{eq-eqb, ne-eqb}
+use Rattle.codec.proofs.Testing.{Tested, tested-none, tested-pass, tested-fail, tested-all}
 use Rattle.job.specs.Calls.{sameSums}
-use Rattle.lists.proofs.Tabulated.{every-of, every-fails}
 use Rattle.link.proofs.repair.same_sums.Statement.{statement}
 use Rattle.link.proofs.repair.same_sums.Tie as tie
 
+-- whether entry k is the same
+abbrev agree : List ℕ → List ℕ → ℕ → Bool
+agree a b k = eqb (getD a k 0) (getD b k 0)
+
 abbrev Inv-loop : tie.InvT-loop
-Inv-loop a b k₀ k = (k ≤ 512) × ((i : ℕ) → i < k → eqb (getD a i 0) (getD b i 0) ≡ true)
+Inv-loop a b same₀ k₀ same k = Tested 512 (agree a b) k same
 
 abbrev μ-loop : tie.MeasureT-loop
-μ-loop a b k₀ k = 512 - k
+μ-loop a b same₀ k₀ same k = 512 - k
 
 loop-holds : tie.Need-loop-holds Inv-loop μ-loop
-loop-holds c = (omega arith, below-none _)
+loop-holds c = tested-none _ _
 
 mul-if1 : tie.Need-mul-if1 Inv-loop μ-loop
 mul-if1 c = omega arith
@@ -33,10 +37,6 @@ mul-if1-2 c = omega arith
 element-copy-out-if1-2 : tie.Need-element-copy-out-if1-2 Inv-loop μ-loop
 element-copy-out-if1-2 c = omega arith
 
-returns : tie.Need-returns Inv-loop μ-loop
-unfolding sameSums
-returns c = let k = c .before .before .before .before .loop .k in sym (every-fails 512 _ k (omega arith) (ne-eqb _ _ (c .if1 .taken)))
-
 add-k : tie.Need-add-k Inv-loop μ-loop
 add-k c = omega arith
 
@@ -44,11 +44,18 @@ loop-less : tie.Need-loop-less Inv-loop μ-loop
 loop-less c = omega arith
 
 loop-again : tie.Need-loop-again Inv-loop μ-loop
-loop-again c = (omega arith, below-more _ _ (c .before .before .before .before .loop .inv .1) (eq-eqb _ _ (c .if1 .left)))
+loop-again c =
+    let inside = c .before .before .before in
+    let at = inside .before in
+    let start = at .before in
+    let test = agree (start .args .a .now) (start .args .b .now) in
+    ⊎-elim (λ w. tested-fail 512 test (at .loop .k) (at .loop .same) (at .loop .inv) (inside .loop-test .taken) (c .if1 .same) (w .1) (ne-eqb _ _ (w .0 .taken)))
+    (λ w. tested-pass 512 test (at .loop .k) (at .loop .same) (at .loop .inv) (inside .loop-test .taken) (c .if1 .same) (w .1) (eq-eqb _ _ (w .0 .left)))
+    (c .if1 .came)
 
-returns-2 : tie.Need-returns-2 Inv-loop μ-loop
+returns : tie.Need-returns Inv-loop μ-loop
 unfolding sameSums
-returns-2 c = sym (every-of 512 _ (λ k l. c .before .loop .inv .1 k (omega arith)))
+returns c = tested-all _ _ _ _ (c .before .loop .inv) (c .loop-test .left)
 
 pub same-sums-spec : {M : Type 1} → statement M
 same-sums-spec =
@@ -61,8 +68,7 @@ same-sums-spec =
     element-copy-out-if1
     mul-if1-2
     element-copy-out-if1-2
-    returns
     add-k
     loop-less
     loop-again
-    returns-2)
+    returns)
