@@ -1,5 +1,4 @@
 pub mod Bits
-pub mod Examples
 pub mod Least
 pub mod Listing
 pub mod Marks

@@ -17,7 +17,6 @@ use Rattle.algebra.proofs.Convolution.{conv-ext, conv-add-right}
 use Rattle.algebra.proofs.Solver.{:1, :neg, _:+_, _:-_, _:=_, _:×_:≡_:⇒_, solve}
 use Rattle.columns.specs.Columns.{has}
 use Rattle.columns.specs.Listed.{count}
-use Rattle.columns.specs.declared.Columns.{Columns}
 use Rattle.columns.proofs.Listing.{by-test}
 use Rattle.columns.proofs.Marks.{columnsOf-ext}
 use Rattle.columns.proofs.Subset.{Within, within-le, within-same}
@@ -29,6 +28,7 @@ use Rattle.decoding.proofs.NamedColumns.{named-roots, named-past, has-n
 use Rattle.decoding.proofs.Recurrence.{roots-generate, zeros-go-on}
 use Rattle.decoding.proofs.RepairedFrame.{Completes}
 use Rattle.field.proofs.Bridge.{res-zero, res-one}
+use Rattle.field.proofs.Polynomials.{poly-degree}
 use Rattle.field.proofs.Prime257.{prime-257}
 use Rattle.frame.specs.Frame.{Codeword, differs, distance, differing}
 use Rattle.frame.specs.Shape.{isShape, checksOf}
@@ -38,7 +38,6 @@ use Rattle.frame.proofs.Field257.{F257, R257, res257}
 use Rattle.frame.proofs.Locators.{locatorAt}
 use Rattle.frame.proofs.Members.{size}
 use Rattle.frame.proofs.Shapes.{shape-ranges}
-use Rattle.register.proofs.Polynomials.{poly-degree}
 open CRing R257 using (car, zero as 𝟘, add as _⊕_, mul as _⊗_, neg, add-zero)
 
 infixl 60 _⊕_
@@ -53,17 +52,14 @@ module _ (s : Shape) (shape : isShape s ≡ true) (f : List ℕ) where
   abbrev σ : List ℕ
   σ = tapsOf s f
 
-  abbrev J : Columns
-  J = namedColumns s σ
-
   degree : Degree R257 c (poly257 σ)
   degree = poly-degree 257 prime-257 c σ (frame-taps s f shape)
 
-  unmarked : (i : ℕ) → i < n → named s σ i ≡ false → has J i ≡ false
+  unmarked : (i : ℕ) → i < n → named s σ i ≡ false → has (namedColumns s σ) i ≡ false
   unmarked i below e = let few = shape-ranges s shape .columns-most in has-named s σ i (omega arith) ∙ e
 
-  module _ (all : count n (named s σ) ≡ c) (e : List ℕ) (completes : Completes s J f e) where
-    size-c : size J ≡ c
+  module _ (all : count n (named s σ) ≡ c) (e : List ℕ) (completes : Completes s (namedColumns s σ) f e) where
+    size-c : size (namedColumns s σ) ≡ c
     size-c = size-named s σ shape ∙ all
 
     errors : ℕ → ℕ → car
@@ -118,7 +114,7 @@ module _ (s : Shape) (shape : isShape s ≡ true) (f : List ℕ) where
     unfolding distance
     completes-differs = within-same n (differs s e f) (named s σ) differs-named (completes-distance ∙ sym all)
 
-    pub completes-differing : differing s e f ≡ J
+    pub completes-differing : differing s e f ≡ namedColumns s σ
     unfolding differing namedColumns
     completes-differing = columnsOf-ext _ (named s σ) (λ i _. pick i (decLt i n))
       where

@@ -20,6 +20,7 @@ use Rattle.decoding.proofs.Recurrence.{roots-generate}
 use Rattle.decoding.proofs.ColumnRoots.{Roots, locator-of, locator-of-degree, locator-of-constant, locator-of-roots}
 use Rattle.frame.proofs.Words.{Outside}
 use Rattle.field.proofs.Bridge.{res-one}
+use Rattle.field.proofs.Polynomials.{coefficients, poly-coefficients, coefficients-less}
 use Rattle.field.proofs.Prime257.{prime-257}
 use Rattle.frame.specs.Frame.{sequences, Codeword, differs, distance}
 use Rattle.frame.specs.Shape.{isShape, checksOf}
@@ -29,7 +30,6 @@ use Rattle.frame.proofs.Field257.{F257, R257, res-tells}
 use Rattle.frame.proofs.Locators.{locatorAt}
 use Rattle.lists.proofs.Tabulated.{length-tabulate}
 use Rattle.register.specs.Register.{Generator}
-use Rattle.register.proofs.Polynomials.{coefficients, poly-coefficients, coefficients-less}
 open Field F257 using (inv)
 open CRing R257 using (car, zero as 𝟘, one as 𝟙, add as _⊕_, mul as _⊗_, neg, add-zero)
 

@@ -1,16 +1,14 @@
 -- The register of a frame is a shortest one of its sequences, and the mark says whether it is alone. Its length is that of every shortest register, and where
 -- it is not alone there is another one.
 -- Assumes nothing.
-use mathlib.Core.Path.{_≡_, refl, sym, ap, ap₂, subst, _∙_}
+use mathlib.Core.Path.{_≡_, refl, sym, ap, subst, _∙_}
 use mathlib.Core.Bool.{Bool, true, false}
 use mathlib.Core.Logic.{_↔_}
-use mathlib.Core.List.{List, [], _∷_}
+use mathlib.Core.List.{List, []}
 use Prim.Native.Nat.{ℕ, suc, _-_, _≤_, _<_}
-use native.Mathlib.Nat.{sub-self, sub-zero, le-refl}
 use native.Mathlib.Decide.{decLt}
 use native.Mathlib.Omega.{arith}
-use lib.ListN.{length, getD, take}
-use lib.Seq.{take-length}
+use lib.ListN.{length, getD}
 use Rattle.decoding.specs.Locating.{sizeOf, tapsOf, aloneOf}
 use Rattle.decoding.proofs.FrameSums.{sequence-length, sequence-symbol}
 use Rattle.field.proofs.Prime257.{prime-257}
@@ -22,16 +20,8 @@ use Rattle.frame.proofs.Shapes.{shape-ranges}
 use Rattle.lists.proofs.Tabulated.{length-tabulate}
 use Rattle.register.specs.EachRound.{IsShortest}
 use Rattle.register.specs.Register.{Generator, Shortest, Alone}
-use Rattle.register.specs.Sequences.{Below, longest, shortened}
-use Rattle.register.proofs.EachRound.{each-round, found-other}
-
-shortened-none : (ss : List (List ℕ)) → shortened 0 ss ≡ ss
-unfolding shortened
-shortened-none [] = refl
-shortened-none (s ∷ ss) = ap₂ _∷_ (ap (λ k. take k s) (sub-zero (length s)) ∙ take-length s) (shortened-none ss)
-
-all-of-it : (ss : List (List ℕ)) → shortened (longest ss - longest ss) ss ≡ ss
-all-of-it ss = ap (λ k. shortened k ss) (sub-self (longest ss)) ∙ shortened-none ss
+use Rattle.register.specs.Sequences.{Below}
+use Rattle.register.proofs.AllRounds.{all-rounds, all-rounds-other}
 
 pub length-sequences : (s : Shape) (f : List ℕ) → length (sequences s f) ≡ s .rows
 unfolding sequences
@@ -48,9 +38,8 @@ module _ (s : Shape) (f : List ℕ) (shape : isShape s ≡ true) where
   pub register-of-frame : IsShortest 257 (sizeOf s f) (sequences s f) (tapsOf s f) (aloneOf s f)
   unfolding sizeOf tapsOf aloneOf
   register-of-frame =
-      subst (λ ss. IsShortest 257 (sizeOf s f) ss (tapsOf s f) (aloneOf s f)) (all-of-it (sequences s f))
-      (each-round 257 (sequences s f) (longest (sequences s f)) prime-257
-      (let e = length-sequences s f in omega (arith, shape-ranges s shape .rows-least)) (sequences-below s f) (le-refl _))
+      all-rounds 257 (sequences s f) prime-257
+      (let e = length-sequences s f in omega (arith, shape-ranges s shape .rows-least)) (sequences-below s f)
 
   pub frame-generator : Generator 257 (sizeOf s f) (sequences s f) (tapsOf s f)
   frame-generator = register-of-frame .shortest .generator
@@ -76,8 +65,7 @@ module _ (s : Shape) (f : List ℕ) (shape : isShape s ≡ true) where
   pub not-alone : (aloneOf s f ≡ false) ↔ ((τ : List ℕ) × Generator 257 (sizeOf s f) (sequences s f) τ × (τ ≡ tapsOf s f → ⊥))
   unfolding sizeOf tapsOf aloneOf
   not-alone = (
-    λ e. subst (λ ss. (τ : List ℕ) × Generator 257 (sizeOf s f) ss τ × (τ ≡ tapsOf s f → ⊥)) (all-of-it (sequences s f))
-        (found-other 257 (sequences s f) (longest (sequences s f)) prime-257 (le-refl _) e),
+    all-rounds-other 257 (sequences s f) prime-257,
     λ (τ, g, differ). pick (aloneOf s f) refl (λ e. differ (register-of-frame .alone e τ g)),
   )
     where

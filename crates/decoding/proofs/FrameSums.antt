@@ -19,6 +19,7 @@ use Rattle.algebra.proofs.RingLaws.{eq-of-sub-zero}
 use Rattle.algebra.proofs.Solver.{:1, _:-_, _:·_, :neg, _:=_, _:×_:≡_:⇒_, solve}
 use Rattle.algebra.proofs.Sums.{sum-ext, sum-add, sum-neg}
 use Rattle.field.proofs.Bridge.{res-zero, res-mod, res-mul, res-total}
+use Rattle.field.proofs.Polynomials.{poly, poly-degree}
 use Rattle.field.proofs.Prime257.{prime-257}
 use Rattle.frame.specs.Frame.{row, cell, checkSum, checkSums, sequences, Codeword}
 use Rattle.frame.specs.Shape.{isShape, checksOf}
@@ -32,7 +33,6 @@ use Rattle.lists.proofs.Tabulated.{length-tabulate, getD-tabulate}
 use Rattle.register.specs.Register.{discrepancy, Generates}
 use Rattle.register.specs.Sequences.{symbol}
 use Rattle.register.proofs.Bounds.{discrepancy-less}
-use Rattle.register.proofs.Polynomials.{poly, poly-degree}
 open Field F257 using (inv, mul-inv)
 open CRing R257 using (car, zero as 𝟘, add as _⊕_, mul as _⊗_, neg, add-neg, mul-comm)
 

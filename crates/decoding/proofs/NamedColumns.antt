@@ -23,6 +23,7 @@ use Rattle.decoding.proofs.ColumnRoots.{Roots, roots-at-most}
 use Rattle.field.specs.Coefficients.{value}
 use Rattle.field.specs.Residue.{inverse}
 use Rattle.field.proofs.Bridge.{res-zero, res-one, res-inverse}
+use Rattle.field.proofs.Polynomials.{poly-degree}
 use Rattle.field.proofs.Prime257.{prime-257}
 use Rattle.frame.specs.Powers.{locatorOf}
 use Rattle.frame.specs.Shape.{isShape}
@@ -33,7 +34,6 @@ use Rattle.frame.proofs.Locators.{locatorAt, res-locator}
 use Rattle.frame.proofs.Members.{Below}
 use Rattle.frame.proofs.Shapes.{shape-ranges}
 use Rattle.register.specs.Register.{Register}
-use Rattle.register.proofs.Polynomials.{poly-degree}
 open Field F257 using (inv)
 open CRing R257 using (zero as 𝟘)
 

@@ -20,6 +20,8 @@ use Rattle.decoding.proofs.RepairedFrame.{cell-below}
 use Rattle.decoding.proofs.SoleNearest.{legal-at-size, nearest-only}
 use Rattle.decoding.proofs.ColumnRoots.{Roots, roots-at-most, roots-same}
 use Rattle.field.proofs.Bridge.{res-one}
+use Rattle.field.proofs.Coefficients.{residues-past}
+use Rattle.field.proofs.Polynomials.{poly-degree, poly-same}
 use Rattle.field.proofs.Prime257.{prime-257}
 use Rattle.frame.specs.Frame.{cell, sequences, WellFormed, Legal, differs, distance}
 use Rattle.frame.specs.Shape.{isShape, checksOf}
@@ -29,8 +31,6 @@ use Rattle.frame.proofs.Field257.{F257, R257, res257}
 use Rattle.frame.proofs.Locators.{locatorAt}
 use Rattle.lists.proofs.Tabulated.{every-of}
 use Rattle.register.specs.Register.{Generator}
-use Rattle.register.proofs.Coefficients.{residues-past}
-use Rattle.register.proofs.Polynomials.{poly-degree, poly-same}
 open CRing R257 using (one as 𝟙)
 
 -- the rows of R show the damage: each has twice as many checks as columns are damaged, and every damaged column is damaged in one of them; no row has fewer

@@ -37,9 +37,6 @@ unfolding rowsReach
 reach s c e h below = leb-true c (checksOf s h) (every-at (s .rows) _ e h below)
 
 module _ (s : Shape) (shape : isShape s ≡ true) (f : List ℕ) where
-  abbrev n : ℕ
-  n = s .columns
-
   abbrev c : ℕ
   c = sizeOf s f
 
@@ -58,18 +55,18 @@ module _ (s : Shape) (shape : isShape s ≡ true) (f : List ℕ) where
         register-of-frame s f shape .alone alone (damage-taps s shape e f)
         (subst (λ d. Generator 257 d (sequences s f) (damage-taps s shape e f)) at-c (damage-register s shape e f code))
 
-    nearest-named : Within n (differs s e f) (named s σ)
+    nearest-named : Within (s .columns) (differs s e f) (named s σ)
     nearest-named i below differ = root-named s c σ (frame-generator s f shape .register) i below
         (ap₂ (λ d τ. eval R257 d (poly257 τ) (inv (locatorAt i))) (sym at-c) (sym same-taps) ∙ damage-roots s shape e f i below differ)
 
-    pub nearest-names-all : count n (named s σ) ≡ c
+    pub nearest-names-all : count (s .columns) (named s σ) ≡ c
     unfolding distance
     nearest-names-all =
-        omega (arith, within-le n (differs s e f) (named s σ) nearest-named, names-at-most s c σ (frame-generator s f shape .register) shape, at-c)
+        omega (arith, within-le (s .columns) (differs s e f) (named s σ) nearest-named, names-at-most s c σ (frame-generator s f shape .register) shape, at-c)
 
-    nearest-differs : (i : ℕ) → i < n → differs s e f i ≡ named s σ i
+    nearest-differs : (i : ℕ) → i < s .columns → differs s e f i ≡ named s σ i
     unfolding distance
-    nearest-differs = within-same n (differs s e f) (named s σ) nearest-named (at-c ∙ sym nearest-names-all)
+    nearest-differs = within-same (s .columns) (differs s e f) (named s σ) nearest-named (at-c ∙ sym nearest-names-all)
 
     pub nearest-completes : WellFormed s e → rowsReach s c ≡ true → Completes s J f e
     nearest-completes wf reaches =
@@ -89,7 +86,7 @@ module _ (s : Shape) (shape : isShape s ≡ true) (f : List ℕ) where
     completes = repaired-completes s J f well-formed shape (named-below s σ)
 
     module _ (all : namesAll s σ c ≡ true) where
-      pub names-count : count n (named s σ) ≡ c
+      pub names-count : count (s .columns) (named s σ) ≡ c
       names-count = names-all s c σ (frame-generator s f shape .register) shape .0 all
 
       pub mended-legal : Legal s (repaired s J f)

@@ -1,5 +1,6 @@
 pub mod Binomial
 pub mod Bridge
+pub mod Coefficients
 pub mod Divisionless
 pub mod Euclid
 pub mod Fermat
@@ -7,6 +8,7 @@ pub mod Fits
 pub mod Halving
 pub mod Instance
 pub mod Modulus
+pub mod Polynomials
 pub mod Prime257
 pub mod PrimeTest
 pub mod Remainders

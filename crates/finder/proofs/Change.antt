@@ -12,10 +12,10 @@ use lib.ListN.{length, getD, take, set, length-take}
 use lib.Seq.{ext-getD, getD-take, getD-set-same, getD-set-other, length-take-le}
 use Rattle.field.specs.Coefficients.{reduced, shifted}
 use Rattle.field.specs.Residue.{minus, times, inverse, quotient}
+use Rattle.field.proofs.Coefficients.{length-reduced, getD-reduced, getD-reduced-past}
 use Rattle.lists.proofs.Entries.{getD-take-past}
 use Rattle.lists.proofs.Put.{put}
 use Rattle.register.proofs.Cases.{changed-cases, grown, stayed}
-use Rattle.register.proofs.Coefficients.{length-reduced, getD-reduced, getD-reduced-past}
 use Rattle.register.specs.Algorithm4.{Saved, State, changed, replaced}
 use Rattle.finder.specs.Progress.{block, stateOf, Ended, Changeable, Reducible, Stepped}
 use Rattle.finder.specs.declared.Progress.{Progress}

@@ -120,9 +120,7 @@ module _ (p : ℕ) (lengths symbols buffer : List ℕ) (l : ℕ) (mark : Bool) (
   written : Written p lengths symbols buffer l mark
   written =
       record {
-        found =
-            rw (first-left, ← same-mark)
-            (subst (λ (m : ℕ). IsShortest p m ss σ alone) same-size shortest);
+        found = rw (first-left, ← same-mark) (subst (λ (m : ℕ). IsShortest p m ss σ alone) same-size shortest);
         kept = ap (drop (suc l)) taps-left ∙ drop-at σ (drop (suc l) buffer) (suc l) tap-count;
       }
 

@@ -12,8 +12,8 @@ use lib.ListN.{length, getD, take, set, length-take, length-set, List·getD-eq-d
 use lib.Seq.{ext-getD, take-all, getD-take, getD-set-same, getD-set-other}
 use Rattle.field.specs.Coefficients.{reduced, shifted}
 use Rattle.field.specs.Residue.{minus, times}
+use Rattle.field.proofs.Coefficients.{shifted-below, shifted-above, length-reduced, getD-reduced}
 use Rattle.lists.proofs.Entries.{getD-take-suc}
-use Rattle.register.proofs.Coefficients.{shifted-below, shifted-above, length-reduced, getD-reduced}
 use Rattle.finder.specs.Progress.{block, Reducible}
 use Rattle.finder.proofs.Blocks.{saved-at}
 

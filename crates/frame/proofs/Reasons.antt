@@ -14,29 +14,12 @@ use borrow.Author.Tests.{ltb-true, ltb-false, leb-true, eqb-true, eqb-false, lt-
 use Rattle.lists.specs.Tabulate.{every}
 use Rattle.lists.proofs.Tabulated.{every-at, every-of, every-witness, every-ext}
 use Rattle.refusal.proofs.Orders.{Pass, no-fail, Says, SayAll, says-not}
+use Rattle.refusal.proofs.Ranges.{outside-says}
 use Rattle.frame.specs.Demands.{BadChecks, shapeReasons, encodeReasons, frameReasons, sizeReason}
 use Rattle.frame.specs.Encode.{encodeTests, dataBelow}
 use Rattle.frame.specs.Frame.{cell, WellFormed, frameTests}
 use Rattle.frame.specs.Shape.{checksOf, shapeOf, shapeTests, isShape, rowsInRange, columnsInRange, checksInRange}
 use Rattle.frame.specs.declared.Shape.{Shape}
-
--- a number that is not in the range lo .. hi
-outside-says : (k lo hi n : ℕ)
-    → Says (record { number = k; fails = not (leb lo n && leb n hi) }) (record { number = k; holds = (n < lo) ⊎ (hi < n) })
-outside-says k lo hi n = says-not k (leb lo n && leb n hi) ((n < lo) ⊎ (hi < n)) never (λ e. pick e (decLt n lo) (decLt hi n))
-  where
-    never : (leb lo n && leb n hi) ≡ true → (n < lo) ⊎ (hi < n) → ⊥
-    never e o = let (l, h) = and-eq-true-iff (leb lo n) (leb n hi) .0 e in off (leb-true lo n l) (leb-true n hi h) o
-      where
-        off : lo ≤ n → n ≤ hi → (n < lo) ⊎ (hi < n) → ⊥
-        off a b (inl c) = omega arith
-        off a b (inr c) = omega arith
-
-    pick : (leb lo n && leb n hi) ≡ false → Dec (n < lo) → Dec (hi < n) → (n < lo) ⊎ (hi < n)
-    pick e (yes l) d = inl l
-    pick e (no l) (yes h) = inr h
-    pick e (no l) (no h) =
-        absurd (false≢true (sym e ∙ ap₂ _&&_ (le-leb lo n (omega arith)) (le-leb n hi (omega arith))))
 
 -- a check count k is in range for n columns
 inRange : (n k : ℕ) → Bool

@@ -13,13 +13,13 @@ use Rattle.field.specs.Prime.{Prime}
 use Rattle.field.specs.Residue.{quotient}
 use Rattle.field.proofs.Bridge.{res, res-zero, res-one, res-quotient}
 use Rattle.field.proofs.Instance.{residues}
+use Rattle.field.proofs.Polynomials.{poly, poly-reduced}
 use Rattle.register.specs.Algorithm4.{Saved, State, start, replaced, changed, step, turn, rounds}
 use Rattle.register.specs.Register.{discrepancy}
 use Rattle.register.proofs.Aligned.{sequences, disc-aligned, disc-zero, zero-disc}
 use Rattle.register.proofs.Bounds.{Bounded, bounded-turn, bounded-later, bounded-rounds}
 use Rattle.register.proofs.Cases.{changedTaps, changed-cases, step-cases}
 use Rattle.register.proofs.FieldStep.{changedPoly, grows, stays, idle, satisfied, fails}
-use Rattle.register.proofs.Polynomials.{poly, poly-reduced}
 
 module _ (p : ℕ) (prime : Prime p) where
   abbrev pub absSaved : Saved → Step.Saved (residues p prime .ring .car)

@@ -17,11 +17,11 @@ use Rattle.field.specs.Prime.{Prime}
 use Rattle.field.specs.Total.{total}
 use Rattle.field.proofs.Bridge.{res, res-zero, res-mod, res-mul, res-is-zero, res-total}
 use Rattle.field.proofs.Instance.{residues}
+use Rattle.field.proofs.Polynomials.{poly, poly-degree}
 use Rattle.field.proofs.Totals.{total-ext}
 use Rattle.register.specs.Register.{discrepancy, Generates}
 use Rattle.register.specs.Sequences.{symbol}
 use Rattle.register.proofs.Bounds.{discrepancy-less}
-use Rattle.register.proofs.Polynomials.{poly, poly-degree}
 
 -- only the symbols j − l .. j count
 discrepancy-take : (p l : ℕ) (σ s : List ℕ) (k j : ℕ) → l < j → j ≤ k → discrepancy p l σ (take k s) j ≡ discrepancy p l σ s j

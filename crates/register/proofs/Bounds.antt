@@ -1,5 +1,5 @@
--- How large the state of Algorithm 4 gets: after round n, or inside it, the register has at most n taps after the first, every number of it
--- is a residue, and what is saved was saved no later than in round n. So nothing that the code computes overflows.
+-- How large the state of Algorithm 4 gets: after round n, or inside it, the register has at most n taps after the first, each a
+-- residue, and what is saved was saved no later than in round n. So nothing that the code computes overflows.
 -- Assumes nothing.
 use mathlib.Core.Path.{_≡_, refl}
 use mathlib.Core.List.{List, [], _∷_}
@@ -9,11 +9,11 @@ use native.Mathlib.Omega.{arith}
 use lib.Dec.{eqb}
 use lib.ListN.{length, getD}
 use Rattle.field.specs.Total.{total}
+use Rattle.field.proofs.Coefficients.{length-reduced, reduced-residues}
 use Rattle.register.specs.Algorithm4.{Saved, State, start, replaced, step, turn, rounds}
 use Rattle.register.specs.Register.{discrepancy}
 use Rattle.register.specs.Sequences.{symbol}
 use Rattle.register.proofs.Cases.{cond-cases, grown, stayed, changed-cases, step-cases}
-use Rattle.register.proofs.Coefficients.{length-reduced, reduced-residues}
 
 -- the state in or after round n of N
 pub record Bounded (p N : ℕ) (ss : List (List ℕ)) (n : ℕ) (st : State) : Type 0 where
@@ -22,9 +22,7 @@ pub record Bounded (p N : ℕ) (ss : List (List ℕ)) (n : ℕ) (st : State) : T
   pub residues : (i : ℕ) → getD (st .taps) i 0 < p
   pub saved-size : (h : ℕ) → st .saved h .size ≤ st .saved h .place
   pub place : (h : ℕ) → st .saved h .place ≤ max n (N - length (getD ss h []))
-  pub disc : (h : ℕ) → st .saved h .disc < p
   pub saved-taps : (h : ℕ) → length (st .saved h .taps) ≡ suc (st .saved h .size)
-  pub saved-residues : (h i : ℕ) → getD (st .saved h .taps) i 0 < p
 
 -- the one entry of a list, or the 0 past it
 one-entry : (p a : ℕ) → a < p → (i : ℕ) → getD (a ∷ []) i 0 < p
@@ -50,9 +48,7 @@ module _ (p N : ℕ) (ss : List (List ℕ)) (two : 2 ≤ p) where
         residues = one-entry p 1 two;
         saved-size = λ h. omega arith;
         place = λ h. omega arith;
-        disc = λ h. two;
         saved-taps = λ h. refl;
-        saved-residues = λ h. one-entry p 0 (omega arith);
       }
 
   -- the bounds of a round are within those of a later one
@@ -64,14 +60,12 @@ module _ (p N : ℕ) (ss : List (List ℕ)) (two : 2 ≤ p) where
         residues = b .residues;
         saved-size = b .saved-size;
         place = λ h. omega (arith, b .place h);
-        disc = b .disc;
         saved-taps = b .saved-taps;
-        saved-residues = b .saved-residues;
       }
 
   module _ (n h : ℕ) (st : State) (b : Bounded p N ss n st) where
-    bounded-grown : (d : ℕ) → d < p → Bounded p N ss n (grown p n h d st)
-    bounded-grown d small =
+    bounded-grown : (d : ℕ) → Bounded p N ss n (grown p n h d st)
+    bounded-grown d =
         let v : Saved = record { place = n; size = st .size; disc = d; taps = st .taps } in
         record {
           size = omega (arith, b .saved-size h);
@@ -79,9 +73,7 @@ module _ (p N : ℕ) (ss : List (List ℕ)) (two : 2 ≤ p) where
           residues = reduced-residues p _ (st .taps) _ _ _ (omega arith);
           saved-size = λ g. replaced-all (λ w. w .size ≤ w .place) (st .saved) h v g (b .size) (b .saved-size g);
           place = λ g. replaced-all (λ w. w .place ≤ max n (N - length (getD ss g []))) (st .saved) h v g (omega arith) (b .place g);
-          disc = λ g. replaced-all (λ w. w .disc < p) (st .saved) h v g small (b .disc g);
           saved-taps = λ g. replaced-all (λ w. length (w .taps) ≡ suc (w .size)) (st .saved) h v g (b .taps) (b .saved-taps g);
-          saved-residues = λ g i. replaced-all (λ w. getD (w .taps) i 0 < p) (st .saved) h v g (b .residues i) (b .saved-residues g i);
         }
 
     bounded-stayed : (d : ℕ) → Bounded p N ss n (stayed p n h d st)
@@ -92,19 +84,14 @@ module _ (p N : ℕ) (ss : List (List ℕ)) (two : 2 ≤ p) where
           residues = reduced-residues p _ (st .taps) _ _ _ (omega arith);
           saved-size = b .saved-size;
           place = b .place;
-          disc = b .disc;
           saved-taps = b .saved-taps;
-          saved-residues = b .saved-residues;
         }
 
     pub bounded-step : (s : List ℕ) → Bounded p N ss n (step p N s n h st)
     bounded-step s =
         let d : ℕ = discrepancy p (st .size) (st .taps) s (n + length s - N) in
         step-cases p N s n h st (Bounded p N ss n) (λ _. b) (λ _ _. b)
-        (λ _ _.
-        changed-cases p n h d st (Bounded p N ss n)
-        (λ _. bounded-grown d (discrepancy-less p (st .size) (st .taps) s (n + length s - N) (omega arith)))
-        (λ _. bounded-stayed d))
+        (λ _ _. changed-cases p n h d st (Bounded p N ss n) (λ _. bounded-grown d) (λ _. bounded-stayed d))
 
   pub bounded-turn : (n h : ℕ) (st : State) → Bounded p N ss n st → Bounded p N ss n (turn p N ss n h st)
   unfolding turn

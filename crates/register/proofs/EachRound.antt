@@ -13,7 +13,9 @@ use Rattle.algebra.proofs.Register.Invariant.{Invariant}
 use Rattle.algebra.proofs.Register.Preserved.{rounds-keep}
 use Rattle.algebra.proofs.Register.Shortest.{Generates as GeneratesUpTo, generates, least, Alone as MarkedAlone, alone-unique, Other, not-alone}
 use Rattle.field.specs.Prime.{Prime}
+use Rattle.field.proofs.Coefficients.{residues-past}
 use Rattle.field.proofs.Instance.{residues}
+use Rattle.field.proofs.Polynomials.{poly, poly-same, coefficients, poly-coefficients, coefficients-less}
 use Rattle.lists.proofs.Tabulated.{every-at, every-witness, length-tabulate}
 use Rattle.register.specs.Algorithm4.{State, found, foundAlone, isAlone}
 use Rattle.register.specs.EachRound.{EachRound}
@@ -22,9 +24,7 @@ use Rattle.register.specs.Sequences.{longest, shortened, ordered}
 use Rattle.register.proofs.Abstract.{abs, abs-rounds}
 use Rattle.register.proofs.Aligned.{sequences}
 use Rattle.register.proofs.Bounds.{Bounded, bounded-rounds}
-use Rattle.register.proofs.Coefficients.{residues-past}
 use Rattle.register.proofs.Generators.{within-longest, generator-poly, poly-generator}
-use Rattle.register.proofs.Polynomials.{poly, poly-same, coefficients, poly-coefficients, coefficients-less}
 
 module _ (p : ℕ) (ss : List (List ℕ)) (n : ℕ) (prime : Prime p) (round : n ≤ longest ss) where
   abbrev Q : Sequences (residues p prime .ring .car)

@@ -14,11 +14,11 @@ use Rattle.algebra.proofs.Register.Shortest.{Generates as GeneratesUpTo}
 use Rattle.field.specs.Prime.{Prime}
 use Rattle.field.proofs.Bridge.{res, res-one, res-same}
 use Rattle.field.proofs.Instance.{residues}
+use Rattle.field.proofs.Polynomials.{poly, poly-degree}
 use Rattle.register.specs.Register.{Generates, Generator}
 use Rattle.register.specs.Sequences.{longest, shortened, ordered}
 use Rattle.register.proofs.Aligned.{sequences, generates-aligned, aligned-generates}
 use Rattle.register.proofs.Ordering.{All, all-ordered, ordered-all, longest-bounds}
-use Rattle.register.proofs.Polynomials.{poly, poly-degree}
 
 shortened-at : (k : ℕ) (ss : List (List ℕ)) (h : ℕ) → getD (shortened k ss) h [] ≡ take (length (getD ss h []) - k) (getD ss h [])
 unfolding shortened

@@ -3,10 +3,8 @@ pub mod Aligned
 pub mod AllRounds
 pub mod Bounds
 pub mod Cases
-pub mod Coefficients
 pub mod EachRound
 pub mod FieldStep
 pub mod Generators
 pub mod Ordering
-pub mod Polynomials
 pub mod Stable

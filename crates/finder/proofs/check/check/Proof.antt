@@ -1,11 +1,41 @@
 -- `check` answers the refusal of the first test that fails. Assumes nothing.
-use mathlib.Core.Path.{sym, _∙_}
+use mathlib.Core.Path.{_≡_, sym, _∙_}
+use mathlib.Core.Bool.{not, cond}
+use Prim.Native.Nat.{suc}
+use lib.Dec.{ltb}
 use borrow.Author.Needs.{needs}
 use borrow.Author.Tests.{not-false}
-use Rattle.finder.specs.Finder.{tests}
+use Rattle.refusal.specs.Outcome.{outcome, passed, refused}
+use Rattle.finder.specs.Finder.{isBelow, tests}
 use Rattle.finder.proofs.Checks.{counted-bounds, room-short, room-enough}
 use Rattle.finder.proofs.check.check.Statement.{statement}
 use Rattle.finder.proofs.check.check.Tie as tie
+
+-- the tests after the first three, once these pass
+past-three : (c : tie.After-longest) →
+    let args = c .before .before .before .before .before .before .before .before .before .args in
+    outcome (tests (args .p) (args .lengths .now) (args .symbols .now) (args .room)) ≡
+    cond (ltb (args .room) (suc (c .longest .result))) (refused 8) (cond (not (isBelow (args .p) (args .symbols .now))) (refused 4) passed)
+unfolding tests
+past-three c =
+    let test3 = c .before in
+    let test2 = test3 .before .before in
+    let test1 = test2 .before .before in
+    rw (
+      ← test1 .before .is-modulus .ensures,
+      test1 .if1 .left,
+      ← test2 .before .counted .ensures,
+      test2 .if2 .left,
+      ← test3 .before .measured .ensures,
+      test3 .if3 .left,
+      ← c .longest .ensures,
+    )
+
+-- the last test, once the others pass
+past-four : (c : tie.After-below) →
+    let args = c .before .before .before .before .before .before .before .before .before .before .before .args in
+    outcome (tests (args .p) (args .lengths .now) (args .symbols .now) (args .room)) ≡ cond (not (c .below .result)) (refused 4) passed
+past-four c = past-three (c .before .before) ∙ rw (room-enough (c .before .if4 .left), ← c .below .ensures)
 
 is-modulus-requires : tie.Need-is-modulus-requires
 is-modulus-requires c κs = search needs
@@ -42,64 +72,16 @@ longest-requires : tie.Need-longest-requires
 longest-requires c κs = search needs
 
 returns-4 : tie.Need-returns-4
-unfolding tests
-returns-4 c =
-    let test3 = c .before .before in
-    let test2 = test3 .before .before in
-    let test1 = test2 .before .before in
-    rw (
-      ← test1 .before .is-modulus .ensures,
-      test1 .if1 .left,
-      ← test2 .before .counted .ensures,
-      test2 .if2 .left,
-      ← test3 .before .measured .ensures,
-      test3 .if3 .left,
-      ← c .before .longest .ensures,
-      room-short (c .if4 .taken),
-    )
+returns-4 c = sym (past-three (c .before) ∙ rw (room-short (c .if4 .taken)))
 
 below-requires : tie.Need-below-requires
 below-requires c κs = search needs
 
 returns-5 : tie.Need-returns-5
-unfolding tests
-returns-5 c =
-    let test4 = c .before .before in
-    let test3 = test4 .before .before in
-    let test2 = test3 .before .before in
-    let test1 = test2 .before .before in
-    rw (
-      ← test1 .before .is-modulus .ensures,
-      test1 .if1 .left,
-      ← test2 .before .counted .ensures,
-      test2 .if2 .left,
-      ← test3 .before .measured .ensures,
-      test3 .if3 .left,
-      ← test4 .before .longest .ensures,
-      room-enough (test4 .if4 .left),
-      ← c .before .below .ensures,
-      c .if5 .taken,
-    )
+returns-5 c = sym (past-four (c .before) ∙ rw (c .if5 .taken))
 
 returns-6 : tie.Need-returns-6
-unfolding tests
-returns-6 c =
-    let test4 = c .before .before in
-    let test3 = test4 .before .before in
-    let test2 = test3 .before .before in
-    let test1 = test2 .before .before in
-    rw (
-      ← test1 .before .is-modulus .ensures,
-      test1 .if1 .left,
-      ← test2 .before .counted .ensures,
-      test2 .if2 .left,
-      ← test3 .before .measured .ensures,
-      test3 .if3 .left,
-      ← test4 .before .longest .ensures,
-      room-enough (test4 .if4 .left),
-      ← c .before .below .ensures,
-      c .if5 .left,
-    )
+returns-6 c = sym (past-four (c .before) ∙ rw (c .if5 .left))
 
 pub check-spec : {M : Type 1} → statement M
 check-spec =

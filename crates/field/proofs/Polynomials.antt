@@ -13,14 +13,14 @@ use Rattle.algebra.specs.Ring.{CRing}
 use Rattle.algebra.specs.Polynomial.{Degree, shift}
 use Rattle.algebra.proofs.Convolution.{shift-below, shift-above}
 use Rattle.algebra.proofs.Register.Step.{reduced as reducedPoly}
 use Rattle.field.specs.Coefficients.{shifted, reduced}
 use Rattle.field.specs.Prime.{Prime}
 use Rattle.field.specs.Residue.{minus, times}
 use Rattle.field.proofs.Bridge.{res, value, value-less, res-value, res-same, res-zero, res-minus, res-times}
 use Rattle.field.proofs.Instance.{residues}
 use Rattle.lists.specs.Tabulate.{tabulate}
 use Rattle.lists.proofs.Tabulated.{length-tabulate, getD-tabulate}
-use Rattle.register.proofs.Coefficients.{shifted-below, shifted-above, residues-past, getD-reduced, getD-reduced-past}
+use Rattle.field.proofs.Coefficients.{shifted-below, shifted-above, residues-past, getD-reduced, getD-reduced-past}
 
 module _ (p : ℕ) (prime : Prime p) where
   open CRing (residues p prime .ring) using (car, zero as 𝟘, one as 𝟙, add as _⊕_, mul as _⊗_, neg)
