@@ -1,29 +1,11 @@
--- What an order of refusals gives, by the outcome of its tests.
--- Assumes nothing.
-use mathlib.Core.Path.{_≡_, sym, ap, _∙_}
+-- Where the outcome of tests is that nothing is refused, each of them passes. Assumes nothing.
+use mathlib.Core.Path.{_≡_}
 use mathlib.Core.List.{List}
 use Prim.Native.Nat.{ℕ}
 use native.Mathlib.Omega.{arith}
-use Rattle.refusal.specs.Order.{Test, firstOf}
-use Rattle.refusal.specs.Outcome.{Outcome, passed, refused, outcome}
-use Rattle.refusal.proofs.Orders.{Pass, by-tests, firstOf-map}
-
-module _ {A : Type 0} (refuse : ℕ → A) (otherwise : A) where
-  given : Outcome → A
-  given passed = otherwise
-  given (refused k) = refuse k
-
-  by-outcome : (ts : List Test) → firstOf refuse ts otherwise ≡ given (outcome ts)
-  unfolding given
-  by-outcome ts = sym (firstOf-map given refused ts passed)
-
-  pub first-refused : (ts : List Test) (k : ℕ) → outcome ts ≡ refused k → refuse k ≡ firstOf refuse ts otherwise
-  unfolding given
-  first-refused ts k e = sym (by-outcome ts ∙ ap given e)
-
-  pub first-passed : (ts : List Test) → outcome ts ≡ passed → otherwise ≡ firstOf refuse ts otherwise
-  unfolding given
-  first-passed ts e = sym (by-outcome ts ∙ ap given e)
+use Rattle.refusal.specs.Order.{Test}
+use Rattle.refusal.specs.Outcome.{passed, refused, outcome}
+use Rattle.refusal.proofs.Orders.{Pass, by-tests}
 
 pub passed-pass : (ts : List Test) → outcome ts ≡ passed → Pass ts
 passed-pass ts =

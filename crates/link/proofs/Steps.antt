@@ -24,8 +24,9 @@ use Rattle.refusal.specs.declared.Checked.{Checked}
 use Rattle.refusal.specs.declared.Checked.the-variants.{Pass, Refuse}
 use Rattle.refusal.specs.Order.{Test, firstOf}
 use Rattle.refusal.specs.Outcome.{passed, refused, outcome, outcomeOf}
+use Rattle.refusal.proofs.Outcomes.{given-passed, given-refused}
 use Rattle.link.specs.Answered as answer-of
-use Rattle.link.proofs.Orders.{first-refused, first-passed, passed-pass}
+use Rattle.link.proofs.Orders.{passed-pass}
 
 -- a refusal of the calls' answer, with the job that it leaves
 pub refusal-outcome : (f : List ℕ) {r : Answered} {i j : Job} (why : Refusal) → r ≡ answer-of.refusal i why → i ≡ j
@@ -55,14 +56,14 @@ module _ (j : Job) (n : ℕ) (checks : List ℕ) where
   unfolding step shapeCall
   shape-refused why e r =
       ap (λ x. shapeOutcome (record { checked = x; job = j })) r
-      ∙ first-refused (refusing j []) _ (shapeTests n checks) (number why) (sym e ∙ ap outcomeOf r)
+      ∙ sym (given-refused (refusing j []) _ (shapeTests n checks) (number why) (sym e ∙ ap outcomeOf r))
 
   pub shape-given : {v : Checked} {i : Job} → outcomeOf v ≡ outcome (shapeTests n checks) → v ≡ Pass → i ≡ shapedJob (shapeOf n checks)
       → shapeOutcome (record { checked = v; job = i }) ≡ step j (shape n checks)
   unfolding step shapeCall
   shape-given e r s =
       ap₂ (λ x y. shapeOutcome (record { checked = x; job = y })) r s
-      ∙ first-passed (refusing j []) _ (shapeTests n checks) (sym e ∙ ap outcomeOf r)
+      ∙ sym (given-passed (refusing j []) _ (shapeTests n checks) (sym e ∙ ap outcomeOf r))
 
 -- ---- encode
 
@@ -78,11 +79,11 @@ module _ (j : Job) (f : List ℕ) where
       → encodeOutcome j v left ≡ step j (encode f)
   unfolding step encodeCall
   encode-given full Pass e l =
-      ap (encodeOutcome j Pass) (l ∙ sym (first-passed (λ k. f) _ (encodeTests (j .shape) f) (sym e)))
-      ∙ rw full (first-passed (refusing j f) _ (encodeTests (j .shape) f) (sym e))
+      ap (encodeOutcome j Pass) (l ∙ given-passed (λ k. f) _ (encodeTests (j .shape) f) (sym e))
+      ∙ rw full (sym (given-passed (refusing j f) _ (encodeTests (j .shape) f) (sym e)))
   encode-given full (Refuse why) e l =
-      ap (encodeOutcome j (Refuse why)) (l ∙ sym (first-refused (λ k. f) _ (encodeTests (j .shape) f) (number why) (sym e)))
-      ∙ rw full (first-refused (refusing j f) _ (encodeTests (j .shape) f) (number why) (sym e))
+      ap (encodeOutcome j (Refuse why)) (l ∙ given-refused (λ k. f) _ (encodeTests (j .shape) f) (number why) (sym e))
+      ∙ rw full (sym (given-refused (refusing j f) _ (encodeTests (j .shape) f) (number why) (sym e)))
 
 -- ---- locate
 
@@ -94,12 +95,12 @@ module _ (j : Job) (f : List ℕ) where
   module _ (full : isEmpty j ≡ false) where
     pub locate-refused : (k : ℕ) → outcome (frameTests (j .shape) f) ≡ refused k → refusing j f k ≡ step j (locate f)
     unfolding step locateCall
-    locate-refused k e = rw full (first-refused (refusing j f) _ (frameTests (j .shape) f) k e)
+    locate-refused k e = rw full (sym (given-refused (refusing j f) _ (frameTests (j .shape) f) k e))
 
     pub locate-goes-on : outcome (frameTests (j .shape) f) ≡ passed
         → firstOf (refusing (shapedJob (j .shape)) f) (registerTests (shapedJob (j .shape)) f) (locates (j .shape) f) ≡ step j (locate f)
     unfolding step locateCall registerTests shapedJob
-    locate-goes-on e = rw full (first-passed (refusing j f) _ (frameTests (j .shape) f) e)
+    locate-goes-on e = rw full (sym (given-passed (refusing j f) _ (frameTests (j .shape) f) e))
 
 -- ---- repair
 
@@ -128,11 +129,11 @@ module _ (j : Job) (f : List ℕ) where
       next = rw (full, located) (after (refusing j f) (frameTests (j .shape) f) sumsTest (repairs j f))
 
       pub repair-refused : (k : ℕ) → outcome (frameTests (j .shape) f) ≡ refused k → refusing j f k ≡ step j (repair f)
-      repair-refused k e = first-refused (refusing j f) _ (frameTests (j .shape) f) k e ∙ sym next
+      repair-refused k e = sym (given-refused (refusing j f) _ (frameTests (j .shape) f) k e) ∙ sym next
 
       module _ (well-formed : outcome (frameTests (j .shape) f) ≡ passed) where
         goes-on : firstOf (refusing j f) sumsTest (repairs j f) ≡ step j (repair f)
-        goes-on = first-passed (refusing j f) _ (frameTests (j .shape) f) well-formed ∙ sym next
+        goes-on = sym (given-passed (refusing j f) _ (frameTests (j .shape) f) well-formed) ∙ sym next
 
         pub repair-differs : sameSums (heldSums (j .shape) f) (j .findings .sums) ≡ false → refusing j f 23 ≡ step j (repair f)
         repair-differs e = rw e at goes-on
