@@ -2,7 +2,7 @@
 ghost use mathlib.Core.Path.{_≡_};
 ghost use mathlib.Core.Bool.{false, _&&_, _||_};
 ghost use Prim.Native.Nat.{_<_, _≤_};
-ghost use lib.Dec.{eqb, leb, ltb};
+ghost use lib.Dec.{eqb, leb};
 ghost use lib.ListN.{length};
 ghost use Rattle.columns.specs.Columns.{bit, has, columnsOf, members};
 ghost use Rattle.columns.specs.Listed.{count, least};
@@ -69,18 +69,4 @@ pub fn next(c: Columns, from: usize) -> usize
         at += 64 - k;
     }
     256
-}
-
-// The columns 0 to n − 1.
-pub fn below(n: usize) -> Columns
-    requires { ⌜ n ≤ 256 ⌝ }
-    ensures { λ r. ⌜ r ≡ columnsOf (λ k. ltb k n) ⌝ }
-{
-    let mut r = empty();
-    let mut i = 0;
-    while i < n {
-        r = with(r, i);
-        i += 1;
-    }
-    r
 }
