@@ -12,6 +12,5 @@ pub mod Padding
 pub mod PowerTable
 pub mod RowPlace
 pub mod RowSums
-pub mod RowsCompleted
 pub mod ShapeTests
 pub mod Testing

@@ -5,4 +5,5 @@ pub mod GeneratorBuilding
 pub mod Multiplication
 pub mod Remainder
 pub mod RowData
+pub mod RowsCompleted
 pub mod WeighedSums

@@ -8,7 +8,6 @@ use borrow.Author.Tests.{ltb-true, le-ltb}
 use borrow.Rule.Slice.PartMut.{midOf}
 use lib.Dec.{ltb}
 use lib.ListN.{length, getD}
-use Rattle.codec.proofs.RowsCompleted.{RowsCompleted}
 use Rattle.columns.specs.declared.Columns.{Columns}
 use Rattle.frame.specs.Completion.{completed}
 use Rattle.frame.specs.Encode.{dataBelow}
@@ -19,6 +18,7 @@ use Rattle.frame.proofs.CompletionLaws.{length-completed}
 use Rattle.frame.proofs.Rows.{row-cell, eachRow-later}
 use Rattle.lists.proofs.Entries.{getD-part}
 use Rattle.lists.proofs.Tabulated.{every-at}
+use Rattle.encoder.proofs.RowsCompleted.{RowsCompleted}
 
 module _ (s : Shape) (f : List ℕ) (small : dataBelow s f ≡ true) (h : ℕ) (less : h < s .rows) where
   abbrev n : ℕ

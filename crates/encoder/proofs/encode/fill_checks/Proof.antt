@@ -4,13 +4,13 @@ use Prim.Native.Nat.{_-_}
 use native.Mathlib.Omega.{arith}
 use lib.ListN.{length}
 use Rattle.codec.proofs.RowPlace.{RowPlace, row-place}
-use Rattle.codec.proofs.RowsCompleted.{RowsCompleted, completed-none, completed-more, completed-all, length-part}
 use Rattle.frame.specs.Encode.{encoded}
 use Rattle.frame.specs.Shape.{checksOf}
 use Rattle.frame.proofs.Encoding.{firstColumns}
 use Rattle.frame.proofs.Shapes.{shape-ranges}
 use Rattle.encoder.specs.Generator.{Generator}
 use Rattle.encoder.proofs.RowData.{row-small}
+use Rattle.encoder.proofs.RowsCompleted.{RowsCompleted, completed-none, completed-more, completed-all, length-part}
 use borrow.Author.Needs.{needs}
 use Rattle.encoder.proofs.encode.fill_checks.Statement.{statement}
 use Rattle.encoder.proofs.encode.fill_checks.Tie as tie
