@@ -1,5 +1,5 @@
 -- A column of a frame mended row after row: which cells are mended after some rows, and where the sums of the next row begin. Assumes nothing.
-use mathlib.Core.Path.{_≡_, refl, sym, ap, ap₂, _∙_}
+use mathlib.Core.Path.{_≡_, refl, sym, ap, ap₂, subst, _∙_}
 use mathlib.Core.Logic.{_≢_}
 use mathlib.Core.Bool.{Bool, true, false, cond, _&&_, and-true, and-false}
 use mathlib.Core.List.{List}
@@ -11,7 +11,7 @@ use native.Mathlib.Omega.{arith}
 use lib.Dec.{eqb, lit<, ltb}
 use lib.ListN.{length, getD, set, take, drop, length-set}
 use borrow.Author.Tests.{eq-eqb, ne-eqb, lt-ltb, le-ltb}
-use borrow.Rule.Slice.PartMut.{midOf}
+use borrow.Rule.Slice.PartMut.{midOf, putMid, mid-len, set-mid-at}
 use Rattle.field.specs.Total.{total}
 use Rattle.field.proofs.Totals.{total-ext}
 use Rattle.frame.specs.Shape.{checksOf}
@@ -117,21 +117,42 @@ module _ (s : Shape) (coefficients sums : List ℕ) (i : ℕ) (f : List ℕ) whe
         ap₂ _&&_ (eq-eqb ((h * n + i) % n) i (column-of n h i inside))
         (lt-ltb ((h * n + i) / n) (h + 1) (let q = row-of n h i inside in omega arith))
 
-    pub mended-more : (symbol v count : ℕ) → h < s .rows → symbol ≡ readAt coefficients sums at → v ≡ (getD l (h * n + i) 0 + symbol) % 257 → count ≡ checksOf s h
-        → Mended (h + 1) (at + count) (set l (h * n + i) v)
-    mended-more symbol v count next read e c = record {
+    written : (symbol count : ℕ) → h < s .rows → symbol ≡ readAt coefficients sums at → count ≡ checksOf s h
+        → Mended (h + 1) (at + count) (set l (h * n + i) ((getD l (h * n + i) 0 + symbol) % 257))
+    written symbol count next read c = record {
       rows-passed = omega arith;
       place = ap₂ _+_ (a .place) c ∙ sym (ap (sumsAt s) (add-one h) ∙ sumsAt-suc s h);
       room = (let q = a .room in let b = r .checks .most in omega arith);
-      size = length-set l (h * n + i) v ∙ a .size;
+      size = length-set l (h * n + i) _ ∙ a .size;
       entries =
-          ap (λ (x : List ℕ). set x (h * n + i) v) (a .entries)
-          ∙ set-tabulate (length f) (λ t. chosen t (done h t)) (λ t. chosen t (done (h + 1) t)) (h * n + i) v within
-          (e ∙ ap₂ (λ (y z : ℕ). (y + z) % 257) unmended
+          ap (λ (x : List ℕ). set x (h * n + i) ((getD l (h * n + i) 0 + symbol) % 257)) (a .entries)
+          ∙ set-tabulate (length f) (λ t. chosen t (done h t)) (λ t. chosen t (done (h + 1) t)) (h * n + i) _ within
+          (ap₂ (λ (y z : ℕ). (y + z) % 257) unmended
           (read ∙ ap (readAt coefficients sums) (a .place ∙ ap (sumsAt s) (sym (row-of n h i inside))))
           ∙ ap (chosen (h * n + i)) (sym here))
           (λ t _ d. ap (chosen t) (other t d (ℕ-discrete (t % n) i)));
     }
+
+    -- row h as it is lent
+    abbrev part : List ℕ
+    part = midOf (h * n) (h * n + n - h * n) l
+
+    part-cell : getD part i 0 ≡ getD l (h * n + i) 0
+    part-cell = getD-part (h * n) (h * n + n - h * n) l i 0 (omega arith)
+
+    -- row h comes back with its symbol in the column mended
+    pub mended-more : (symbol count : ℕ) (y : List ℕ) → h < s .rows → symbol ≡ readAt coefficients sums at → y ≡ set part i ((getD part i 0 + symbol) % 257)
+        → count ≡ checksOf s h → Mended (h + 1) (at + count) (putMid (h * n) (h * n + n - h * n) l y)
+    mended-more symbol count y next read e c = subst (λ (x : List ℕ). Mended (h + 1) (at + count) x) (sym back) (written symbol count next read c)
+      where
+        reach : i < length part
+        reach = let q = mid-len (h * n) (h * n + n) l (let z = a .size in let w = r .inside in omega arith) in omega arith
+
+        back : putMid (h * n) (h * n + n - h * n) l y ≡ set l (h * n + i) ((getD l (h * n + i) 0 + symbol) % 257)
+        back =
+            ap (λ (x : List ℕ). putMid (h * n) (h * n + n - h * n) l x) e
+            ∙ set-mid-at (h * n) (h * n + n - h * n) i l ((getD part i 0 + symbol) % 257) reach
+            ∙ ap (λ (v : ℕ). set l (h * n + i) ((v + symbol) % 257)) part-cell
 
   pub mended-all : (h at : ℕ) (l : List ℕ) → Mended h at l → i < n → length f ≡ s .rows * n → s .rows ≤ h → l ≡ mendedColumn s coefficients sums i f
   unfolding mendedColumn

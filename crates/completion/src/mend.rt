@@ -13,7 +13,7 @@ use frame::Shape;
 ghost use mathlib.Core.Path.{_≡_};
 ghost use mathlib.Core.Bool.{true};
 ghost use Prim.Native.Nat.{ℕ, suc, _+_, _-_, _*_, _%_, _≤_, _<_};
-ghost use lib.ListN.{length, getD};
+ghost use lib.ListN.{length, getD, set as put};
 ghost use Rattle.columns.specs.Columns.{has, members};
 ghost use Rattle.completion.specs.Mending.{mendedColumn};
 ghost use Rattle.field.specs.Total.{total as totalOf};
@@ -49,7 +49,15 @@ fn plus(cell: u16, symbol: u16) -> u16
     ((wide(cell) + wide(symbol)) % 257) as u16
 }
 
-// Column i mended in every row, with the coefficients of the column.
+// The row with its symbol at column i mended.
+fn mend_cell(row: &mut [u16], i: usize, symbol: u16)
+    requires { ⌜ i < length (now row) ⌝ }
+    ensures { λ r. ⌜ now (row .exit) ≡ put (now (row .entry)) i ((getD (now (row .entry)) i 0 + symbol) % 257) ⌝ }
+{
+    row[i] = plus(row[i], symbol);
+}
+
+// Column i mended in every row, with the coefficients of the column. Each row is lent on as its own part of the frame.
 fn mend_column(s: Shape, frame: &mut [u16], i: usize, coefficients: &[u16], sums: &[u16])
     requires { ⌜
         (isShape s ≡ true) × (length (now frame) ≡ s .rows * s .columns) × (i < s .columns)
@@ -65,8 +73,9 @@ fn mend_column(s: Shape, frame: &mut [u16], i: usize, coefficients: &[u16], sums
     while h < rows {
         let to = at + m;
         let symbol = read_off(coefficients, &sums[at..to]);
-        let t = h * columns + i;
-        frame[t] = plus(frame[t], symbol);
+        let a = h * columns;
+        let e = a + columns;
+        mend_cell(&mut frame[a..e], i, symbol);
         at += wide(s.checks[h]) as usize;
         h += 1;
     }

@@ -77,32 +77,42 @@ read-off-requires c κs =
     let n = mid-len (at .loop .at) end (start .args .sums .now) (r .read) in
     (few, omega arith, part-below (start .args .sums .now) (start .pre .5) (at .loop .at) (end - at .loop .at))
 
-mul-t : tie.Need-mul-t Inv-loop μ-loop
-mul-t c = let r = room (c .before .before) in omega arith
+mul-a : tie.Need-mul-a Inv-loop μ-loop
+mul-a c = let p = place (c .before .before) in omega arith
 
-add-t : tie.Need-add-t Inv-loop μ-loop
-add-t c = let r = room (c .before .before) in omega arith
+add-e : tie.Need-add-e Inv-loop μ-loop
+add-e c = let p = place (c .before .before) in omega arith
 
-mul-plus : tie.Need-mul-plus Inv-loop μ-loop
-mul-plus c = let r = room (c .before .before) in omega arith
+mul-mend-cell : tie.Need-mul-mend-cell Inv-loop μ-loop
+mul-mend-cell c = let p = place (c .before .before) in omega arith
 
-slice-read-plus : tie.Need-slice-read-plus Inv-loop μ-loop
-slice-read-plus c = let r = room (c .before .before .before) in let s = c .before .before .before .before .loop .inv .size in omega arith
+sub-mend-cell : tie.Need-sub-mend-cell Inv-loop μ-loop
+sub-mend-cell c = omega arith
 
-plus-requires : tie.Need-plus-requires Inv-loop μ-loop
-plus-requires c κs = search needs
+part-mend-cell-start : tie.Need-part-mend-cell-start Inv-loop μ-loop
+part-mend-cell-start c = let p = place (c .before .before) in omega arith
 
-mul-frame : tie.Need-mul-frame Inv-loop μ-loop
-mul-frame c = let r = room (c .before .before .before .before) in omega arith
+part-mend-cell-end : tie.Need-part-mend-cell-end Inv-loop μ-loop
+part-mend-cell-end c =
+    let p = place (c .before .before) in let s = c .before .before .before .loop .inv .size in omega arith
 
-slice-write-frame : tie.Need-slice-write-frame Inv-loop μ-loop
-slice-write-frame c = let r = room (c .before .before .before .before) in let s = c .before .before .before .before .before .loop .inv .size in omega arith
+mend-cell-requires : tie.Need-mend-cell-requires Inv-loop μ-loop
+mend-cell-requires c κs =
+    let inside = c .before .before .before in
+    let at = inside .before in
+    let start = at .before .before .before .before in
+    let n = start .args .t1 .columns in
+    let p = place inside .inside in
+    let s = at .loop .inv .size in
+    let i = start .pre .2 in
+    let size = mid-len (at .loop .h * n) (at .loop .h * n + n) (at .loop .frame) (omega arith) in
+    omega arith
 
 mul-wide : tie.Need-mul-wide Inv-loop μ-loop
-mul-wide c = let p = place (c .before .before .before .before) in omega arith
+mul-wide c = let p = place (c .before .before .before .before .before .before) in omega arith
 
 element-copy-out-wide : tie.Need-element-copy-out-wide Inv-loop μ-loop
-element-copy-out-wide c = let p = place (c .before .before .before .before) in omega arith
+element-copy-out-wide c = let p = place (c .before .before .before .before .before .before) in omega arith
 
 wide-requires : tie.Need-wide-requires Inv-loop μ-loop
 wide-requires c κs = search needs
@@ -112,24 +122,24 @@ cast-at c = omega arith
 
 add-at : tie.Need-add-at Inv-loop μ-loop
 add-at c =
-    let r = room (c .before .before .before .before .before .before) in
+    let r = room (c .before .before .before .before .before .before .before .before) in
     omega arith
 
 add-h : tie.Need-add-h Inv-loop μ-loop
-add-h c = let p = place (c .before .before .before .before .before .before) in omega arith
+add-h c = let p = place (c .before .before .before .before .before .before .before .before) in omega arith
 
 loop-less : tie.Need-loop-less Inv-loop μ-loop
-loop-less c = let t = c .before .before .before .before .before .before .loop-test .taken in omega arith
+loop-less c = let t = c .before .before .before .before .before .before .before .before .loop-test .taken in omega arith
 
 loop-again : tie.Need-loop-again Inv-loop μ-loop
 loop-again c =
-    let added = c .before .before in
-    let read = added .before .before in
+    let mended = c .before .before .before .before in
+    let read = mended .before .before in
     let inside = read .before .before in
     let at = inside .before in
     let start = at .before .before .before .before in
-    mended-more _ _ _ _ _ (at .loop .h) (at .loop .at) (at .loop .frame) (at .loop .inv) (start .pre .2) (place inside) (read .read-off .result) (added .plus .result) (c .wide .result)
-    (inside .loop-test .taken) (read-part _ _ (at .loop .at) _ (read .read-off .ensures)) (added .plus .ensures) (c .wide .ensures .0)
+    mended-more _ _ _ _ _ (at .loop .h) (at .loop .at) (at .loop .frame) (at .loop .inv) (start .pre .2) (place inside) (read .read-off .result) (c .wide .result) _
+    (inside .loop-test .taken) (read-part _ _ (at .loop .at) _ (read .read-off .ensures)) (mended .mend-cell .ensures) (c .wide .ensures .0)
 
 same-length : tie.Need-same-length Inv-loop μ-loop
 same-length c = c .before .loop .inv .size
@@ -152,13 +162,13 @@ mend-column-spec =
     part-read-off-start
     part-read-off-end
     read-off-requires
-    mul-t
-    add-t
-    mul-plus
-    slice-read-plus
-    plus-requires
-    mul-frame
-    slice-write-frame
+    mul-a
+    add-e
+    mul-mend-cell
+    sub-mend-cell
+    part-mend-cell-start
+    part-mend-cell-end
+    mend-cell-requires
     mul-wide
     element-copy-out-wide
     wide-requires
