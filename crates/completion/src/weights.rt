@@ -1,9 +1,9 @@
 // The coefficients with which the symbol at a column of a set is read off the check sums, shared by all rows.
+use crate::inverses::inverse;
 use codec::powers::entry;
 use codec::powers::wide;
 use codec::values::value_at;
 use field::residue::difference;
-use field::residue::inverse;
 use field::residue::product;
 ghost use mathlib.Core.Path.{_≡_};
 ghost use Prim.Native.Nat.{suc, _≤_, _<_};
@@ -49,7 +49,7 @@ fn factor(powers: &[u16; 256], others: &[u16], i: usize) -> u32
     let there = value_at(powers, others, 256 - i);
     let weight = entry(powers, (i * others.len()) % 256);
     let part = product(weight, wide(there), 257);
-    difference(0, inverse(part, 257), 257)
+    difference(0, inverse(part), 257)
 }
 
 // The coefficients of column i of a set with the locator polynomial f, as many as the set has columns.
