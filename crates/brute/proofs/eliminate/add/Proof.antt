@@ -1,0 +1,34 @@
+-- `brute::eliminate::add` is safe and ends: `table` keeps its length. Assumes nothing.
+use Prim.Native.Nat.{_-_}
+use mathlib.Core.Path.{_≡_}
+use lib.ListN.{length}
+use borrow.Author.Needs.{needs}
+use Rattle.brute.proofs.eliminate.add.Statement.{statement}
+use Rattle.brute.proofs.eliminate.add.Tie as tie
+
+abbrev Inv-loop : tie.InvT-loop
+Inv-loop p table₀ n k₀ table k = length table ≡ length table₀
+
+abbrev μ-loop : tie.MeasureT-loop
+μ-loop p table₀ n k₀ table k = n - k
+
+pub add-spec : {M : Type 1} → statement M
+add-spec =
+    tie.close
+    (tie.spec
+    Inv-loop
+    μ-loop
+    (λ c. search needs)
+    (λ c κs. search needs)
+    (λ c κs. search needs)
+    (λ c. search needs)
+    (λ c. search needs)
+    (λ c κs. search needs)
+    (λ c. search needs)
+    (λ c. search needs)
+    (λ c. search needs)
+    (λ c κs. search needs)
+    (λ c. search needs)
+    (λ c. search needs)
+    (λ c. search needs)
+    (λ c. search needs))

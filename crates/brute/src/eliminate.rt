@@ -1,0 +1,115 @@
+// Linear equations modulo a prime p, solved by elimination without division. An equation is a row of values in a table: value 0 is the
+// constant, value k the coefficient of unknown k. Row k leads with unknown k, or its value k is 0 and it counts as empty. Row 0 is
+// the equation that is being added.
+use crate::values::cross;
+use crate::values::get;
+use crate::values::put;
+
+// How many values a row has room for. The table has as many rows.
+const SPAN: usize = 129;
+
+// What an added equation does: it follows from those before it, or it leads with a new unknown, or no solution is left.
+pub enum Added {
+    Follows,
+    Leads,
+    Contradicts,
+}
+
+pub fn follows(added: Added) -> bool {
+    match added {
+        Added::Follows => true,
+        Added::Leads => false,
+        Added::Contradicts => false,
+    }
+}
+
+pub fn contradicts(added: Added) -> bool {
+    match added {
+        Added::Follows => false,
+        Added::Leads => false,
+        Added::Contradicts => true,
+    }
+}
+
+pub fn table() -> [u16; 16641] {
+    [0; 16641]
+}
+
+// Where value j of row k stands.
+fn place(k: usize, j: usize) -> usize {
+    if k < SPAN {
+        if j < SPAN {
+            return k * SPAN + j;
+        }
+    }
+    SPAN * SPAN
+}
+
+fn value(table: &[u16], k: usize, j: usize) -> u16 {
+    get(table, place(k, j))
+}
+
+// Empties the table for rows of n values.
+pub fn clear(table: &mut [u16], n: usize) {
+    for k in 1..n {
+        put(table, place(k, k), 0);
+    }
+}
+
+// Takes the multiple of row k by which unknown k falls out from value j of the equation that is being added.
+fn cancel_value(p: u16, table: &mut [u16], k: usize, j: usize, x: u16) {
+    let lead = value(table, k, k);
+    let v = cross(p, get(table, j), lead, value(table, k, j), x);
+    put(table, j, v);
+}
+
+// Takes unknown k out of the equation that is being added, by row k.
+fn cancel(p: u16, table: &mut [u16], k: usize, n: usize) {
+    let x = get(table, k);
+    if x == 0 {
+        return;
+    }
+    for j in 0..n {
+        cancel_value(p, table, k, j, x);
+    }
+}
+
+fn keep(table: &mut [u16], k: usize, n: usize) {
+    for j in 0..n {
+        let v = get(table, j);
+        put(table, place(k, j), v);
+    }
+}
+
+// The equation that is being added has unknown k, and no row leads with it.
+fn is_new(table: &[u16], k: usize) -> bool {
+    if get(table, k) == 0 {
+        return false;
+    }
+    value(table, k, k) == 0
+}
+
+// Adds the equation of row 0, which has n values.
+pub fn add(p: u16, table: &mut [u16], n: usize) -> Added {
+    for k in 1..n {
+        if is_new(table, k) {
+            keep(table, k, n);
+            return Added::Leads;
+        }
+        cancel(p, table, k, n);
+    }
+    if get(table, 0) != 0 {
+        return Added::Contradicts;
+    }
+    Added::Follows
+}
+
+// Every unknown leads a row: there is at most one solution.
+pub fn determined(table: &[u16], n: usize) -> bool {
+    for k in 1..n {
+        if value(table, k, k) == 0 {
+            return false;
+        }
+    }
+    true
+}

@@ -1,0 +1,95 @@
+// Values modulo p in lent arrays. These functions are total, so that no caller owes them anything: a value outside an array reads
+// as 0 and is not written, and modulo 0 everything is 0.
+ghost use Prim.Native.Nat.{_<_};
+
+pub fn get(a: &[u16], i: usize) -> u16 {
+    if i < a.len() {
+        return a[i];
+    }
+    0
+}
+
+pub fn put(a: &mut [u16], i: usize, v: u16) {
+    if i < a.len() {
+        a[i] = v;
+    }
+}
+
+// The first n values become v.
+pub fn set(a: &mut [u16], n: usize, v: u16) {
+    for i in 0..n {
+        put(a, i, v);
+    }
+}
+
+// The value k places before place i.
+pub fn before(a: &[u16], i: usize, k: usize) -> u16 {
+    if k <= i {
+        return get(a, i - k);
+    }
+    0
+}
+
+// The difference of two numbers, cut off at 0.
+pub fn minus(a: usize, b: usize) -> usize {
+    if b <= a {
+        return a - b;
+    }
+    0
+}
+
+// The part of a that starts at `start` and has n values; nothing where it does not lie in a.
+pub fn part(a: &[u16], start: usize, n: usize) -> &[u16] {
+    if start <= a.len() {
+        if n <= a.len() - start {
+            let end = start + n;
+            return &a[start..end];
+        }
+    }
+    &a[0..0]
+}
+
+// The first n values of a, to be written; all of a where it has fewer.
+pub fn first(a: &mut [u16], n: usize) -> &mut [u16] {
+    if n <= a.len() {
+        return &mut a[0..n];
+    }
+    a
+}
+
+// Puts one list into another from place `at` on.
+pub fn copy(from: &[u16], to: &mut [u16], at: usize) {
+    for i in 0..from.len() {
+        put(to, std::num::wrapping_add_usize(at, i), get(from, i));
+    }
+}
+
+pub fn product(a: u16, b: u16) -> u64
+    ensures { λ r. ⌜ r < 4294967296 ⌝ }
+{
+    (a as u64) * (b as u64)
+}
+
+pub fn remainder(x: u64, p: u16) -> u16 {
+    if p == 0 {
+        return 0;
+    }
+    (x % (p as u64)) as u16
+}
+
+// a·b − c·d modulo p. A multiple of p that is above c·d is added first.
+pub fn cross(p: u16, a: u16, b: u16, c: u16, d: u16) -> u16 {
+    if p == 0 {
+        return 0;
+    }
+    remainder(product(a, b) + 4294967296 * (p as u64) - product(c, d), p)
+}
+
+pub fn times(p: u16, a: u16, b: u16) -> u16 {
+    remainder(product(a, b), p)
+}
+
+// a + b·c modulo p.
+pub fn plus_product(p: u16, a: u16, b: u16, c: u16) -> u16 {
+    remainder((a as u64) + product(b, c), p)
+}

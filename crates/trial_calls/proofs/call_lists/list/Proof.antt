@@ -1,0 +1,31 @@
+-- `trial_calls::call_lists::list` is safe and ends: `counts` and `room` keep their lengths. Assumes nothing.
+use Prim.Native.Nat.{_-_}
+use mathlib.Core.Path.{_≡_}
+use lib.ListN.{length}
+use borrow.Author.Needs.{needs}
+use Rattle.trial_calls.proofs.call_lists.list.Statement.{statement}
+use Rattle.trial_calls.proofs.call_lists.list.Tie as tie
+
+abbrev Inv-loop : tie.InvT-loop
+Inv-loop state₀ n counts₀ room₀ pair₀ counter₀ state counts room pair counter = (length counts ≡ length counts₀) × (length room ≡ length room₀)
+
+abbrev μ-loop : tie.MeasureT-loop
+μ-loop state₀ n counts₀ room₀ pair₀ counter₀ state counts room pair counter = n - counter
+
+pub list-spec : {M : Type 1} → statement M
+list-spec =
+    tie.close
+    (tie.spec
+    Inv-loop
+    μ-loop
+    (λ c. search needs)
+    (λ c κs. search needs)
+    (λ c. search needs)
+    (λ c κs. search needs)
+    (λ c. search needs)
+    (λ c. search needs)
+    (λ c. search needs)
+    (λ c. search needs)
+    (λ c. search needs)
+    (λ c. search needs)
+    (λ c. search needs))

@@ -1,0 +1,223 @@
+// Calls on a job in each of its states at the edges of document 01: what is just taken and what is just refused, which of two reasons comes
+// first, and the state that is left. Frames have n symbols, the first k of which are v, and the others 0.
+use crate::tallies::EDGES;
+use brute::answers::of_checked;
+use brute::answers::of_reply;
+use brute::compare::same;
+use brute::tally::count;
+use brute::tally::print_list;
+use brute::values::first;
+use brute::values::minus;
+use brute::values::part;
+use brute::values::put;
+use brute::values::set;
+use job::Job;
+
+// What shape answers for rows of `checks` checks, but for the last row.
+fn shapes(rows: usize, columns: usize, checks: u16, last: u16) -> u32 {
+    let mut room = [0u16; 9];
+    set(&mut room, 9, checks);
+    put(&mut room, minus(rows, 1), last);
+    let shaped = link::shape::shape(link::states::empty(), columns, part(&room, 0, rows));
+    let checked = shaped.checked;
+    of_checked(checked)
+}
+
+fn shape_edge(i: usize) -> bool {
+    match i {
+        0 => shapes(0, 4, 1, 1) == 2,
+        1 => shapes(1, 4, 1, 1) == 0,
+        2 => shapes(8, 4, 1, 1) == 0,
+        3 => shapes(9, 4, 1, 1) == 2,
+        4 => shapes(2, 0, 1, 1) == 5,
+        5 => shapes(2, 1, 1, 1) == 5,
+        6 => shapes(2, 2, 1, 1) == 0,
+        7 => shapes(8, 256, 64, 64) == 0,
+        8 => shapes(8, 257, 64, 64) == 5,
+        9 => shapes(2, 65, 64, 64) == 0,
+        10 => shapes(2, 64, 64, 64) == 6,
+        11 => shapes(2, 256, 64, 65) == 6,
+        12 => shapes(2, 4, 1, 0) == 6,
+        13 => shapes(2, 4, 0, 1) == 6,
+        14 => shapes(2, 4, 3, 4) == 6,
+        15 => shapes(0, 1, 1, 1) == 2,
+        16 => shapes(9, 257, 0, 0) == 2,
+        17 => shapes(2, 257, 65, 0) == 5,
+        _ => false,
+    }
+}
+
+fn shape(job: Job, columns: usize, upper: u16, lower: u16) -> Job {
+    let checks = [upper, lower];
+    link::shape::shape(job, columns, &checks).job
+}
+
+fn shaped() -> Job {
+    shape(link::states::empty(), 4, 3, 2)
+}
+
+fn locate(job: Job, n: usize, v: u16, k: usize) -> Job {
+    let mut room = [0u16; 16];
+    set(&mut room, k, v);
+    link::locate::locate(job, part(&room, 0, n)).job
+}
+
+fn located() -> Job {
+    locate(shaped(), 8, 5, 1)
+}
+
+fn mend(job: Job, n: usize, v: u16, k: usize) -> Job {
+    let mut room = [0u16; 16];
+    set(&mut room, k, v);
+    link::repair::repair(job, first(&mut room, n)).job
+}
+
+fn locates(job: Job, n: usize, v: u16, k: usize) -> u32 {
+    let mut room = [0u16; 16];
+    set(&mut room, k, v);
+    let answer = link::locate::locate(job, part(&room, 0, n));
+    let reply = answer.reply;
+    of_reply(reply)
+}
+
+// A refused call must leave the frame, or the answer is 100.
+fn encodes(job: Job, n: usize, v: u16, k: usize) -> u32 {
+    let mut room = [0u16; 16];
+    set(&mut room, k, v);
+    let lent = room;
+    let number = of_checked(link::encode::encode(job, first(&mut room, n)));
+    if number == 0 {
+        return 0;
+    }
+    if !same(&lent, &room, 0) {
+        return 100;
+    }
+    number
+}
+
+// What the damaged symbols must be after a repair.
+fn left(number: u32, v: u16) -> u16 {
+    if number == 0 {
+        return 0;
+    }
+    v
+}
+
+// The same for repair; a frame that is mended must be all 0.
+fn repairs(job: Job, n: usize, v: u16, k: usize) -> u32 {
+    let mut room = [0u16; 16];
+    set(&mut room, k, v);
+    let answer = link::repair::repair(job, first(&mut room, n));
+    let reply = answer.reply;
+    let number = of_reply(reply);
+    let mut due = [0u16; 16];
+    set(&mut due, k, left(number, v));
+    if !same(&due, &room, 0) {
+        return 100;
+    }
+    number
+}
+
+fn encode_edge(i: usize) -> bool {
+    match i {
+        0 => encodes(link::states::empty(), 8, 5, 1) == 21,
+        1 => encodes(link::states::empty(), 7, 257, 4) == 21,
+        2 => encodes(shaped(), 8, 256, 4) == 0,
+        3 => encodes(shaped(), 8, 65535, 3) == 0,
+        4 => encodes(shaped(), 8, 257, 4) == 4,
+        5 => encodes(shaped(), 7, 257, 4) == 7,
+        6 => encodes(shaped(), 9, 5, 1) == 7,
+        7 => encodes(located(), 8, 5, 4) == 0,
+        _ => false,
+    }
+}
+
+fn locate_edge(i: usize) -> bool {
+    match i {
+        0 => locates(link::states::empty(), 8, 5, 1) == 21,
+        1 => locates(link::states::empty(), 7, 257, 1) == 21,
+        2 => locates(shaped(), 8, 256, 1) == 0,
+        3 => locates(shaped(), 8, 257, 1) == 4,
+        4 => locates(shaped(), 7, 257, 1) == 7,
+        5 => locates(shaped(), 9, 5, 1) == 7,
+        6 => locates(shaped(), 8, 0, 0) == 0,
+        7 => locates(shape(link::states::empty(), 4, 1, 1), 8, 5, 1) == 24,
+        8 => locates(shape(link::states::empty(), 6, 4, 1), 12, 1, 2) == 25,
+        9 => locates(shape(link::states::empty(), 4, 2, 2), 8, 1, 2) == 26,
+        _ => false,
+    }
+}
+
+fn repair_edge(i: usize) -> bool {
+    match i {
+        0 => repairs(link::states::empty(), 8, 5, 1) == 21,
+        1 => repairs(link::states::empty(), 7, 257, 1) == 21,
+        2 => repairs(shaped(), 8, 5, 1) == 22,
+        3 => repairs(shaped(), 7, 257, 1) == 22,
+        4 => repairs(located(), 8, 5, 1) == 0,
+        5 => repairs(located(), 7, 257, 1) == 7,
+        6 => repairs(located(), 9, 5, 1) == 7,
+        7 => repairs(located(), 8, 257, 1) == 4,
+        8 => repairs(located(), 8, 6, 1) == 23,
+        _ => false,
+    }
+}
+
+// The state that a call leaves, told by a repair that only a located job takes.
+fn state_edge(i: usize) -> bool {
+    match i {
+        0 => repairs(locate(located(), 7, 5, 1), 8, 5, 1) == 0,
+        1 => repairs(locate(located(), 8, 257, 1), 8, 5, 1) == 0,
+        2 => repairs(locate(located(), 8, 1, 2), 8, 5, 1) == 22,
+        3 => repairs(locate(located(), 8, 6, 1), 8, 5, 1) == 23,
+        4 => repairs(mend(located(), 7, 5, 1), 8, 5, 1) == 0,
+        5 => repairs(mend(located(), 8, 6, 1), 8, 5, 1) == 0,
+        6 => repairs(mend(located(), 8, 5, 1), 8, 5, 1) == 22,
+        7 => repairs(shape(located(), 4, 4, 2), 8, 5, 1) == 0,
+        8 => repairs(shape(located(), 4, 3, 2), 8, 5, 1) == 22,
+        _ => false,
+    }
+}
+
+fn edge(kind: u16, i: u16) -> bool {
+    let k = i as usize;
+    match kind {
+        0 => shape_edge(k),
+        1 => encode_edge(k),
+        2 => locate_edge(k),
+        3 => repair_edge(k),
+        _ => state_edge(k),
+    }
+}
+
+// How many edges of a kind there are.
+fn edges_of(kind: u16) -> u16 {
+    match kind {
+        0 => 18,
+        1 => 8,
+        2 => 10,
+        _ => 9,
+    }
+}
+
+fn try_kind(kind: u16, counts: &mut [u64]) -> bool {
+    for i in 0..edges_of(kind) {
+        count(counts, EDGES, true);
+        if !edge(kind, i) {
+            let place = [kind, i];
+            print_list(b"edges disagree: kind and number", &place);
+            io::write_all(1, b"\n");
+            return false;
+        }
+    }
+    true
+}
+
+pub(crate) fn try_all(counts: &mut [u64]) -> bool {
+    for kind in 0..5u16 {
+        if !try_kind(kind, counts) {
+            return false;
+        }
+    }
+    true
+}

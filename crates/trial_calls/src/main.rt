@@ -1,0 +1,48 @@
+// Runs the calls on a job at the edges of document 01 and in random lists against a simple model of the job, prints how often each answer
+// occurred, and the first call that disagrees.
+mod against;
+mod call_lists;
+mod edges;
+mod model;
+mod tallies;
+
+use brute::tally::print;
+use brute::tally::print_end;
+use brute::values::get;
+
+// Runs everything up to the first disagreement.
+fn run(state: &mut u64, counts: &mut [u64]) -> bool {
+    if !edges::try_all(counts) {
+        return false;
+    }
+    call_lists::random(state, 500, counts)
+}
+
+// How often each refusal of the calls on a job occurred.
+fn report_refusals(counts: &[u64]) {
+    let numbers: [u16; 11] = [2, 5, 6, 21, 22, 23, 7, 4, 24, 25, 26];
+    for k in 0..11 {
+        let number = get(&numbers, k);
+        io::write_all(1, b"\nrefused by ");
+        io::print_decimal(1, number as u64);
+        print(b": ", counts, number as usize);
+    }
+}
+
+fn report(counts: &[u64]) {
+    print(b"edges ", counts, tallies::EDGES);
+    print(b"\nlists of calls ", counts, tallies::LISTS);
+    print(b"\nshaped ", counts, tallies::RESHAPED);
+    print(b", encoded ", counts, tallies::ENCODED);
+    print(b", located ", counts, tallies::FOUND);
+    print(b", repaired ", counts, tallies::MENDED);
+    report_refusals(counts);
+}
+
+fn main() {
+    let mut state = 1u64;
+    let mut counts = [0u64; 36];
+    let agreed = run(&mut state, &mut counts);
+    report(&counts);
+    print_end(agreed);
+}

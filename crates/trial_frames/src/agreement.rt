@@ -1,0 +1,191 @@
+// What locate and repair answer about a damaged frame, against the second locator and, for small frames, against all sets of columns and
+// all legal frames.
+use crate::every_frame::frames_within;
+use crate::subsets::explain;
+use crate::subsets::nearest;
+use crate::subsets::ways;
+use crate::tallies::LOCATED;
+use crate::tallies::REFUSED_24;
+use crate::tallies::REFUSED_25;
+use crate::tallies::REFUSED_26;
+use brute::answers::columns_of;
+use brute::answers::of_reply;
+use brute::compare::differ_in;
+use brute::compare::same;
+use brute::compare::same_columns;
+use brute::locator::Expected;
+use brute::locator::check_sums;
+use brute::locator::legal;
+use brute::locator::locate;
+use brute::tally::count;
+use brute::values::copy;
+use brute::values::first;
+use brute::values::part;
+use job::Answered;
+use job::Job;
+
+// A refused locate is one after which no frame is due, and the job is shaped: a repair is refused by 22 and leaves the frame.
+fn stays(job: Job, damaged: &[u16], due: &[u16]) -> bool {
+    if due.len() != 0 {
+        return false;
+    }
+    let mut room = [0u16; 2048];
+    copy(damaged, &mut room, 0);
+    let answer = link::repair::repair(job, first(&mut room, damaged.len()));
+    let reply = answer.reply;
+    if of_reply(reply) != 22 {
+        return false;
+    }
+    same(damaged, &room, 0)
+}
+
+// Repair answers the named columns and leaves a legal frame that differs from the damaged one in just these. Where a frame is due, it is that.
+fn mends(
+    job: Job,
+    columns: u16,
+    checks: &[u16],
+    damaged: &[u16],
+    due: &[u16],
+    c: usize,
+    named: &[u16],
+) -> bool {
+    let mut room = [0u16; 2048];
+    copy(damaged, &mut room, 0);
+    let answer = link::repair::repair(job, first(&mut room, damaged.len()));
+    let reply = answer.reply;
+    if of_reply(reply) != 0 {
+        return false;
+    }
+    if columns_of(reply) != c {
+        return false;
+    }
+    if !same_columns(answer.columns, named) {
+        return false;
+    }
+    let mended = part(&room, 0, damaged.len());
+    if !legal(columns, checks, mended) {
+        return false;
+    }
+    if !same(due, mended, 0) {
+        return false;
+    }
+    differ_in(columns, checks.len(), damaged, mended, named)
+}
+
+// By trying all sets of columns: one set of c columns and no smaller one explains the check sums of a located frame, and none of
+// c columns or fewer those of a frame refused by 26.
+fn sets_agree(
+    columns: usize,
+    checks: &[u16],
+    sums: &[u16],
+    expected: Expected,
+    named: &[u16],
+) -> bool {
+    let c = expected.length;
+    if expected.number == 26 {
+        return c < nearest(columns, checks, sums);
+    }
+    if expected.number != 0 {
+        return true;
+    }
+    if nearest(columns, checks, sums) != c {
+        return false;
+    }
+    if ways(c, columns, checks, sums) != 1 {
+        return false;
+    }
+    explain(part(named, 0, columns), checks, sums)
+}
+
+// By trying all legal frames: one lies within c columns of a located frame, and none of a frame refused by 26.
+fn frames_agree(base: &[u16], rows: usize, damaged: &[u16], expected: Expected) -> bool {
+    let c = expected.length;
+    if expected.number == 26 {
+        return frames_within(c, base, rows, damaged) == 0;
+    }
+    if expected.number != 0 {
+        return true;
+    }
+    frames_within(c, base, rows, damaged) == 1
+}
+
+// What is expected is right by the ways that small frames allow.
+fn confirmed(
+    columns: u16,
+    checks: &[u16],
+    sums: &[u16],
+    damaged: &[u16],
+    expected: Expected,
+    named: &[u16],
+    base: &[u16],
+) -> bool {
+    if columns > 8 {
+        return true;
+    }
+    if !sets_agree(columns as usize, checks, sums, expected, named) {
+        return false;
+    }
+    if base.len() == 0 {
+        return true;
+    }
+    frames_agree(base, checks.len(), damaged, expected)
+}
+
+fn tally(number: u32, counts: &mut [u64]) {
+    count(counts, LOCATED, number == 0);
+    count(counts, REFUSED_24, number == 24);
+    count(counts, REFUSED_25, number == 25);
+    count(counts, REFUSED_26, number == 26);
+}
+
+// Locate answers what is expected of it.
+fn answers(answer: Answered, expected: Expected, named: &[u16]) -> bool {
+    let reply = answer.reply;
+    if of_reply(reply) != expected.number {
+        return false;
+    }
+    if expected.number != 0 {
+        return true;
+    }
+    if columns_of(reply) != expected.length {
+        return false;
+    }
+    same_columns(answer.columns, named)
+}
+
+// All answers about the damaged frame are right. What is due is the frame that must be restored, or nothing.
+pub(crate) fn agrees(
+    job: Job,
+    columns: u16,
+    checks: &[u16],
+    damaged: &[u16],
+    due: &[u16],
+    base: &[u16],
+    counts: &mut [u64],
+) -> bool {
+    let mut sums = [0u16; 512];
+    check_sums(columns, checks, damaged, &mut sums);
+    let mut marks = [0u16; 256];
+    let expected = locate(columns, checks, &sums, &mut marks);
+    let named = part(&marks, 0, 256);
+    if !confirmed(columns, checks, &sums, damaged, expected, named, base) {
+        return false;
+    }
+    let answer = link::locate::locate(job, damaged);
+    if !answers(answer, expected, named) {
+        return false;
+    }
+    tally(expected.number, counts);
+    if expected.number != 0 {
+        return stays(answer.job, damaged, due);
+    }
+    mends(
+        answer.job,
+        columns,
+        checks,
+        damaged,
+        due,
+        expected.length,
+        named,
+    )
+}

@@ -1,0 +1,183 @@
+// The four calls on a job against the definitions, on random frames with damage below, at and above half of the checks.
+use crate::agreement::agrees;
+use crate::every_frame::find_base;
+use crate::tallies::ABOVE_HALF;
+use crate::tallies::AT_HALF;
+use crate::tallies::BELOW_HALF;
+use brute::answers::of_checked;
+use brute::compare::same_data;
+use brute::damage::damage;
+use brute::locator::legal;
+use brute::random::draw;
+use brute::random::draw_from;
+use brute::random::fill;
+use brute::random::fill_from;
+use brute::tally::count;
+use brute::tally::print_frame;
+use brute::values::copy;
+use brute::values::first;
+use brute::values::get;
+use brute::values::part;
+use brute::values::product;
+use job::Job;
+
+// How large random frames are: of full size, of any size from 65 columns on, of at most seven columns, or of three columns with two checks
+// in each of at most two rows.
+pub(crate) enum Size {
+    Full,
+    Large,
+    Small,
+    Tiny,
+}
+
+// Encoding leaves the data and makes the frame legal.
+fn encodes(job: Job, columns: u16, checks: &[u16], frame: &mut [u16], n: usize) -> bool {
+    let mut data = [0u16; 2048];
+    copy(frame, &mut data, 0);
+    if of_checked(link::encode::encode(job, first(frame, n))) != 0 {
+        return false;
+    }
+    if !same_data(columns, checks, &data, frame) {
+        return false;
+    }
+    legal(columns, checks, frame)
+}
+
+fn smaller(a: u16, b: u16) -> u16 {
+    if a < b {
+        return a;
+    }
+    b
+}
+
+fn least(a: &[u16]) -> u16 {
+    let mut m: u16 = 65535;
+    for i in 0..a.len() {
+        m = smaller(m, get(a, i));
+    }
+    m
+}
+
+// How many columns are damaged: below half of the least checks, half of them, or above half.
+fn draw_damaged(state: &mut u64, half: u16) -> u16 {
+    let class = draw(state, 3);
+    if class == 0 {
+        return draw(state, half);
+    }
+    if class == 1 {
+        return half;
+    }
+    let more = std::num::wrapping_add_u16(half, 1);
+    draw_from(state, more, std::num::wrapping_add_u16(half, 3))
+}
+
+fn tally_damage(w: u16, half: u16, counts: &mut [u64]) {
+    count(counts, BELOW_HALF, w < half);
+    count(counts, AT_HALF, w == half);
+    count(counts, ABOVE_HALF, w > half);
+}
+
+// The original is due where at most half of the least checks are damaged.
+fn due(original: &[u16], w: u16, half: u16) -> &[u16] {
+    if w <= half {
+        return original;
+    }
+    part(original, 0, 0)
+}
+
+// Damages a legal frame and compares the answers about it.
+fn compare_damaged(
+    state: &mut u64,
+    job: Job,
+    columns: u16,
+    checks: &[u16],
+    original: &[u16],
+    base: &[u16],
+    counts: &mut [u64],
+) -> bool {
+    let half = least(checks) / 2;
+    let w = draw_damaged(state, half);
+    tally_damage(w, half, counts);
+    let mut room = [0u16; 2048];
+    copy(original, &mut room, 0);
+    damage(state, columns, checks.len(), w, &mut room);
+    let damaged = part(&room, 0, original.len());
+    let due = due(original, w, half);
+    if agrees(job, columns, checks, damaged, due, base, counts) {
+        return true;
+    }
+    print_frame(b"frames disagree", columns, checks, damaged);
+    false
+}
+
+// A random frame, encoded, damaged and compared. Each row has one of `spread` numbers of checks from `few` on.
+fn compare_random(
+    state: &mut u64,
+    columns: u16,
+    rows: u16,
+    few: u16,
+    spread: u16,
+    base: &[u16],
+    counts: &mut [u64],
+) -> bool {
+    let mut list = [0u16; 8];
+    fill_from(state, few, spread, &mut list, rows as usize);
+    let checks = part(&list, 0, rows as usize);
+    let shaped = link::shape::shape(link::states::empty(), columns as usize, checks);
+    let n = product(rows, columns) as usize;
+    let mut room = [0u16; 2048];
+    fill(state, 257, &mut room, n);
+    if !encodes(shaped.job, columns, checks, &mut room, n) {
+        print_frame(b"frames disagree", columns, checks, part(&room, 0, n));
+        return false;
+    }
+    let original = part(&room, 0, n);
+    compare_damaged(state, shaped.job, columns, checks, original, base, counts)
+}
+
+fn compare_drawn(state: &mut u64, size: Size, base: &[u16], counts: &mut [u64]) -> bool {
+    match size {
+        Size::Full => compare_random(state, 256, 8, 64, 1, base, counts),
+        Size::Large => {
+            let columns = draw_from(state, 65, 192);
+            let rows = draw_from(state, 1, 8);
+            let few = draw_from(state, 33, 32);
+            let spread = std::num::wrapping_sub_u16(65, few);
+            compare_random(state, columns, rows, few, spread, base, counts)
+        }
+        Size::Small => {
+            let most = draw_from(state, 1, 6);
+            let columns = std::num::wrapping_add_u16(most, 1);
+            let rows = draw_from(state, 1, 4);
+            compare_random(state, columns, rows, 1, most, base, counts)
+        }
+        Size::Tiny => {
+            let rows = draw_from(state, 1, 2);
+            compare_random(state, 3, rows, 2, 1, base, counts)
+        }
+    }
+}
+
+pub(crate) fn random(
+    state: &mut u64,
+    size: Size,
+    n: usize,
+    base: &[u16],
+    counts: &mut [u64],
+) -> bool {
+    for _ in 0..n {
+        if !compare_drawn(state, size, base, counts) {
+            return false;
+        }
+    }
+    true
+}
+
+// Frames of three columns against all legal frames.
+pub(crate) fn tiny(state: &mut u64, n: usize, counts: &mut [u64]) -> bool {
+    let mut base = [0u16; 3];
+    if !find_base(&mut base) {
+        return false;
+    }
+    random(state, Size::Tiny, n, &base, counts)
+}

@@ -1,0 +1,48 @@
+// Runs encode, locate and repair on random frames against second implementations that share no code with them, prints how often each
+// answer occurred, and the first frame on which two disagree.
+mod agreement;
+mod every_frame;
+mod frames;
+mod subsets;
+mod tallies;
+
+use brute::tally::print;
+use brute::tally::print_end;
+use frames::Size;
+
+// Runs everything up to the first disagreement.
+fn run(state: &mut u64, counts: &mut [u64]) -> bool {
+    let none = [0u16; 0];
+    if !frames::tiny(state, 100, counts) {
+        return false;
+    }
+    if !frames::random(state, Size::Small, 2000, &none, counts) {
+        return false;
+    }
+    if !frames::random(state, Size::Large, 40, &none, counts) {
+        return false;
+    }
+    frames::random(state, Size::Full, 20, &none, counts)
+}
+
+fn report(counts: &[u64]) {
+    print(b"frames: F ", counts, tallies::LOCATED);
+    print(b", 24 ", counts, tallies::REFUSED_24);
+    print(b", 25 ", counts, tallies::REFUSED_25);
+    print(b", 26 ", counts, tallies::REFUSED_26);
+    print(
+        b"\ndamage: below half the checks ",
+        counts,
+        tallies::BELOW_HALF,
+    );
+    print(b", at half ", counts, tallies::AT_HALF);
+    print(b", above half ", counts, tallies::ABOVE_HALF);
+}
+
+fn main() {
+    let mut state = 1u64;
+    let mut counts = [0u64; 7];
+    let agreed = run(&mut state, &mut counts);
+    report(&counts);
+    print_end(agreed);
+}

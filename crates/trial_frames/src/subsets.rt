@@ -1,0 +1,76 @@
+// How far the nearest legal frame is, for frames of few columns: all sets of columns are tried, and elimination tells whether errors in
+// them alone give the check sums.
+use brute::counting::advance;
+use brute::eliminate;
+use brute::locator::power;
+use brute::locator::size;
+use brute::sequences::sequence;
+use brute::values::get;
+use brute::values::part;
+use brute::values::put;
+use brute::values::times;
+
+// The equation of check sum j: the errors of the marked columns, times their weights, add up to it.
+fn pose(table: &mut [u16], marks: &[u16], sum: u16, j: usize) {
+    put(table, 0, sum);
+    for i in 0..marks.len() {
+        let weight = power(power(3, i), j);
+        put(table, i + 1, times(257, get(marks, i), weight));
+    }
+}
+
+fn explain_row(table: &mut [u16], marks: &[u16], sums: &[u16]) -> bool {
+    let n = std::num::wrapping_add_usize(marks.len(), 1);
+    eliminate::clear(table, n);
+    for j in 0..sums.len() {
+        pose(table, marks, get(sums, j), j + 1);
+        if eliminate::contradicts(eliminate::add(257, table, n)) {
+            return false;
+        }
+    }
+    true
+}
+
+// Errors in the marked columns alone give the check sums of every row.
+pub(crate) fn explain(marks: &[u16], checks: &[u16], sums: &[u16]) -> bool {
+    let mut room = eliminate::table();
+    let table: &mut [u16] = &mut room;
+    for h in 0..checks.len() {
+        if !explain_row(table, marks, sequence(checks, sums, h)) {
+            return false;
+        }
+    }
+    true
+}
+
+fn explain_with(d: usize, marks: &[u16], checks: &[u16], sums: &[u16]) -> bool {
+    if size(marks) != d {
+        return false;
+    }
+    explain(marks, checks, sums)
+}
+
+// How many sets of d columns explain the check sums. There are at most eight columns.
+pub(crate) fn ways(d: usize, columns: usize, checks: &[u16], sums: &[u16]) -> usize {
+    let mut room = [0u16; 8];
+    let marks: &mut [u16] = &mut room;
+    let mut n: usize = 0;
+    for _ in 0..256usize {
+        let found = explain_with(d, part(marks, 0, columns), checks, sums);
+        n = std::num::wrapping_add_usize(n, found as usize);
+        if !advance(2, marks, 0, columns) {
+            return n;
+        }
+    }
+    0
+}
+
+// The least number of columns in which errors explain the check sums.
+pub(crate) fn nearest(columns: usize, checks: &[u16], sums: &[u16]) -> usize {
+    for d in 0..9 {
+        if ways(d, columns, checks, sums) != 0 {
+            return d;
+        }
+    }
+    9
+}

@@ -1,0 +1,29 @@
+-- `trial_registers::algorithm4::begin` is safe and ends: `rows` keeps its length. Assumes nothing.
+use Prim.Native.Nat.{_-_}
+use mathlib.Core.Path.{_≡_}
+use lib.ListN.{length}
+use borrow.Author.Needs.{needs}
+use Rattle.trial_registers.proofs.algorithm4.begin.Statement.{statement}
+use Rattle.trial_registers.proofs.algorithm4.begin.Tie as tie
+
+abbrev Inv-loop : tie.InvT-loop
+Inv-loop lengths at-ends rows₀ h₀ h-end rows h = length rows ≡ length rows₀
+
+abbrev μ-loop : tie.MeasureT-loop
+μ-loop lengths at-ends rows₀ h₀ h-end rows h = h-end - h
+
+pub begin-spec : {M : Type 1} → statement M
+begin-spec =
+    tie.close
+    (tie.spec
+    Inv-loop
+    μ-loop
+    (λ c. search needs)
+    (λ c κs. search needs)
+    (λ c κs. search needs)
+    (λ c κs. search needs)
+    (λ c. search needs)
+    (λ c. search needs)
+    (λ c. search needs)
+    (λ c. search needs)
+    (λ c. search needs))
