@@ -13,8 +13,8 @@ ghost use lib.ListN.{length};
 ghost use Rattle.refusal.specs.Outcome.{passed, outcome};
 ghost use Rattle.finder.specs.Finder.{tests, Finds};
 
-// The search itself, on input that no test refuses.
-fn synthesize(p: u32, lengths: &[u16], symbols: &[u16], taps: &mut [u16]) -> Found
+// The search itself, on input that no test refuses: for callers who know that of theirs.
+pub fn synthesize(p: u32, lengths: &[u16], symbols: &[u16], taps: &mut [u16]) -> Found
     requires { ⌜ outcome (tests p (now lengths) (now symbols) (length (now taps))) ≡ passed ⌝ }
     ensures { λ r. ⌜ Finds p (now (lengths .entry)) (now (symbols .entry)) (now (taps .entry)) (now (taps .exit)) r ⌝ }
 {

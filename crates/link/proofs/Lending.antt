@@ -24,6 +24,7 @@ use Rattle.frame.proofs.Shapes.{Ranges, shape-ranges}
 use Rattle.lists.specs.Tabulate.{tabulate, joined}
 use Rattle.lists.proofs.Tabulated.{length-tabulate, getD-tabulate, tabulate-ext, every-of}
 use Rattle.lists.proofs.Zeros.{zeros, drop-zeros}
+use Rattle.refusal.specs.Outcome.{outcome, passed, refused}
 use Rattle.refusal.proofs.Orders.{Pass, pass-otherwise}
 use Rattle.register.specs.Algorithm4.{found, foundAlone}
 use Rattle.register.specs.Sequences.{largest, longest, ordered, split}
@@ -129,6 +130,9 @@ module _ (s : Shape) (f : List ℕ) (shape : isShape s ≡ true) (eight : length
           ),
         ),
       )
+
+  pub lent-passed : outcome (tests 257 lengths symbols 65) ≡ passed
+  lent-passed = pass-otherwise refused passed (tests 257 lengths symbols 65) lent-passes
 
   pub lent-answer : answer 257 lengths symbols 65 ≡ register (sizeOf s f) (aloneOf s f)
   unfolding answer sizeOf aloneOf

@@ -15,7 +15,7 @@ use Rattle.decoding.specs.Locating.{sizeOf, tapsOf, aloneOf, rowsReach, namedCo
 use Rattle.decoding.proofs.FrameRegister.{frame-generator, frame-taps}
 use Rattle.decoding.proofs.NamedColumns.{size-named}
 use Rattle.field.specs.Total.{total}
-use Rattle.finder.specs.Finder.{answer, tapsLeft, register, refused}
+use Rattle.finder.specs.Finder.{tests, answer, tapsLeft, register, refused}
 use Rattle.frame.specs.Frame.{heldSums}
 use Rattle.frame.specs.Shape.{checksOf, isShape}
 use Rattle.frame.specs.declared.Shape.{Shape}
@@ -24,8 +24,9 @@ use Rattle.job.specs.Calls.{Outcome, refusing, locates, registerTests}
 use Rattle.job.specs.Job.{shapedJob, locatedJob}
 use Rattle.job.specs.declared.Answered.{Answered}
 use Rattle.refusal.specs.Order.{firstOf}
+use Rattle.refusal.specs.Outcome.{outcome, passed}
 use Rattle.link.specs.Answered as answer-of
-use Rattle.link.proofs.Lending.{lent-answer, lent-taps, size-most}
+use Rattle.link.proofs.Lending.{lent-passed, lent-answer, lent-taps, size-most}
 
 -- what the finder has answered and left in the buffer
 pub record Seen (s : Shape) (f : List ℕ) (l : ℕ) (a : Bool) (buffer : List ℕ) : Type 0 where
@@ -36,6 +37,9 @@ pub record Seen (s : Shape) (f : List ℕ) (l : ℕ) (a : Bool) (buffer : List �
 module _ (s : Shape) (f : List ℕ) (shape : isShape s ≡ true) (eight : length (s .checks) ≡ 8) (sums : List ℕ) (held : sums ≡ heldSums s f) where
   abbrev lent : List ℕ → List ℕ
   lent = take (total (s .rows) (checksOf s))
+
+  pub passes : outcome (tests 257 (take (s .rows) (s .checks)) (lent sums) 65) ≡ passed
+  passes = ap (λ l. outcome (tests 257 (take (s .rows) (s .checks)) (lent l) 65)) held ∙ lent-passed s f shape eight
 
   lent-answered : answer 257 (take (s .rows) (s .checks)) (lent sums) 65 ≡ register (sizeOf s f) (aloneOf s f)
   lent-answered = ap (λ l. answer 257 (take (s .rows) (s .checks)) (lent l) 65) held ∙ lent-answer s f shape eight

@@ -8,7 +8,7 @@ use crate::states::shaped;
 use codec::sums::frame_sums;
 use codec::symbols::check_frame;
 use finder::Found;
-use finder::find::find;
+use finder::find::synthesize;
 use frame::Shape;
 use job::Answered;
 use job::Job;
@@ -19,12 +19,13 @@ ghost use mathlib.Core.Bool.{true};
 ghost use Prim.Native.Nat.{_*_};
 ghost use lib.ListN.{length, take};
 ghost use Rattle.field.specs.Total.{total};
-ghost use Rattle.finder.specs.Finder.{Finds};
+ghost use Rattle.finder.specs.Finder.{Finds, tests};
 ghost use Rattle.frame.specs.Shape.{checksOf, isShape};
 ghost use Rattle.job.specs.Answers.{answeredOutcome};
 ghost use Rattle.job.specs.Calls.{refusing, locates, registerTests, locate, step};
 ghost use Rattle.job.specs.Job.{shapedJob};
 ghost use Rattle.refusal.specs.Order.{firstOf};
+ghost use Rattle.refusal.specs.Outcome.{outcome, passed};
 
 // The number of check sums of all rows.
 fn sum_count(s: Shape) -> usize
@@ -41,15 +42,18 @@ fn sum_count(s: Shape) -> usize
     all
 }
 
-// The register of the sums that a frame is held with; its taps go to the buffer.
-fn shortest(s: Shape, sums: [u16; 512], taps: &mut [u16]) -> Found
-    requires { ⌜ isShape s ≡ true ⌝ }
-    ensures { λ r. ⌜ Finds 257 (take (s .rows) (s .checks)) (take (total (s .rows) (checksOf s)) sums) (now (taps .entry)) (now (taps .exit)) r ⌝ }
+// The register of the sums that a frame is held with; its taps go to the buffer. No test of the finder refuses them, so none is made.
+fn shortest(s: Shape, sums: &[u16], taps: &mut [u16]) -> Found
+    requires { ⌜
+        (isShape s ≡ true) × (length (now sums) ≡ 512)
+        × (outcome (tests 257 (take (s .rows) (s .checks)) (take (total (s .rows) (checksOf s)) (now sums)) (length (now taps))) ≡ passed)
+        ⌝ }
+    ensures { λ r. ⌜ Finds 257 (take (s .rows) (s .checks)) (take (total (s .rows) (checksOf s)) (now (sums .entry))) (now (taps .entry)) (now (taps .exit)) r ⌝ }
 {
     let rows = s.rows;
     let checks = s.checks;
     let all = sum_count(s);
-    find(257, &checks[0..rows], &sums[0..all], taps)
+    synthesize(257, &checks[0..rows], &sums[0..all], taps)
 }
 
 // Of a well-formed frame. The finder refuses nothing here.
@@ -59,7 +63,7 @@ fn locate_in(s: Shape, frame: &[u16]) -> Answered
 {
     let sums = frame_sums(s, frame);
     let mut taps = [0u16; 65];
-    let found = shortest(s, sums, &mut taps);
+    let found = shortest(s, &sums, &mut taps);
     let Found::Register { length, alone } = found else {
         return refuse(shaped(s), Refusal::NotAlone);
     };
