@@ -1,5 +1,5 @@
-// Remainders by a fixed p with one division for all of them (Barrett), of 32-bit numbers and of sums of up to 129 products of residues. That a result is below p follows from what it equals; it is
-// said besides, for the callers.
+// Remainders by a fixed p with one division for all of them (Barrett), of 32-bit numbers and of sums of up to 129 products of residues. That a result
+// is below p follows from what it equals; it is said besides, for the callers.
 ghost use mathlib.Core.Path.{_≡_};
 ghost use Prim.Native.Nat.{_*_, _/_, _%_, _≤_, _<_};
 

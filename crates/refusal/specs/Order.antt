@@ -24,7 +24,7 @@ pub record Test : Type 0 where
   pub number : ℕ
   pub fails : Bool
 
--- the number of the first test that fails, as the refusal `refuse` makes of it, and `else` where none fails
+-- the number of the first test that fails, as `refuse` makes a refusal of it, and `otherwise` where none fails
 abbrev pub firstOf : {A : Type 0} → (ℕ → A) → List Test → A → A
 firstOf refuse [] otherwise = otherwise
 firstOf refuse (t ∷ ts) otherwise = cond (t .fails) (refuse (t .number)) (firstOf refuse ts otherwise)
