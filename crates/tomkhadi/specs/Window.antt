@@ -1,8 +1,9 @@
 -- Windows of a buffer that is filled from the input.
 use mathlib.Core.Path.{_≡_}
-use mathlib.Core.Bool.{true}
+use mathlib.Core.Bool.{Bool, true, false, _&&_}
 use mathlib.Core.List.{List}
-use Prim.Native.Nat.{ℕ, _+_, _-_, _≤_}
+use Prim.Native.Nat.{ℕ, _+_, _-_, _≤_, _<_}
+use lib.Dec.{ltb}
 use lib.ListN.{length, take, drop}
 use Rattle.record.specs.Record.{claimedBy}
 use Rattle.tomkhadi.specs.declared.input.Window.{Window}
@@ -17,8 +18,23 @@ pub record Inside (w : Window) (buffer : List ℕ) : Type 0 where
   pub within : w .end ≤ length buffer
   pub room : 65537 ≤ length buffer
 
+-- the window starts with less than a record claims, and the input may have more
+unfoldable pub isLacking : Window → (buffer : List ℕ) → Bool
+isLacking w buffer = w .more && ltb (w .end - w .start) (2 + claimedBy (unused w buffer))
+
+-- no byte still to be used is lost
+abbrev pub Kept : (before : List ℕ) (w : Window) (after : List ℕ) (r : Window) → Type 0
+Kept before w after r = take (w .end - w .start) (unused r after) ≡ unused w before
+
+-- one read more: no fewer bytes are to be used, and more of them unless the input has no more
+pub record Refilled (before : List ℕ) (w : Window) (after : List ℕ) (r : Window) : Type 0 where
+  pub inside : Inside r after
+  pub kept : Kept before w after r
+  pub no-fewer : w .end - w .start ≤ r .end - r .start
+  pub grown : r .more ≡ true → w .end - w .start < r .end - r .start
+
 -- no byte still to be used is lost, and the window starts with all that a record claims, unless the input has no more
 pub record Filled (before : List ℕ) (w : Window) (after : List ℕ) (r : Window) : Type 0 where
   pub inside : Inside r after
-  pub kept : take (w .end - w .start) (unused r after) ≡ unused w before
-  pub whole : r .more ≡ true → 2 + claimedBy (unused r after) ≤ r .end - r .start
+  pub kept : Kept before w after r
+  pub whole : isLacking r after ≡ false

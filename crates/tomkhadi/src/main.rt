@@ -3,10 +3,24 @@ mod input;
 
 use input::Window;
 use input::filled;
+use input::lacking;
 use record::line::line;
 use record::parse::size;
 ghost use Prim.Native.Nat.{_+_, _≤_};
 ghost use lib.ListN.{length};
+ghost use Rattle.tomkhadi.specs.Window.{Inside};
+
+// Before the program waits for input, the lines so far are written out: whoever sends a record and waits gets its line.
+fn drained(buffer: &[u8], w: Window, out: &[u8], used: usize) -> usize
+    requires { ⌜ Inside w (now buffer) × (used ≤ length (now out)) ⌝ }
+    ensures { λ r. ⌜ r ≤ used ⌝ }
+{
+    if lacking(buffer, w) {
+        io::write_all(1, &out[0..used]);
+        return 0;
+    }
+    used
+}
 
 // Where the next line goes: the lines before it are written out if it may not fit after them.
 fn flushed(out: &[u8], used: usize) -> usize
@@ -32,6 +46,7 @@ fn run(buffer: &mut [u8], scratch: &mut [u16], out: &mut [u8])
     let mut used = 0;
     let mut turns = u64::MAX;
     while turns > 0 {
+        used = drained(buffer, w, out, used);
         w = filled(buffer, w);
         let a = w.start;
         let e = w.end;

@@ -1,8 +1,9 @@
 //! The program on streams of records: good ones, bad ones, random bytes, streams cut short, and many
-//! records. It answers a line for each, whether the bytes come all at once or a few at a time.
+//! records. It answers a line for each, whether the bytes come all at once or a few at a time, and
+//! does not keep a line back while it waits for the next record.
 
-use std::io::{Read, Write};
-use std::process::{Command, Stdio};
+use std::io::{BufRead, BufReader, Read, Write};
+use std::process::{Child, Command, Stdio};
 use std::thread;
 use std::time::Duration;
 
@@ -13,14 +14,19 @@ use crate::records::lines;
 use crate::trials::vectors::VECTORS;
 use crate::trials::{damaged, malformed, some_legal_frame, some_shape};
 
-/// What the program prints, and whether it ended well, within a minute.
-fn answers(pieces: Vec<Vec<u8>>) -> (bool, String) {
-    let mut program = Command::new("timeout")
+/// The program, which is stopped after a minute.
+fn started() -> Child {
+    Command::new("timeout")
         .args(["60", "target/bin/tomkhadi"])
         .stdin(Stdio::piped())
         .stdout(Stdio::piped())
         .spawn()
-        .expect("the program starts");
+        .expect("the program starts")
+}
+
+/// What the program prints, and whether it ended well.
+fn answers(pieces: Vec<Vec<u8>>) -> (bool, String) {
+    let mut program = started();
     let mut stdin = program.stdin.take().expect("it has an input");
     let writer = thread::spawn(move || {
         for piece in &pieces {
@@ -54,6 +60,22 @@ fn slowly(judge: &mut Judge, random: &mut Random, mut input: &[u8]) {
     }
     let got = answers(pieces);
     judge.compare("the program on pieces", &(), (true, expected), got);
+}
+
+/// Each record is sent when the line of the one before it has come.
+fn in_turn(judge: &mut Judge, records: &[Vec<u8>]) {
+    let mut program = started();
+    let mut stdin = program.stdin.take().expect("it has an input");
+    let mut stdout = BufReader::new(program.stdout.take().expect("it has an output"));
+    for record in records {
+        let expected = lines(judge, record);
+        let mut line = String::new();
+        stdin.write_all(record).expect("it reads a record");
+        stdout.read_line(&mut line).expect("it prints a line");
+        judge.compare("the program in turn", record, expected, line);
+    }
+    drop(stdin);
+    program.wait().expect("it ends");
 }
 
 /// The record of the fields, with the length that they have.
@@ -135,4 +157,6 @@ pub fn run(judge: &mut Judge) {
     }
     let stream = some_stream(&mut random);
     slowly(judge, &mut random, &stream[..stream.len().min(20_000)]);
+    let records: Vec<Vec<u8>> = (0..20).map(|_| some_frame(&mut random)).collect();
+    in_turn(judge, &records);
 }

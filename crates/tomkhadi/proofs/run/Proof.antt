@@ -1,5 +1,5 @@
 -- `tomkhadi::run` meets its contract. Assumes nothing.
-use mathlib.Core.Path.{_≡_}
+use mathlib.Core.Path.{_≡_, ap, _∙_}
 use mathlib.Core.Logic.{⊎-elim}
 use Prim.Native.Nat.{_≤_}
 use borrow.Author.Needs.{needs}
@@ -17,6 +17,9 @@ abbrev μ-loop : tie.MeasureT-loop
 
 loop-holds : tie.Need-loop-holds Inv-loop μ-loop
 loop-holds c = search needs
+
+drained-requires : tie.Need-drained-requires Inv-loop μ-loop
+drained-requires c κs = search needs
 
 filled-requires : tie.Need-filled-requires Inv-loop μ-loop
 filled-requires c κs = search needs
@@ -67,13 +70,15 @@ part-write-all-start : tie.Need-part-write-all-start Inv-loop μ-loop
 part-write-all-start c = search needs
 
 part-write-all-end : tie.Need-part-write-all-end Inv-loop μ-loop
-part-write-all-end c = search needs
+part-write-all-end c = ⊎-elim (λ left. search needs) (λ broken. search needs) (c .before .before .loop-test .came)
 
 write-all-requires : tie.Need-write-all-requires Inv-loop μ-loop
 write-all-requires c κs = search needs
 
 same-length : tie.Need-same-length Inv-loop μ-loop
-same-length c = ⊎-elim (λ left. search needs) (λ broken. search needs) (c .before .before .before .loop-test .came)
+same-length c =
+    let ended = c .before .before .before .before in
+    ⊎-elim (λ left. search needs) (λ broken. ap length (broken .9) ∙ broken .5 .kept .0 ∙ ended .before .loop .inv .2) (ended .loop-test .came)
 
 same-length-2 : tie.Need-same-length-2 Inv-loop μ-loop
 same-length-2 c = search needs
@@ -91,6 +96,7 @@ run-spec =
     Inv-loop
     μ-loop
     loop-holds
+    drained-requires
     filled-requires
     sub-size
     part-size-start

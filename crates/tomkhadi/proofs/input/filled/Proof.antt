@@ -1,60 +1,75 @@
 -- `tomkhadi::input::filled` meets its contract. Assumes nothing.
+use mathlib.Core.Path.{_≡_, refl, sym, _∙_}
+use mathlib.Core.Bool.{Bool, true, false}
+use Prim.Native.Nat.{ℕ, _-_, _≤_}
+use native.Mathlib.Nat.{le-refl}
 use native.Mathlib.Omega.{arith}
+use lib.ListN.{length}
 use borrow.Author.Needs.{needs}
-use borrow.Author.Tests.{not-true}
-use Rattle.tomkhadi.proofs.Filling.{stays-last, stays-whole}
+use Rattle.tomkhadi.specs.Window.{Inside, Kept, isLacking}
+use Rattle.tomkhadi.proofs.Filling.{lacking-more, left, left-falls, kept-same, kept-on}
 use Rattle.tomkhadi.proofs.input.filled.Statement.{statement}
 use Rattle.tomkhadi.proofs.input.filled.Tie as tie
 
-returns : tie.Need-returns
-returns c = stays-last _ _ (c .before .before .before .pre) (not-true _ (c .if1 .taken))
+abbrev Inv-loop : tie.InvT-loop
+Inv-loop buffer₀ w short₀ buffer r short =
+    Inside r buffer × Kept buffer₀ w buffer r × (w .end - w .start ≤ r .end - r .start) × (short ≡ isLacking r buffer) × (length buffer ≡ length buffer₀)
 
-sub-claimed : tie.Need-sub-claimed
-sub-claimed c = search needs
+abbrev μ-loop : tie.MeasureT-loop
+μ-loop buffer₀ w short₀ buffer r short = left (length buffer₀) r
 
-part-claimed-start : tie.Need-part-claimed-start
-part-claimed-start c = search needs
+lacking-requires : tie.Need-lacking-requires Inv-loop μ-loop
+lacking-requires c κs = search needs
 
-part-claimed-end : tie.Need-part-claimed-end
-part-claimed-end c = search needs
+loop-holds : tie.Need-loop-holds Inv-loop μ-loop
+loop-holds c =
+    let start = c .before .before .before in
+    (start .pre, kept-same (start .args .w) (start .args .buffer .now), le-refl _, c .lacking .ensures, refl)
 
-claimed-requires : tie.Need-claimed-requires
-claimed-requires c κs = search needs
+refilled-requires : tie.Need-refilled-requires Inv-loop μ-loop
+refilled-requires c κs = c .before .before .loop .inv .0
 
-add-if2 : tie.Need-add-if2
-add-if2 c = search needs
+lacking-requires-2 : tie.Need-lacking-requires-2 Inv-loop μ-loop
+lacking-requires-2 c κs = c .before .before .before .refilled .ensures .inside
 
-sub-if2 : tie.Need-sub-if2
-sub-if2 c = search needs
+loop-less : tie.Need-loop-less Inv-loop μ-loop
+loop-less c =
+    let read = c .before .before .before .before in
+    let inside = read .before .before in
+    let at = inside .before in
+    let (within, kept, no-fewer, short, width) = at .loop .inv in
+    let r = read .refilled .ensures in
+    left-falls _ (at .loop .r) (read .refilled .result) (lacking-more _ _ (sym short ∙ inside .loop-test .taken)) (omega (arith, within .within))
+    (omega (arith, r .inside .within, read .refilled .kept .0)) (r .grown)
 
-same-length : tie.Need-same-length
-same-length c = search needs
+loop-again : tie.Need-loop-again Inv-loop μ-loop
+loop-again c =
+    let read = c .before .before .before .before in
+    let at = read .before .before .before in
+    let start = at .before .before .before .before in
+    let (within, kept, no-fewer, short, width) = at .loop .inv in
+    let r = read .refilled .ensures in
+    (r .inside, kept-on _ _ _ (start .args .w) (at .loop .r) (read .refilled .result) kept no-fewer (r .kept), omega (arith, r .no-fewer), c .lacking2 .ensures, read .refilled .kept .0 ∙ width)
 
-returns-2 : tie.Need-returns-2
-returns-2 c = stays-whole _ _ (c .before .before .before .before .before .before .before .pre) _ (c .before .claimed .ensures .0) (omega arith)
+same-length : tie.Need-same-length Inv-loop μ-loop
+same-length c = c .before .loop .inv .4
 
-refilled-requires : tie.Need-refilled-requires
-refilled-requires c κs = search needs
-
-same-length-2 : tie.Need-same-length-2
-same-length-2 c = search needs
-
-returns-3 : tie.Need-returns-3
-returns-3 c = search needs
+returns : tie.Need-returns Inv-loop μ-loop
+returns c =
+    let (within, kept, no-fewer, short, width) = c .before .loop .inv in
+    record { inside = within; kept = kept; whole = sym short ∙ c .loop-test .left }
 
 pub filled-spec : {M : Type 1} → statement M
 filled-spec =
     tie.close
     (tie.spec
-    returns
-    sub-claimed
-    part-claimed-start
-    part-claimed-end
-    claimed-requires
-    add-if2
-    sub-if2
-    same-length
-    returns-2
+    Inv-loop
+    μ-loop
+    lacking-requires
+    loop-holds
     refilled-requires
-    same-length-2
-    returns-3)
+    lacking-requires-2
+    loop-less
+    loop-again
+    same-length
+    returns)
