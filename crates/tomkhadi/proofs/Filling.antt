@@ -4,11 +4,12 @@ use mathlib.Core.Bool.{Bool, true, false, cond, _&&_, false≢true}
 use mathlib.Core.List.{List}
 use Prim.Native.Nat.{ℕ, suc, _+_, _-_, _≤_, _<_}
 use native.Mathlib.Nat.{le-refl}
+use native.Mathlib.Decide.{decLt}
 use native.Mathlib.Omega.{arith}
 use lib.Dec.{ltb}
 use lib.ListN.{length, take, drop}
 use lib.Seq.{take-take}
-use borrow.Author.Tests.{ltb-true}
+use borrow.Author.Tests.{lt-ltb, le-ltb}
 use borrow.Rule.Slice.PartMut.{midOf, putMid, same-len-mid, mid-len, take-put}
 use Rattle.record.specs.Record.{claimedBy}
 use Rattle.tomkhadi.specs.Window.{unused, Inside, Kept, Refilled, isLacking}
@@ -54,6 +55,13 @@ pub kept-on : (before middle after : List ℕ) (w v r : Window) → Kept before 
 kept-on before middle after w v r k le l =
     sym (take-take (w .end - w .start) (v .end - v .start) (unused r after) le) ∙ ap (λ (x : List ℕ). take (w .end - w .start) x) l ∙ k
 
+some-came : (k r : ℕ) → ltb 0 r ≡ ltb k (k + r - 0)
+some-came k r = pick (decLt 0 r)
+  where
+    pick : Dec (0 < r) → ltb 0 r ≡ ltb k (k + r - 0)
+    pick (yes l) = lt-ltb 0 r l ∙ sym (lt-ltb k (k + r - 0) (omega arith))
+    pick (no l) = le-ltb 0 r (omega arith) ∙ sym (le-ltb k (k + r - 0) (omega arith))
+
 module _ (w : Window) (buffer : List ℕ) (inside : Inside w buffer) where
   -- k bytes are kept at the front of m, and up to r of those after them are read into y
   module _ (m y : List ℕ) (r : ℕ) (width : length m ≡ length buffer)
@@ -74,5 +82,5 @@ module _ (w : Window) (buffer : List ℕ) (inside : Inside w buffer) where
           inside = record { ordered = omega arith; within = omega arith; room = omega arith };
           kept = take-take k (k + r - 0) after (omega arith) ∙ take-put k (length m - k) m y (omega arith) ∙ front;
           no-fewer = omega arith;
-          grown = λ t. omega (arith, ltb-true 0 r t);
+          told = some-came k r;
         }

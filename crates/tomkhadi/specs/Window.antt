@@ -26,12 +26,12 @@ isLacking w buffer = w .more && ltb (w .end - w .start) (2 + claimedBy (unused w
 abbrev pub Kept : (before : List ℕ) (w : Window) (after : List ℕ) (r : Window) → Type 0
 Kept before w after r = take (w .end - w .start) (unused r after) ≡ unused w before
 
--- one read more: no fewer bytes are to be used, and more of them unless the input has no more
+-- one read more: no fewer bytes are to be used, and the input may have more exactly where some came
 pub record Refilled (before : List ℕ) (w : Window) (after : List ℕ) (r : Window) : Type 0 where
   pub inside : Inside r after
   pub kept : Kept before w after r
   pub no-fewer : w .end - w .start ≤ r .end - r .start
-  pub grown : r .more ≡ true → w .end - w .start < r .end - r .start
+  pub told : r .more ≡ ltb (w .end - w .start) (r .end - r .start)
 
 -- no byte still to be used is lost, and the window starts with all that a record claims, unless the input has no more
 pub record Filled (before : List ℕ) (w : Window) (after : List ℕ) (r : Window) : Type 0 where

@@ -6,6 +6,7 @@ use native.Mathlib.Nat.{le-refl}
 use native.Mathlib.Omega.{arith}
 use lib.ListN.{length}
 use borrow.Author.Needs.{needs}
+use borrow.Author.Tests.{ltb-true}
 use Rattle.tomkhadi.specs.Window.{Inside, Kept, isLacking}
 use Rattle.tomkhadi.proofs.Filling.{lacking-more, left, left-falls, kept-same, kept-on}
 use Rattle.tomkhadi.proofs.input.filled.Statement.{statement}
@@ -40,7 +41,7 @@ loop-less c =
     let (within, kept, no-fewer, short, width) = at .loop .inv in
     let r = read .refilled .ensures in
     left-falls _ (at .loop .r) (read .refilled .result) (lacking-more _ _ (sym short ∙ inside .loop-test .taken)) (omega (arith, within .within))
-    (omega (arith, r .inside .within, read .refilled .kept .0)) (r .grown)
+    (omega (arith, r .inside .within, read .refilled .kept .0)) (λ t. ltb-true _ _ (sym (r .told) ∙ t))
 
 loop-again : tie.Need-loop-again Inv-loop μ-loop
 loop-again c =
