@@ -1,10 +1,10 @@
--- A job that goes through the C interface and comes back is the same job, whatever it holds. Assumes nothing.
+-- A head that goes through the C interface and comes back is the same head, whatever it holds. Assumes nothing.
 use mathlib.Core.Path.{_≡_, refl, ap}
 use mathlib.Core.Bool.{true, false}
-use Rattle.job.specs.declared.Job.{Job}
+use Rattle.job.specs.declared.Head.{Head}
 use Rattle.job.specs.declared.Phase.{Phase}
 use Rattle.job.specs.declared.Phase.the-variants.{Empty, Shaped, Located}
-use Rattle.capi.specs.Mirror.{phaseOf, phaseNumber, phaseLength, phaseAlone, jobOf, mirrorOf}
+use Rattle.capi.specs.Mirror.{phaseOf, phaseNumber, phaseLength, phaseAlone, headOf, mirrorOf}
 
 same-phase : (p : Phase) → phaseOf (phaseNumber p) (phaseLength p) (phaseAlone p) ≡ p
 same-phase Empty = refl
@@ -12,6 +12,6 @@ same-phase Shaped = refl
 same-phase (Located c true) = refl
 same-phase (Located c false) = refl
 
-pub there-and-back : (j : Job) → jobOf (mirrorOf j) ≡ j
+pub there-and-back : (j : Head) → headOf (mirrorOf j) ≡ j
 there-and-back j =
-    ap (λ (p : Phase). record { phase = p; shape = j .shape; findings = j .findings }) (same-phase (j .phase))
+    ap (λ (p : Phase). record { phase = p; shape = j .shape; columns = j .columns }) (same-phase (j .phase))

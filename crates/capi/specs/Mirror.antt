@@ -5,11 +5,11 @@ use lib.Dec.{eqb}
 use Rattle.finder.specs.Finder as Finder
 use Rattle.job.specs.Calls as Calls
 use Rattle.job.specs.Calls.{Outcome}
-use Rattle.job.specs.declared.Job.{Job}
+use Rattle.job.specs.declared.Head.{Head}
 use Rattle.job.specs.declared.Phase.{Phase}
 use Rattle.job.specs.declared.Phase.the-variants.{Empty, Shaped, Located}
 use Rattle.capi.specs.declared.CAnswer.{CAnswer}
-use Rattle.capi.specs.declared.CJob.{CJob}
+use Rattle.capi.specs.declared.CHead.{CHead}
 use Rattle.capi.specs.declared.CRegister.{CRegister}
 use Rattle.capi.specs.declared.CShaped.{CShaped}
 
@@ -17,12 +17,12 @@ use Rattle.capi.specs.declared.CShaped.{CShaped}
 abbrev pub phaseOf : (phase length alone : ℕ) → Phase
 phaseOf k c a = cond (eqb k 1) Shaped (cond (eqb k 2) (Located c (eqb a 1)) Empty)
 
-abbrev pub jobOf : CJob → Job
-jobOf m =
+abbrev pub headOf : CHead → Head
+headOf m =
     record {
       phase = phaseOf (m .phase) (m .length) (m .alone);
       shape = record { rows = m .rows; columns = m .columns; checks = m .checks };
-      findings = record { sums = m .sums; taps = m .taps; columns = record { words = m .marks } };
+      columns = record { words = m .marks };
     }
 
 abbrev pub markOf : Bool → ℕ
@@ -44,7 +44,7 @@ phaseAlone Empty = 0
 phaseAlone Shaped = 0
 phaseAlone (Located c a) = markOf a
 
-abbrev pub mirrorOf : Job → CJob
+abbrev pub mirrorOf : Head → CHead
 mirrorOf j =
     record {
       phase = phaseNumber (j .phase);
@@ -52,10 +52,8 @@ mirrorOf j =
       length = phaseLength (j .phase);
       rows = j .shape .rows;
       columns = j .shape .columns;
-      marks = j .findings .columns .words;
+      marks = j .columns .words;
       checks = j .shape .checks;
-      sums = j .findings .sums;
-      taps = j .findings .taps;
     }
 
 -- the number of a refusal, and 0 where nothing is refused
@@ -74,9 +72,9 @@ registerOf (Finder.register l a) = record { refusal = 0; alone = markOf a; lengt
 registerOf (Finder.refused k) = record { refusal = k; alone = 0; length = 0 }
 
 abbrev pub shapedOf : Outcome → CShaped
-shapedOf o = record { refusal = refusalOf (o .answer); job = mirrorOf (o .job) }
+shapedOf o = record { refusal = refusalOf (o .answer); head = mirrorOf (o .job .head) }
 
 abbrev pub answeredOf : Outcome → CAnswer
 answeredOf o =
     record
-    { refusal = refusalOf (o .answer); count = countOf (o .answer); marks = o .marks .words; job = mirrorOf (o .job) }
+    { refusal = refusalOf (o .answer); count = countOf (o .answer); marks = o .marks .words; head = mirrorOf (o .job .head) }

@@ -1,6 +1,6 @@
 // The C interface, declared in include/tomkhadi.h: each call over numbers, slices and structs of numbers, refusals as the numbers of document 01.
-mod calls;
 mod find;
+mod jobs;
 mod mirror;
 
 #[repr(C)]
@@ -10,8 +10,9 @@ pub struct CRegister {
     pub length: usize,
 }
 
+// The head of a job. Its arrays, sums and taps, stand beside it in the struct of the header, which lends them.
 #[repr(C)]
-pub struct CJob {
+pub struct CHead {
     pub phase: u32,
     pub alone: u32,
     pub length: usize,
@@ -19,14 +20,12 @@ pub struct CJob {
     pub columns: usize,
     pub marks: [u64; 4],
     pub checks: [u16; 8],
-    pub sums: [u16; 512],
-    pub taps: [u16; 65],
 }
 
 #[repr(C)]
 pub struct CShaped {
     pub refusal: u32,
-    pub job: CJob,
+    pub head: CHead,
 }
 
 #[repr(C)]
@@ -34,5 +33,5 @@ pub struct CAnswer {
     pub refusal: u32,
     pub count: usize,
     pub marks: [u64; 4],
-    pub job: CJob,
+    pub head: CHead,
 }

@@ -1,12 +1,11 @@
-// Jobs and their mirrors on the other side of the C interface.
-use crate::CJob;
+// Heads of jobs and their mirrors on the other side of the C interface.
+use crate::CHead;
 use columns::Columns;
 use frame::Shape;
-use job::Findings;
-use job::Job;
+use job::Head;
 use job::Phase;
 ghost use mathlib.Core.Path.{_≡_};
-ghost use Rattle.capi.specs.Mirror.{phaseOf, jobOf, phaseNumber, phaseLength, phaseAlone, markOf, mirrorOf};
+ghost use Rattle.capi.specs.Mirror.{phaseOf, headOf, phaseNumber, phaseLength, phaseAlone, markOf, mirrorOf};
 
 fn phase_of(phase: u32, length: usize, alone: u32) -> Phase
     ensures { λ r. ⌜ r ≡ phaseOf phase length alone ⌝ }
@@ -23,13 +22,11 @@ fn phase_of(phase: u32, length: usize, alone: u32) -> Phase
     Phase::Empty
 }
 
-pub fn job_of(m: CJob) -> Job
-    ensures { λ r. ⌜ r ≡ jobOf m ⌝ }
+pub fn head_of(m: CHead) -> Head
+    ensures { λ r. ⌜ r ≡ headOf m ⌝ }
 {
     let phase = phase_of(m.phase, m.length, m.alone);
     let checks = m.checks;
-    let sums = m.sums;
-    let taps = m.taps;
     let words = m.marks;
     let shape = Shape {
         rows: m.rows,
@@ -37,15 +34,10 @@ pub fn job_of(m: CJob) -> Job
         checks,
     };
     let columns = Columns { words };
-    let findings = Findings {
-        sums,
-        taps,
-        columns,
-    };
-    Job {
+    Head {
         phase,
         shape,
-        findings,
+        columns,
     }
 }
 
@@ -92,18 +84,15 @@ fn phase_alone(p: Phase) -> u32
     }
 }
 
-pub fn mirror_of(j: Job) -> CJob
+pub fn mirror_of(j: Head) -> CHead
     ensures { λ r. ⌜ r ≡ mirrorOf j ⌝ }
 {
     let p = j.phase;
     let shape = j.shape;
-    let findings = j.findings;
-    let columns = findings.columns;
+    let columns = j.columns;
     let marks = columns.words;
     let checks = shape.checks;
-    let sums = findings.sums;
-    let taps = findings.taps;
-    CJob {
+    CHead {
         phase: phase_number(p),
         alone: phase_alone(p),
         length: phase_length(p),
@@ -111,7 +100,5 @@ pub fn mirror_of(j: Job) -> CJob
         columns: shape.columns,
         marks,
         checks,
-        sums,
-        taps,
     }
 }

@@ -14,7 +14,7 @@ use Rattle.frame.specs.Shape.{shapeOf}
 use Rattle.frame.specs.declared.Shape.{Shape}
 use Rattle.job.specs.Calls as Calls
 use Rattle.job.specs.Calls.{Outcome, step}
-use Rattle.job.specs.Job.{emptyJob}
+use Rattle.job.specs.Job.{emptyJob, noArrays}
 use Rattle.lists.specs.Tabulate.{tabulate, joined}
 use Rattle.register.specs.Sequences.{longest}
 
@@ -38,10 +38,10 @@ computed (register p ss found taps all) =
     (tabulate (suc (lengthOf said)) (λ l. registers p l ss))
 computed (frame n checks f sums c taps alone said marked) =
     let s : Shape = shapeOf n checks in
-    let o : Outcome = step (step emptyJob (Calls.shape n checks) .job) (Calls.locate f) in
+    let o : Outcome = step (step (emptyJob noArrays) (Calls.shape n checks) .job) (Calls.locate f) in
     frame n checks f (sequences s f) (sizeOf s f) (tapsOf s f) (aloneOf s f) (o .answer) (members (o .marks))
 computed (encoded n checks f left) =
-    encoded n checks f (step (step emptyJob (Calls.shape n checks) .job) (Calls.encode f) .frame)
+    encoded n checks f (step (step (emptyJob noArrays) (Calls.shape n checks) .job) (Calls.encode f) .frame)
 
 unfoldable pub table : List Example
 table =

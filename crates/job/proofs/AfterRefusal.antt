@@ -12,9 +12,8 @@ use Rattle.frame.specs.declared.Shape.{Shape}
 use Rattle.refusal.specs.Order.{Test}
 use Rattle.refusal.proofs.Orders.{Among}
 use Rattle.job.specs.Calls.{Call, shape, encode, locate, repair, done, columns, refused, Outcome, refusing, step, emptyTest, registerTests, repairTests}
-use Rattle.job.specs.Job.{shapedJob}
+use Rattle.job.specs.Job.{Job, shapedJob}
 use Rattle.job.specs.Refusals.{lent, leaves, Refused}
-use Rattle.job.specs.declared.Job.{Job}
 use Rattle.job.proofs.Cases.{earlyTests, by-shape, by-encode, by-locate, by-repair}
 
 -- the numbers of an order are below 24
@@ -59,11 +58,11 @@ module _ (j : Job) (k : ℕ) where
   refusing-leaves : (c : Call) (ts : List Test) → Early ts → (m : ℕ) → Among m ts → Left c (refusing j (lent c) m)
   refusing-leaves c ts e m a q = record { frame = refl; marks = refl; job = leaves-job ts e m a (same-number q) }
 
-  leaves-shaped : (m : ℕ) (f : List ℕ) → Among m (registerTests j f) → m ≡ k → leaves j k (shapedJob (j .shape))
+  leaves-shaped : (m : ℕ) (f : List ℕ) → Among m (registerTests (j .head .shape) f) → m ≡ k → leaves j k (shapedJob (j .head .shape) (j .arrays))
   unfolding registerTests
   leaves-shaped m f a q = inl (late a, refl)
     where
-      late : Among m (registerTests j f) → (k ≡ 24) ⊎ ((k ≡ 25) ⊎ (k ≡ 26))
+      late : Among m (registerTests (j .head .shape) f) → (k ≡ 24) ⊎ ((k ≡ 25) ⊎ (k ≡ 26))
       late (inl e) = inl (sym q ∙ e)
       late (inr (inl e)) = inr (inl (sym q ∙ e))
       late (inr (inr (inl e))) = inr (inr (sym q ∙ e))
@@ -75,10 +74,10 @@ module _ (j : Job) (k : ℕ) where
       by-shape (Left (shape n checks)) j n checks (refusing-leaves (shape n checks) (shapeTests n checks) (omega arith, (omega arith, (omega arith, tt))))
       (λ p e. absurd (never-done e))
   left (encode f) =
-      by-encode (Left (encode f)) j f (refusing-leaves (encode f) (emptyTest j ∷ encodeTests (j .shape) f) (omega arith, (omega arith, (omega arith, tt))))
+      by-encode (Left (encode f)) j f (refusing-leaves (encode f) (emptyTest j ∷ encodeTests (j .head .shape) f) (omega arith, (omega arith, (omega arith, tt))))
       (λ p e. absurd (never-done e))
   left (locate f) =
-      by-locate (Left (locate f)) j f (refusing-leaves (locate f) (earlyTests j f) (omega arith, frame-early (j .shape) f))
+      by-locate (Left (locate f)) j f (refusing-leaves (locate f) (earlyTests j f) (omega arith, frame-early (j .head .shape) f))
       (λ m p a e. record { frame = refl; marks = refl; job = leaves-shaped m f a (same-number e) })
       (λ p q e. absurd (never-columns e))
   left (repair f) =

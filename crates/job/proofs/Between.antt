@@ -5,8 +5,8 @@ use mathlib.Core.Logic.{_⊎_, inl, inr}
 use mathlib.Core.List.{List, [], _∷_}
 use Rattle.job.specs.Calls.{Call, shape, encode, locate, repair, step}
 use Rattle.job.specs.Demands.{runFrom, Between, IsEncode, RefusedEarly}
+use Rattle.job.specs.Job.{Job}
 use Rattle.job.specs.Refusals.{leaves}
-use Rattle.job.specs.declared.Job.{Job}
 use Rattle.job.proofs.AfterRefusal.{left}
 use Rattle.job.proofs.Cases.{by-encode}
 

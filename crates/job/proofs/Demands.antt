@@ -14,83 +14,83 @@ use Rattle.frame.specs.declared.Shape.{Shape}
 use Rattle.register.specs.Register.{Shortest, Alone}
 use Rattle.job.specs.Calls.{Call, locate, repair, columns, Outcome, step, repairTests, locatedBy, locates, repairs}
 use Rattle.job.specs.Demands.{run, runFrom, lastShape, Between, Mended, IsRefused, Found, LocateExact, DamageMended, Demand3}
-use Rattle.job.specs.Job.{emptyJob, locatedJob, isEmpty, lengthOf}
+use Rattle.job.specs.Job.{Arrays, emptyJob, isEmpty, lengthOf}
 use Rattle.job.specs.Refusals.{LegalAt}
 use Rattle.job.proofs.AfterRefusal.{never-columns}
 use Rattle.job.proofs.Between.{between-keeps}
 use Rattle.job.proofs.Cases.{by-locate, by-repair}
 use Rattle.job.proofs.Forms.{Locates, has-shape, run-form, run-append}
 use Rattle.job.proofs.Locating.{locate-takes, exact-at, found}
+use Rattle.job.proofs.NoPart.{play-no-part}
 use Rattle.job.proofs.Repairing.{repair-mended, repair-takes}
 use Rattle.job.proofs.Soundness.{reached, holds-last-shape, not-empty-held, shape-held}
 
 -- ---- a locate or a repair that is not refused
 
-module _ (calls : List Call) (f : List ℕ) where
+module _ (a : Arrays) (calls : List Call) (f : List ℕ) where
   abbrev After : (Shape → ℕ → Outcome → Type 0) → Outcome → Type 0
   After P o = (IsRefused o → ⊥) → (s : Shape) × (c : ℕ) × (lastShape calls ≡ some s) × (o .answer ≡ columns c) × P s c o
 
-  last-shape : isEmpty (run calls) ≡ false → lastShape calls ≡ some (run calls .shape)
-  last-shape e = sym (holds-last-shape calls) ∙ not-empty-held (run calls) e
+  last-shape : isEmpty (run a calls) ≡ false → lastShape calls ≡ some (run a calls .head .shape)
+  last-shape e = sym (holds-last-shape a calls) ∙ not-empty-held (run a calls) e
 
-  mends : After (λ s c o. Mended s f c o) (step (run calls) (repair f))
+  mends : After (λ s c o. Mended s f c o) (step (run a calls) (repair f))
   unfolding repairTests
   mends =
-      by-repair (After (λ s c o. Mended s f c o)) (run calls) f (λ k a taken. absurd (taken (k, refl)))
-      (λ p taken. (run calls .shape, lengthOf (run calls .phase), last-shape (p .0), refl, repair-mended (run calls) f (run-form calls) p))
+      by-repair (After (λ s c o. Mended s f c o)) (run a calls) f (λ k m taken. absurd (taken (k, refl)))
+      (λ p taken. (run a calls .head .shape, lengthOf (run a calls .head .phase), last-shape (p .0), refl, repair-mended (run a calls) f (run-form a calls) p))
 
-  finds : After (λ s c o. Found s f c o) (step (run calls) (locate f))
+  finds : After (λ s c o. Found s f c o) (step (run a calls) (locate f))
   finds =
-      by-locate (After (λ s c o. Found s f c o)) (run calls) f (λ k a taken. absurd (taken (k, refl)))
-      (λ k p a taken. absurd (taken (k, refl)))
-      (λ (e, p) q taken. (run calls .shape, sizeOf (run calls .shape) f, last-shape e, refl, found (run calls) f e p q))
+      by-locate (After (λ s c o. Found s f c o)) (run a calls) f (λ k m taken. absurd (taken (k, refl)))
+      (λ k p m taken. absurd (taken (k, refl)))
+      (λ (e, p) q taken. (run a calls .head .shape, sizeOf (run a calls .head .shape) f, last-shape e, refl, found (run a calls) f e p q))
 
 -- ---- a locate of a frame whose register is alone
 
 locate-exact : LocateExact
-locate-exact calls s f c σ last =
-    let (not-empty, same) = shape-held calls s last in
+locate-exact a calls s f c σ last =
+    let (not-empty, same) = shape-held a calls s last in
     subst (λ (x : Shape). WellFormed x f → Shortest 257 c (sequences x f) σ → Alone 257 c (sequences x f) σ
-    → ((h : ℕ) → h < x .rows → c ≤ checksOf x h) → IsRefused (step (run calls) (locate f)) ↔ (LegalAt x f c → ⊥)) same
-    (exact-at (run calls) f not-empty c σ)
+    → ((h : ℕ) → h < x .rows → c ≤ checksOf x h) → IsRefused (step (run a calls) (locate f)) ↔ (LegalAt x f c → ⊥)) same
+    (exact-at (run a calls) f not-empty c σ)
 
 -- ---- a frame that was damaged
 
-module _ (before : List Call) (s : Shape) (f : List ℕ) (last : lastShape before ≡ some s) where
+module _ (a : Arrays) (before : List Call) (s : Shape) (f : List ℕ) (last : lastShape before ≡ some s) where
   shaped-so : isShape s ≡ true
-  shaped-so = let (not-empty, same) = shape-held before s last in subst (λ (x : Shape). isShape x ≡ true) same (has-shape (run before) not-empty)
+  shaped-so = let (not-empty, same) = shape-held a before s last in subst (λ (x : Shape). isShape x ≡ true) same (has-shape (run a before .head) not-empty)
 
   module _ (l : Locates s f) where
-    taken : step (run before) (locate f) ≡ locates s f
+    taken : step (run a before) (locate f) ≡ locates s f
     taken =
-        let (not-empty, same) = shape-held before s last in
-        subst (λ (x : Shape). Locates x f → step (run before) (locate f) ≡ locates x f) same (locate-takes (run before) f not-empty) l
+        let (not-empty, same) = shape-held a before s last in
+        subst (λ (x : Shape). Locates x f → step (run a before) (locate f) ≡ locates x f) same (locate-takes (run a before) f not-empty) l
 
-    located-then : run (before ++ (locate f ∷ [])) ≡ locatedBy s f
+    located-then : run a (before ++ (locate f ∷ [])) ≡ locatedBy s f
     unfolding runFrom
-    located-then = run-append emptyJob before (locate f ∷ []) ∙ ap (λ o. o .job) taken
+    located-then = run-append (emptyJob a) before (locate f ∷ []) ∙ ap (λ o. o .job) taken
 
-    still-located : (between : List Call) → Between (run (before ++ (locate f ∷ []))) between → run (before ++ (locate f ∷ between)) ≡ locatedBy s f
+    still-located : (between : List Call) → Between (run a (before ++ (locate f ∷ []))) between → run a (before ++ (locate f ∷ between)) ≡ locatedBy s f
     unfolding runFrom
     still-located between kept =
-        run-append emptyJob before (locate f ∷ between) ∙ ap (λ o. runFrom (o .job) between) taken
+        run-append (emptyJob a) before (locate f ∷ between) ∙ ap (λ o. runFrom (o .job) between) taken
         ∙ between-keeps (locatedBy s f) between (subst (λ j. Between j between) located-then kept)
 
-    repair-then : (between : List Call) → Between (run (before ++ (locate f ∷ []))) between
-        → step (run (before ++ (locate f ∷ between))) (repair f) ≡ repairs (locatedBy s f) f
+    repair-then : (between : List Call) → Between (run a (before ++ (locate f ∷ []))) between
+        → step (run a (before ++ (locate f ∷ between))) (repair f) ≡ repairs (locatedBy s f) f
     repair-then between kept = ap (λ j. step j (repair f)) (still-located between kept) ∙ repair-takes s f shaped-so l
 
 damage-mended : DamageMended
-unfolding locatedJob
-damage-mended before between s f g last legal w half kept =
-    let r = recovers-half s (shaped-so before s f last) g f legal w half in
+damage-mended a before between s f g last legal w half kept =
+    let r = recovers-half s (shaped-so a before s f last) g f legal w half in
     let l : Locates s f = record { well-formed = w; alone = r .alone; reach = r .reaches; names = r .names } in
-    let after = repair-then before s f last l between kept in
+    let after = repair-then a before s f last l between kept in
     record {
-      located = λ (k, refusal). never-columns (sym (ap (λ o. o .answer) (taken before s f last l)) ∙ refusal);
+      located = λ (k, refusal). never-columns (sym (ap (λ o. o .answer) (taken a before s f last l)) ∙ refusal);
       mended = λ (k, refusal). never-columns (sym (ap (λ o. o .answer) after) ∙ refusal);
       frame = ap (λ o. o .frame) after ∙ r .frame;
     }
 
 pub demand-3 : Demand3
-demand-3 = record { reached = reached; repair-mends = mends; locate-finds = finds; locate-exact = locate-exact; damage-mended = damage-mended }
+demand-3 = record { reached = reached; repair-mends = mends; locate-finds = finds; locate-exact = locate-exact; damage-mended = damage-mended; play-no-part = play-no-part }

@@ -4,6 +4,7 @@ pub mod Cases
 pub mod Demands
 pub mod Forms
 pub mod Locating
+pub mod NoPart
 pub mod Reasons
 pub mod Refusals
 pub mod Repairing

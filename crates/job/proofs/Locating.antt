@@ -20,9 +20,8 @@ use Rattle.refusal.proofs.Orders.{Pass, pass-otherwise}
 use Rattle.register.specs.Register.{Shortest, Alone}
 use Rattle.job.specs.Calls.{locate, refused, refusing, step, locateCall, registerTests, locates}
 use Rattle.job.specs.Demands.{IsRefused, Found}
-use Rattle.job.specs.Job.{locatedJob, isEmpty}
+use Rattle.job.specs.Job.{Job, isEmpty}
 use Rattle.job.specs.Refusals.{LegalAt}
-use Rattle.job.specs.declared.Job.{Job}
 use Rattle.job.proofs.AfterRefusal.{never-columns}
 use Rattle.job.proofs.Cases.{earlyTests, locate-passes}
 use Rattle.job.proofs.Forms.{Locates, has-shape, register-passes}
@@ -30,10 +29,10 @@ use Rattle.job.proofs.Soundness.{marked-number}
 
 module _ (j : Job) (f : List ℕ) (not-empty : isEmpty j ≡ false) where
   abbrev s : Shape
-  s = j .shape
+  s = j .head .shape
 
   t : isShape s ≡ true
-  t = has-shape j not-empty
+  t = has-shape (j .head) not-empty
 
   pub locate-takes : Locates s f → step j (locate f) ≡ locates s f
   unfolding registerTests
@@ -72,10 +71,9 @@ module _ (j : Job) (f : List ℕ) (not-empty : isEmpty j ≡ false) where
       (every-of (s .rows) _ (λ h l. le-leb (sizeOf s f) (checksOf s h) (omega (arith, checks h l)))))
 
   -- what is found
-  pub found : Pass (frameTests s f) → Pass (registerTests j f) → Found s f (sizeOf s f) (locates s f)
-  unfolding locatedJob
+  pub found : Pass (frameTests s f) → Pass (registerTests s f) → Found s f (sizeOf s f) (locates s f)
   found early late =
-      let l : Locates s f = register-passes j f (frame-passes s f early) late in
+      let l : Locates s f = register-passes s f (frame-passes s f early) late in
       let r = register-of-frame s f t in
       record {
         register = (tapsOf s f, r .shortest, r .alone (l .alone));

@@ -22,15 +22,14 @@ use Rattle.refusal.proofs.Orders.{Says, SayAll, says-not, say-append}
 use Rattle.register.specs.EachRound.{IsShortest}
 use Rattle.register.specs.Register.{Generator}
 use Rattle.job.specs.Calls.{repair, emptyTest, repairTests, sameSums}
-use Rattle.job.specs.Job.{sound, isEmpty, isEmptyPhase, isLocatedPhase}
+use Rattle.job.specs.Job.{Job, sound, isEmptyPhase, isLocatedPhase, countsEmpty}
 use Rattle.job.specs.Refusals.{LegalAt, emptyReason, notAloneReason, shortRowReason, noFrameReason, SumsDiffer, reasons}
-use Rattle.job.specs.declared.Job.{Job}
 use Rattle.job.specs.declared.Phase.the-variants.{Empty, Shaped, Located}
 use Rattle.job.specs.declared.Phase.{Phase}
 
 pub empty-says : (j : Job) → Says (emptyTest j) (emptyReason j)
-unfolding isEmpty
-empty-says j = record { number = refl; reason = reason (j .phase) (sound j); fails = fails (j .phase) (sound j) }
+unfolding countsEmpty
+empty-says j = record { number = refl; reason = reason (j .head .phase) (sound j); fails = fails (j .head .phase) (sound j) }
   where
     reason : (p : Phase) (b : Bool) → (isEmptyPhase p || not b) ≡ true → (p ≡ Empty) ⊎ (b ≡ false)
     reason Empty b e = inl refl
@@ -58,9 +57,9 @@ unfolding repairTests
 repair-says j f = (
   empty-says j,
   (
-    not-located-says (j .phase),
-    say-append (frameTests (j .shape) f) _ (frameReasons (j .shape) f) _ (frame-says (j .shape) f)
-        (sums-say (heldSums (j .shape) f) (j .findings .sums), tt),
+    not-located-says (j .head .phase),
+    say-append (frameTests (j .head .shape) f) _ (frameReasons (j .head .shape) f) _ (frame-says (j .head .shape) f)
+        (sums-say (heldSums (j .head .shape) f) (j .arrays .sums), tt),
   ),
 )
 

@@ -21,8 +21,7 @@ use Rattle.register.specs.Algorithm4.{found, foundAlone}
 use Rattle.register.specs.Sequences.{longest}
 use Rattle.job.specs.Calls.{repair, step, repairTests, sameSums, locatedBy, repairs}
 use Rattle.job.specs.Demands.{Mended}
-use Rattle.job.specs.Job.{emptyJob, shapedJob, locatedJob, isEmpty, lengthOf}
-use Rattle.job.specs.declared.Job.{Job}
+use Rattle.job.specs.Job.{Job, countsEmpty, lengthOf}
 use Rattle.job.proofs.Cases.{repair-passes}
 use Rattle.job.proofs.Forms.{Locates, Form, empty, shaped, located}
 use Rattle.job.proofs.Soundness.{form-sound}
@@ -64,7 +63,6 @@ module _ (s : Shape) (f g : List ℕ) (e : heldSums s f ≡ heldSums s g) where
 -- ---- the frame that is left
 
 located-mended : (s : Shape) (f : List ℕ) → isShape s ≡ true → Locates s f → Mended s f (sizeOf s f) (repairs (locatedBy s f) f)
-unfolding locatedJob
 located-mended s f t l = record {
   legal = mended-legal s t f (l .well-formed) (l .names);
   count = mended-distance s t f (l .well-formed) (l .names);
@@ -72,20 +70,20 @@ located-mended s f t l = record {
   nearest = λ g legal other. sole-nearest s t f (l .well-formed) (l .alone) (l .reach) g legal other;
 }
 
-pub repair-mended : (j : Job) (f : List ℕ) → Form j → Pass (repairTests j f) → Mended (j .shape) f (lengthOf (j .phase)) (repairs j f)
-unfolding repairTests frameTests emptyJob shapedJob locatedJob
-repair-mended _ f empty p = absurd (false≢true (sym (p .1 .0)))
-repair-mended _ f (shaped s t) p = absurd (false≢true (sym (p .1 .0)))
+pub repair-mended : (j : Job) (f : List ℕ) → Form j → Pass (repairTests j f) → Mended (j .head .shape) f (lengthOf (j .head .phase)) (repairs j f)
+unfolding repairTests frameTests
+repair-mended _ f (empty a) p = absurd (false≢true (sym (p .1 .0)))
+repair-mended _ f (shaped s a t) p = absurd (false≢true (sym (p .1 .0)))
 repair-mended _ f (located s g t l) (e, (h, (size, (symbols, (sums, u))))) =
     let w : WellFormed s f = frame-passes s f (size, (symbols, tt)) in
     let same : heldSums s f ≡ heldSums s g = same-sums _ _ (held-length s f t) (held-length s g t) (no-fail _ sums) in
-    subst (λ j. Mended s f (lengthOf (j .phase)) (repairs j f)) (same-located s f g same)
+    subst (λ j. Mended s f (lengthOf (j .head .phase)) (repairs j f)) (same-located s f g same)
     (located-mended s f t (same-locates s f g same w l))
 
 -- ---- the frame that was located
 
 pub repair-takes : (s : Shape) (f : List ℕ) → isShape s ≡ true → Locates s f → step (locatedBy s f) (repair f) ≡ repairs (locatedBy s f) f
-unfolding repairTests frameTests locatedJob isEmpty sameSums
+unfolding repairTests frameTests countsEmpty sameSums
 repair-takes s f t l =
     let (size, (symbols, u)) = well-formed-passes s f (l .well-formed) in
     repair-passes (locatedBy s f) f (

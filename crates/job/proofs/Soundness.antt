@@ -1,4 +1,4 @@
--- Every job that calls leave is sound, holds the shape of the last shape call that is not refused, and zeros where it is not located.
+-- Every job that calls leave is sound, holds the shape of the last shape call that is not refused, and no marks where it is not located.
 -- Assumes nothing.
 use mathlib.Core.Path.{_≡_, refl, sym, ap, ap₂, _∙_}
 use mathlib.Core.Bool.{Bool, true, false, not, _&&_, _||_, or-true, false≢true}
@@ -8,21 +8,19 @@ use Prim.Native.Nat.{ℕ, _<_}
 use native.Mathlib.Omega.{arith}
 use lib.Dec.{ltb}
 use lib.ListN.{length}
-use borrow.Author.Tests.{lt-ltb, eq-eqb}
+use borrow.Author.Tests.{eq-eqb}
 use Rattle.columns.specs.Columns.{has, members}
 use Rattle.decoding.specs.Locating.{sizeOf, tapsOf, named, namedColumns}
 use Rattle.decoding.proofs.NamedColumns.{has-named, size-named}
 use Rattle.decoding.proofs.SoleNearest.{names-count}
 use Rattle.frame.specs.Shape.{isShape, shapeOf, shapeTests}
 use Rattle.frame.specs.declared.Shape.{Shape}
-use Rattle.frame.proofs.HeldSums.{held-below}
 use Rattle.lists.proofs.Tabulated.{every-of}
 use Rattle.refusal.specs.Order.{firstOf}
 use Rattle.refusal.proofs.Orders.{firstOf-map}
 use Rattle.job.specs.Calls.{Call, shape, encode, locate, repair, Outcome, refusing, step, shapeCall, repairTests, shapes, locatedBy}
 use Rattle.job.specs.Demands.{run, runFrom, lastShape, lastShapeFrom, heldShape, Reached}
-use Rattle.job.specs.Job.{emptyJob, shapedJob, locatedJob, nothing, sound, phaseSound, findingsSound, isEmpty, isEmptyPhase, isLocatedPhase}
-use Rattle.job.specs.declared.Job.{Job}
+use Rattle.job.specs.Job.{Arrays, Job, emptyJob, noColumns, sound, headSound, phaseSound, findingsSound, isEmpty, isEmptyPhase, isLocatedPhase, countsEmpty}
 use Rattle.job.specs.declared.Phase.the-variants.{Empty, Shaped, Located}
 use Rattle.job.specs.declared.Phase.{Phase}
 use Rattle.job.proofs.Cases.{by-encode, by-locate, by-repair}
@@ -31,21 +29,21 @@ use Rattle.job.proofs.Forms.{Locates, Form, empty, shaped, located, run
 -- ---- the shape
 
 abbrev shapeHeld : Job → Option Shape
-shapeHeld j = heldShape (j .phase) (j .shape)
+shapeHeld j = heldShape (j .head .phase) (j .head .shape)
 
-pub not-empty-held : (j : Job) → isEmpty j ≡ false → shapeHeld j ≡ some (j .shape)
-unfolding isEmpty
-not-empty-held j e = of-phase (j .phase) (not (sound j)) e
+pub not-empty-held : (j : Job) → isEmpty j ≡ false → shapeHeld j ≡ some (j .head .shape)
+unfolding countsEmpty
+not-empty-held j e = of-phase (j .head .phase) (not (sound j)) e
   where
-    of-phase : (p : Phase) (b : Bool) → (isEmptyPhase p || b) ≡ false → heldShape p (j .shape) ≡ some (j .shape)
+    of-phase : (p : Phase) (b : Bool) → (isEmptyPhase p || b) ≡ false → heldShape p (j .head .shape) ≡ some (j .head .shape)
     of-phase Empty b e = absurd (false≢true (sym e))
     of-phase Shaped b e = refl
     of-phase (Located c a) b e = refl
 
 shape-step : (j : Job) (n : ℕ) (checks : List ℕ)
     → shapeHeld (step j (shape n checks) .job) ≡ firstOf (λ k. shapeHeld j) (shapeTests n checks) (some (shapeOf n checks))
-unfolding step shapeCall shapedJob
-shape-step j n checks = firstOf-map (λ o. shapeHeld (o .job)) (refusing j []) (shapeTests n checks) (shapes n checks)
+unfolding step shapeCall
+shape-step j n checks = firstOf-map (λ o. shapeHeld (o .job)) (refusing j []) (shapeTests n checks) (shapes (j .arrays) n checks)
 
 -- a call that is no shape call leaves the shape
 module _ (j : Job) (f : List ℕ) where
@@ -56,12 +54,11 @@ module _ (j : Job) (f : List ℕ) where
   encode-step = by-encode Leaves j f (λ k a. refl) (λ p. refl)
 
   locate-step : Leaves (step j (locate f))
-  unfolding shapedJob locatedJob
   locate-step =
       by-locate Leaves j f (λ k a. refl) (λ k (e, p) a. sym (not-empty-held j e)) (λ (e, p) q. sym (not-empty-held j e))
 
   repair-step : Leaves (step j (repair f))
-  unfolding shapedJob repairTests
+  unfolding repairTests
   repair-step = by-repair Leaves j f (λ k a. refl) (λ (e, p). sym (not-empty-held j e))
 
 run-shape : (j : Job) (calls : List Call) → shapeHeld (runFrom j calls) ≡ lastShapeFrom (shapeHeld j) calls
@@ -73,17 +70,15 @@ run-shape j (encode f ∷ cs) = run-shape (step j (encode f) .job) cs ∙ ap (λ
 run-shape j (locate f ∷ cs) = run-shape (step j (locate f) .job) cs ∙ ap (λ s. lastShapeFrom s cs) (locate-step j f)
 run-shape j (repair f ∷ cs) = run-shape (step j (repair f) .job) cs ∙ ap (λ s. lastShapeFrom s cs) (repair-step j f)
 
-pub holds-last-shape : (calls : List Call) → shapeHeld (run calls) ≡ lastShape calls
-unfolding emptyJob
-holds-last-shape calls = run-shape emptyJob calls
+pub holds-last-shape : (a : Arrays) (calls : List Call) → shapeHeld (run a calls) ≡ lastShape calls
+holds-last-shape a calls = run-shape (emptyJob a) calls
 
 -- ---- what is not located
 
-zeros : (j : Job) → Form j → isLocatedPhase (j .phase) ≡ false → j .findings ≡ nothing
-unfolding emptyJob shapedJob locatedJob
-zeros _ empty e = refl
-zeros _ (shaped s t) e = refl
-zeros _ (located s f t l) e = absurd (false≢true (sym e))
+unmarked : (j : Job) → Form j → isLocatedPhase (j .head .phase) ≡ false → j .head .columns ≡ noColumns
+unmarked _ (empty a) e = refl
+unmarked _ (shaped s a t) e = refl
+unmarked _ (located s f t l) e = absurd (false≢true (sym e))
 
 -- ---- soundness
 
@@ -101,34 +96,33 @@ pub marked-number : (s : Shape) (f : List ℕ) → isShape s ≡ true → Locate
 marked-number s f t l = size-named s (tapsOf s f) t ∙ names-count s t f (l .well-formed) (l .names)
 
 located-sound : (s : Shape) (f : List ℕ) → isShape s ≡ true → Locates s f
-    → findingsSound s (locatedBy s f .findings) (sizeOf s f) true ≡ true
-unfolding findingsSound locatedJob
+    → findingsSound s (namedColumns s (tapsOf s f)) (sizeOf s f) true ≡ true
+unfolding findingsSound
 located-sound s f t l =
     ap₂ _&&_ (every-of 256 _ (marked-inside s (tapsOf s f)))
-    (ap₂ _&&_ (eq-eqb _ _ (marked-number s f t l))
-    (ap₂ _&&_ (l .reach) (every-of 512 _ (λ k h. lt-ltb _ 257 (held-below s f k)))))
+    (ap₂ _&&_ (eq-eqb _ _ (marked-number s f t l)) (l .reach))
 
 pub form-sound : (j : Job) → Form j → sound j ≡ true
-unfolding emptyJob shapedJob locatedJob sound phaseSound
-form-sound _ empty = refl
-form-sound _ (shaped s t) = t
+unfolding headSound phaseSound
+form-sound _ (empty a) = refl
+form-sound _ (shaped s a t) = t
 form-sound _ (located s f t l) = ap₂ _&&_ t (located-sound s f t l)
 
-pub reached : (calls : List Call) → Reached calls
-reached calls = record {
-  sound = form-sound (run calls) (run-form calls);
-  shape = holds-last-shape calls;
-  zeros = zeros (run calls) (run-form calls);
+pub reached : (a : Arrays) (calls : List Call) → Reached a calls
+reached a calls = record {
+  sound = form-sound (run a calls) (run-form a calls);
+  shape = holds-last-shape a calls;
+  unmarked = unmarked (run a calls) (run-form a calls);
 }
 
 -- a job that holds a shape does not count as empty
-pub shape-held : (calls : List Call) (s : Shape) → lastShape calls ≡ some s → (isEmpty (run calls) ≡ false) × (run calls .shape ≡ s)
-unfolding isEmpty
-shape-held calls s last =
-    of-phase (run calls .phase) (sound (run calls)) (form-sound (run calls) (run-form calls)) (holds-last-shape calls ∙ last)
+pub shape-held : (a : Arrays) (calls : List Call) (s : Shape) → lastShape calls ≡ some s → (isEmpty (run a calls) ≡ false) × (run a calls .head .shape ≡ s)
+unfolding countsEmpty
+shape-held a calls s last =
+    of-phase (run a calls .head .phase) (sound (run a calls)) (form-sound (run a calls) (run-form a calls)) (holds-last-shape a calls ∙ last)
   where
-    of-phase : (p : Phase) (b : Bool) → b ≡ true → heldShape p (run calls .shape) ≡ some s
-        → ((isEmptyPhase p || not b) ≡ false) × (run calls .shape ≡ s)
+    of-phase : (p : Phase) (b : Bool) → b ≡ true → heldShape p (run a calls .head .shape) ≡ some s
+        → ((isEmptyPhase p || not b) ≡ false) × (run a calls .head .shape ≡ s)
     of-phase Empty b e h = absurd (let z : _≡_ {A = ℕ} 0 1 = cc in let y : ⊥ = omega arith in y)
     of-phase Shaped b e h = (ap not e, cc)
     of-phase (Located c a) b e h = (ap not e, cc)

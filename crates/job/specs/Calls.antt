@@ -12,8 +12,7 @@ use Rattle.frame.specs.Shape.{shapeOf, shapeTests}
 use Rattle.frame.specs.declared.Shape.{Shape}
 use Rattle.lists.specs.Tabulate.{every}
 use Rattle.refusal.specs.Order.{Test, firstOf}
-use Rattle.job.specs.Job.{noColumns, shapedJob, locatedJob, isEmpty, isLocatedPhase, lengthOf}
-use Rattle.job.specs.declared.Job.{Job}
+use Rattle.job.specs.Job.{Arrays, Job, noColumns, shapedJob, locatedJob, isEmpty, isLocatedPhase, lengthOf}
 
 -- the calls, with what is lent
 pub data Call : Type 0 where
@@ -39,37 +38,36 @@ pub record Outcome : Type 0 where
 abbrev pub refusing : Job → (f : List ℕ) (k : ℕ) → Outcome
 refusing j f k = record { answer = refused k; marks = noColumns; job = j; frame = f }
 
--- but after 24, 25, 26 the job is shaped
+-- but after 24, 25, 26 the head is shaped, and the arrays are as they were
 abbrev pub refusingLate : Job → (f : List ℕ) (k : ℕ) → Outcome
-refusingLate j f k = refusing (shapedJob (j .shape)) f k
+refusingLate j f k = refusing (shapedJob (j .head .shape) (j .arrays)) f k
 
 -- what a shape call gives that is not refused
-abbrev pub shapes : (n : ℕ) (checks : List ℕ) → Outcome
-shapes n checks = record { answer = done; marks = noColumns; job = shapedJob (shapeOf n checks); frame = [] }
+abbrev pub shapes : Arrays → (n : ℕ) (checks : List ℕ) → Outcome
+shapes a n checks = record { answer = done; marks = noColumns; job = shapedJob (shapeOf n checks) a; frame = [] }
 
 unfoldable pub shapeCall : Job → (n : ℕ) (checks : List ℕ) → Outcome
-shapeCall j n checks = firstOf (refusing j []) (shapeTests n checks) (shapes n checks)
+shapeCall j n checks = firstOf (refusing j []) (shapeTests n checks) (shapes (j .arrays) n checks)
 
 -- refusal 21, which stands first in the orders of the other calls
 abbrev pub emptyTest : Job → Test
 emptyTest j = record { number = 21; fails = isEmpty j }
 
 abbrev pub encodes : Job → (f : List ℕ) → Outcome
-encodes j f = record { answer = done; marks = noColumns; job = j; frame = encoded (j .shape) f }
+encodes j f = record { answer = done; marks = noColumns; job = j; frame = encoded (j .head .shape) f }
 
 unfoldable pub encodeCall : Job → (f : List ℕ) → Outcome
-encodeCall j f = firstOf (refusing j f) (emptyTest j ∷ encodeTests (j .shape) f) (encodes j f)
+encodeCall j f = firstOf (refusing j f) (emptyTest j ∷ encodeTests (j .head .shape) f) (encodes j f)
 
 -- the refusals 24, 25, 26 of a well-formed frame
-unfoldable pub registerTests : Job → (f : List ℕ) → List Test
-registerTests j f =
-    let s = j .shape in
+unfoldable pub registerTests : Shape → (f : List ℕ) → List Test
+registerTests s f =
     record { number = 24; fails = not (aloneOf s f) } ∷
     record { number = 25; fails = not (rowsReach s (sizeOf s f)) } ∷
     record { number = 26; fails = not (namesAll s (tapsOf s f) (sizeOf s f)) } ∷
     []
 
--- the job that is located by the frame f
+-- the job that is located by the frame f; its arrays are all written
 abbrev pub locatedBy : Shape → (f : List ℕ) → Job
 locatedBy s f = locatedJob s (sizeOf s f) (heldSums s f) (tapsOf s f) (namedColumns s (tapsOf s f))
 
@@ -79,9 +77,9 @@ locates s f =
 
 unfoldable pub locateCall : Job → (f : List ℕ) → Outcome
 locateCall j f =
-    let s = j .shape in
+    let s = j .head .shape in
     firstOf (refusing j f) (emptyTest j ∷ frameTests s f)
-    (firstOf (refusingLate j f) (registerTests j f) (locates s f))
+    (firstOf (refusingLate j f) (registerTests s f) (locates s f))
 
 -- whether two lists of held sums are the same
 unfoldable pub sameSums : (a b : List ℕ) → Bool
@@ -89,15 +87,15 @@ sameSums a b = every 512 (λ k. eqb (getD a k 0) (getD b k 0))
 
 unfoldable pub repairTests : Job → (f : List ℕ) → List Test
 repairTests j f =
-    let s = j .shape in
-    emptyTest j ∷ record { number = 22; fails = not (isLocatedPhase (j .phase)) } ∷
-    (frameTests s f ++ (record { number = 23; fails = not (sameSums (heldSums s f) (j .findings .sums)) } ∷ []))
+    let s = j .head .shape in
+    emptyTest j ∷ record { number = 22; fails = not (isLocatedPhase (j .head .phase)) } ∷
+    (frameTests s f ++ (record { number = 23; fails = not (sameSums (heldSums s f) (j .arrays .sums)) } ∷ []))
 
 abbrev pub repairs : Job → (f : List ℕ) → Outcome
 repairs j f =
-    let s = j .shape in
-    let J : Columns = j .findings .columns in
-    record { answer = columns (lengthOf (j .phase)); marks = J; job = shapedJob s; frame = repaired s J f }
+    let s = j .head .shape in
+    let J : Columns = j .head .columns in
+    record { answer = columns (lengthOf (j .head .phase)); marks = J; job = shapedJob s (j .arrays); frame = repaired s J f }
 
 unfoldable pub repairCall : Job → (f : List ℕ) → Outcome
 repairCall j f = firstOf (refusing j f) (repairTests j f) (repairs j f)

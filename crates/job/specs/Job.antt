@@ -1,61 +1,89 @@
--- Jobs (document 01, "A job"): the empty one, a shaped one, a located one; and which values of the struct are sound.
+-- Jobs (document 01, "A job"): a head, and the arrays beside it. The empty one, a shaped one, a located one; and which values are sound.
 use mathlib.Core.Bool.{Bool, true, false, not, _&&_, _||_}
 use mathlib.Core.List.{List, _++_}
 use Prim.Native.Nat.{ℕ, _-_}
 use lib.Dec.{ltb, eqb}
-use lib.ListN.{length, getD, replicate}
+use lib.ListN.{length, replicate}
 use Rattle.columns.specs.Columns.{columnsOf, has, members}
 use Rattle.columns.specs.declared.Columns.{Columns}
 use Rattle.decoding.specs.Locating.{rowsReach}
 use Rattle.frame.specs.Shape.{isShape}
 use Rattle.frame.specs.declared.Shape.{Shape}
 use Rattle.lists.specs.Tabulate.{every}
-use Rattle.job.specs.declared.Findings.{Findings}
-use Rattle.job.specs.declared.Job.{Job}
+use Rattle.job.specs.declared.Head.{Head}
 use Rattle.job.specs.declared.Phase.{Phase}
 use Rattle.job.specs.declared.Phase.the-variants.{Empty, Shaped, Located}
+
+-- what is lent beside the head and written in place
+pub record Arrays : Type 0 where
+  pub sums : List ℕ
+  pub taps : List ℕ
+
+pub record Job : Type 0 where
+  pub head : Head
+  pub arrays : Arrays
+
+-- the job of a head beside its arrays
+abbrev pub beside : Head → Arrays → Job
+beside h a = record { head = h; arrays = a }
+
+-- the arrays with other sums; with other sums and taps
+abbrev pub withSums : Arrays → (sums : List ℕ) → Arrays
+withSums a sums = record { sums = sums; taps = a .taps }
+
+abbrev pub withFound : Arrays → (sums taps : List ℕ) → Arrays
+withFound a sums taps = record { sums = sums; taps = taps }
+
+-- the job of a head and its arrays
+abbrev pub jobOf : Head → (sums taps : List ℕ) → Job
+jobOf h sums taps = record { head = h; arrays = record { sums = sums; taps = taps } }
+
+-- zeros
+abbrev pub noArrays : Arrays
+noArrays = record { sums = replicate 512 0; taps = replicate 65 0 }
 
 unfoldable pub noColumns : Columns
 noColumns = columnsOf (λ i. false)
 
--- what a job holds that has located nothing
-unfoldable pub nothing : Findings
-nothing = record { sums = replicate 512 0; taps = replicate 65 0; columns = noColumns }
+abbrev pub emptyHead : Head
+emptyHead =
+    record { phase = Empty; shape = record { rows = 0; columns = 0; checks = replicate 8 0 }; columns = noColumns }
 
-unfoldable pub emptyJob : Job
-emptyJob =
-    record {
-      phase = Empty;
-      shape = record { rows = 0; columns = 0; checks = replicate 8 0 };
-      findings = nothing;
-    }
+abbrev pub shapedHead : Shape → Head
+shapedHead s = record { phase = Shaped; shape = s; columns = noColumns }
 
-unfoldable pub shapedJob : Shape → Job
-shapedJob s = record { phase = Shaped; shape = s; findings = nothing }
+abbrev pub locatedHead : Shape → (c : ℕ) (J : Columns) → Head
+locatedHead s c J = record { phase = Located c true; shape = s; columns = J }
 
-unfoldable pub locatedJob : Shape → (c : ℕ) (sums taps : List ℕ) (J : Columns) → Job
-locatedJob s c sums taps J =
-    record {
-      phase = Located c true;
-      shape = s;
-      findings = record { sums = sums; taps = taps ++ replicate (65 - length taps) 0; columns = J };
-    }
+-- an empty or shaped job leaves its arrays as they were
+abbrev pub emptyJob : Arrays → Job
+emptyJob a = record { head = emptyHead; arrays = a }
+
+abbrev pub shapedJob : Shape → Arrays → Job
+shapedJob s a = record { head = shapedHead s; arrays = a }
+
+abbrev pub locatedJob : Shape → (c : ℕ) (sums taps : List ℕ) (J : Columns) → Job
+locatedJob s c sums taps J = jobOf (locatedHead s c J) sums (taps ++ replicate (65 - length taps) 0)
 
 -- what a located job of length c and alone mark a must hold
-unfoldable pub findingsSound : Shape → Findings → (c : ℕ) (a : Bool) → Bool
-findingsSound s g c a =
+unfoldable pub findingsSound : Shape → (J : Columns) (c : ℕ) (a : Bool) → Bool
+findingsSound s J c a =
     a &&
-    (every 256 (λ i. not (has (g .columns) i) || ltb i (s .columns)) &&
-    (eqb (length (members (g .columns))) c && (rowsReach s c && every 512 (λ k. ltb (getD (g .sums) k 0) 257))))
+    (every 256 (λ i. not (has J i) || ltb i (s .columns)) &&
+    (eqb (length (members J)) c && rowsReach s c))
 
--- A value of the struct that a list of calls can leave meets this. One that does not, made by nobody's call, counts as empty.
-unfoldable pub phaseSound : Phase → Shape → Findings → Bool
-phaseSound Empty s g = true
-phaseSound Shaped s g = isShape s
-phaseSound (Located c a) s g = isShape s && findingsSound s g c a
+-- A head and sums that a list of calls can leave meet this. Those that do not, made by nobody's call, count as empty.
+unfoldable pub phaseSound : Phase → Shape → (J : Columns) → Bool
+phaseSound Empty s J = true
+phaseSound Shaped s J = isShape s
+phaseSound (Located c a) s J = isShape s && findingsSound s J c a
 
-unfoldable pub sound : Job → Bool
-sound j = phaseSound (j .phase) (j .shape) (j .findings)
+-- of the head h beside the sums; the taps play no part
+unfoldable pub headSound : Head → Bool
+headSound h = phaseSound (h .phase) (h .shape) (h .columns)
+
+abbrev pub sound : Job → Bool
+sound j = headSound (j .head)
 
 abbrev pub isEmptyPhase : Phase → Bool
 isEmptyPhase Empty = true
@@ -74,5 +102,8 @@ lengthOf Shaped = 0
 lengthOf (Located c a) = c
 
 -- the job counts as empty: refusal 21
-unfoldable pub isEmpty : Job → Bool
-isEmpty j = isEmptyPhase (j .phase) || not (sound j)
+unfoldable pub countsEmpty : Head → Bool
+countsEmpty h = isEmptyPhase (h .phase) || not (headSound h)
+
+abbrev pub isEmpty : Job → Bool
+isEmpty j = countsEmpty (j .head)

@@ -13,8 +13,7 @@ use Rattle.frame.specs.declared.Shape.{Shape}
 use Rattle.refusal.specs.Order.{Reason, First}
 use Rattle.register.specs.Register.{Generator, Shortest, Alone}
 use Rattle.job.specs.Calls.{Call, shape, encode, locate, repair, refused, Outcome, step}
-use Rattle.job.specs.Job.{noColumns, shapedJob, isLocatedPhase, sound}
-use Rattle.job.specs.declared.Job.{Job}
+use Rattle.job.specs.Job.{Job, noColumns, shapedJob, isLocatedPhase, sound}
 use Rattle.job.specs.declared.Phase.the-variants.{Empty}
 
 -- a legal frame lies at distance c from f
@@ -23,7 +22,7 @@ LegalAt s f c = (g : List ℕ) × Legal s g × (distance s g f ≡ c)
 
 -- the job is empty, or a value that no call leaves, which counts as empty
 abbrev pub emptyReason : Job → Reason
-emptyReason j = record { number = 21; holds = (j .phase ≡ Empty) ⊎ (sound j ≡ false) }
+emptyReason j = record { number = 21; holds = (j .head .phase ≡ Empty) ⊎ (sound j ≡ false) }
 
 -- Of a well-formed frame: another register of the shortest length exists;
 abbrev pub notAloneReason : Shape → (f : List ℕ) → Reason
@@ -60,12 +59,12 @@ SumsDiffer a b = (k : ℕ) × (k < 512) × (getD a k 0 ≡ getD b k 0 → ⊥)
 -- the refusals of a call in their order
 abbrev pub reasons : Job → Call → List Reason
 reasons j (shape n checks) = shapeReasons n checks
-reasons j (encode f) = emptyReason j ∷ encodeReasons (j .shape) f
-reasons j (locate f) = emptyReason j ∷ (frameReasons (j .shape) f ++ registerReasons (j .shape) f)
+reasons j (encode f) = emptyReason j ∷ encodeReasons (j .head .shape) f
+reasons j (locate f) = emptyReason j ∷ (frameReasons (j .head .shape) f ++ registerReasons (j .head .shape) f)
 reasons j (repair f) =
-    emptyReason j ∷ record { number = 22; holds = isLocatedPhase (j .phase) ≡ false } ∷
-    (frameReasons (j .shape) f ++
-    (record { number = 23; holds = SumsDiffer (heldSums (j .shape) f) (j .findings .sums) } ∷ []))
+    emptyReason j ∷ record { number = 22; holds = isLocatedPhase (j .head .phase) ≡ false } ∷
+    (frameReasons (j .head .shape) f ++
+    (record { number = 23; holds = SumsDiffer (heldSums (j .head .shape) f) (j .arrays .sums) } ∷ []))
 
 -- the frame that is lent to a call
 abbrev pub lent : Call → List ℕ
@@ -74,9 +73,9 @@ lent (encode f) = f
 lent (locate f) = f
 lent (repair f) = f
 
--- after 24, 25, 26 the job is shaped; after every other refusal it is as it was
+-- after 24, 25, 26 the job is shaped and its arrays are as they were; after every other refusal all of it is as it was
 abbrev pub leaves : Job → ℕ → Job → Type 0
-leaves j k after = (Late × (after ≡ shapedJob (j .shape))) ⊎ ((Late → ⊥) × (after ≡ j))
+leaves j k after = (Late × (after ≡ shapedJob (j .head .shape) (j .arrays))) ⊎ ((Late → ⊥) × (after ≡ j))
   where
     Late : Type 0
     Late = (k ≡ 24) ⊎ ((k ≡ 25) ⊎ (k ≡ 26))

@@ -11,17 +11,12 @@ pub enum Phase {
     Located { length: usize, alone: bool },
 }
 
-// What locating found, but for the phase: the check sums of all rows, row after row, the taps of the register, and the columns that it names.
-pub struct Findings {
-    pub sums: [u16; 512],
-    pub taps: [u16; 65],
-    pub columns: Columns,
-}
-
-pub struct Job {
+// The head of a job, which the calls take and return by value; its columns are those that locating named. The arrays of a job stand beside it, lent to the
+// calls and written in place: the check sums of all rows, row after row, `[u16; 512]`, and the taps of the register, `[u16; 65]`.
+pub struct Head {
     pub phase: Phase,
     pub shape: Shape,
-    pub findings: Findings,
+    pub columns: Columns,
 }
 
 // What locate and repair answer: the number of columns, or why they refuse.
@@ -33,12 +28,12 @@ pub enum Reply {
 // What shape returns.
 pub struct Reshaped {
     pub checked: Checked,
-    pub job: Job,
+    pub head: Head,
 }
 
-// What locate and repair return: the answer, the columns, none where it refuses, and the job as the call leaves it.
+// What locate and repair return: the answer, the columns, none where it refuses, and the job's head as the call leaves it.
 pub struct Answered {
     pub reply: Reply,
     pub columns: Columns,
-    pub job: Job,
+    pub head: Head,
 }

@@ -17,9 +17,9 @@ use Rattle.decoding.proofs.SoleNearest.{reach}
 use Rattle.job.specs.Answers.{replyAnswer, checkedAnswer, shapeOutcome, answeredOutcome}
 use Rattle.job.specs.Calls as Calls
 use Rattle.job.specs.Calls.{Answer, Outcome, step, shape, locate}
-use Rattle.job.specs.Job.{emptyJob, noColumns}
+use Rattle.job.specs.Job.{Job, jobOf, emptyHead, noArrays, noColumns}
 use Rattle.job.specs.declared.Answered.{Answered}
-use Rattle.job.specs.declared.Job.{Job}
+use Rattle.job.specs.declared.Head.{Head}
 use Rattle.job.specs.declared.Reply.{Reply}
 use Rattle.job.specs.declared.Reply.the-variants.{Count, Refused}
 use Rattle.job.specs.declared.Reshaped.{Reshaped}
@@ -52,9 +52,9 @@ few-located : (j : Job) (f : List ℕ) → Few (step j (locate f))
 few-located j f =
     let none = none-marked in
     by-locate Few j f (λ k a. (omega arith, omega arith)) (λ k p a. (omega arith, omega arith)) (λ (e, p) q.
-    let s = j .shape in
-    let t : isShape s ≡ true = has-shape j e in
-    let l : Locates s f = register-passes j f (frame-passes s f p) q in
+    let s = j .head .shape in
+    let t : isShape s ≡ true = has-shape (j .head) _ e in
+    let l : Locates s f = register-passes s f (frame-passes s f p) q in
     let few : sizeOf s f ≤ 64 = at-most s (sizeOf s f) t (l .reach) in
     (few, omega (arith, marked-number s f t l)))
   where
@@ -68,10 +68,10 @@ reply-count : (r : Reply) → counted (replyAnswer r) ≡ columnCount r
 reply-count (Count c) = refl
 reply-count (Refused k) = refl
 
-pub few-marks : (j : Job) (f : List ℕ) (a : Answered) → answeredOutcome a f ≡ step j (locate f)
+pub few-marks : (j : Job) (sums taps f : List ℕ) (a : Answered) → answeredOutcome a sums taps f ≡ step j (locate f)
     → (columnCount (a .reply) ≤ 64) × (length (members (a .columns)) ≤ 64)
-few-marks j f a e =
-    let few : Few (answeredOutcome a f) = subst Few (sym e) (few-located j f) in
+few-marks j sums taps f a e =
+    let few : Few (answeredOutcome a sums taps f) = subst Few (sym e) (few-located j f) in
     (omega (arith, few .0, reply-count (a .reply)), few .1)
 
 -- ---- the line, by what is returned
@@ -88,20 +88,26 @@ module _ (reply : Reply) (marks : Columns) where
     pub count-replied : (n : ℕ) → columnCount reply ≤ n → c ≤ n
     count-replied n h = subst (λ (x : Reply). columnCount x ≤ n) e h
 
-module _ (n : ℕ) (checks symbols : List ℕ) (j : Job) (start : j ≡ emptyJob) (shaped : Reshaped)
-    (given : shapeOutcome shaped ≡ step j (shape n checks)) where
-  by-outcome : frameLine (checkedAnswer (shaped .checked)) (shapeOutcome shaped) (step (shaped .job) (locate symbols)) ≡ outputOf (frame n checks symbols)
+module _ (n : ℕ) (checks symbols : List ℕ) (h : Head) (start : h ≡ emptyHead) (shaped : Reshaped)
+    (given : (sums taps : List ℕ) → shapeOutcome shaped sums taps ≡ step (jobOf h sums taps) (shape n checks)) where
+  -- beside zeros
+  abbrev after : Outcome
+  after = shapeOutcome shaped (noArrays .sums) (noArrays .taps)
+
+  by-outcome : frameLine (checkedAnswer (shaped .checked)) after (step (after .job) (locate symbols)) ≡ outputOf (frame n checks symbols)
   unfolding outputOf
-  by-outcome = ap (λ (o : Outcome). frameLine (o .answer) o (step (o .job) (locate symbols))) (given ∙ ap (λ (i : Job). step i (shape n checks)) start)
+  by-outcome =
+      ap (λ (o : Outcome). frameLine (o .answer) o (step (o .job) (locate symbols)))
+      (given (noArrays .sums) (noArrays .taps) ∙ ap (λ (i : Head). step (jobOf i (noArrays .sums) (noArrays .taps)) (shape n checks)) start)
 
   pub frame-refused : (k : Refusal) → shaped .checked ≡ Refuse k → refusalLine (number k) ≡ outputOf (frame n checks symbols)
   unfolding frameLine
   frame-refused k e =
-      ap (λ (v : Checked). frameLine (checkedAnswer v) (shapeOutcome shaped) (step (shaped .job) (locate symbols))) (sym e) ∙ by-outcome
+      ap (λ (v : Checked). frameLine (checkedAnswer v) after (step (after .job) (locate symbols))) (sym e) ∙ by-outcome
 
-  pub frame-located : (a : Answered) → shaped .checked ≡ Pass → answeredOutcome a symbols ≡ step (shaped .job) (locate symbols)
+  pub frame-located : (a : Answered) (sums taps : List ℕ) → shaped .checked ≡ Pass → answeredOutcome a sums taps symbols ≡ step (after .job) (locate symbols)
       → columnsLine (replyAnswer (a .reply)) (a .columns) ≡ outputOf (frame n checks symbols)
   unfolding frameLine
-  frame-located a e l =
+  frame-located a sums taps e l =
       ap (λ (o : Outcome). columnsLine (o .answer) (o .marks)) l ∙
-      ap (λ (v : Checked). frameLine (checkedAnswer v) (shapeOutcome shaped) (step (shaped .job) (locate symbols))) (sym e) ∙ by-outcome
+      ap (λ (v : Checked). frameLine (checkedAnswer v) after (step (after .job) (locate symbols))) (sym e) ∙ by-outcome

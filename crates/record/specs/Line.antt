@@ -8,7 +8,7 @@ use Rattle.finder.specs.Finder as Finder
 use Rattle.finder.specs.Finder.{answer}
 use Rattle.job.specs.Calls as Calls
 use Rattle.job.specs.Calls.{Outcome, step}
-use Rattle.job.specs.Job.{emptyJob}
+use Rattle.job.specs.Job.{emptyJob, noArrays}
 use Rattle.register.specs.Algorithm4.{found}
 use Rattle.register.specs.Sequences.{longest, split}
 use Rattle.record.specs.Record.{Record, bad, sequences, frame, recordOf}
@@ -46,7 +46,7 @@ outputOf (sequences p lengths symbols) =
     let ss : List (List ℕ) = split lengths symbols in
     registerLine (answer p lengths symbols 129) (found p ss (longest ss) .taps)
 outputOf (frame n checks symbols) =
-    let shaped : Outcome = step emptyJob (Calls.shape n checks) in
+    let shaped : Outcome = step (emptyJob noArrays) (Calls.shape n checks) in
     frameLine (shaped .answer) shaped (step (shaped .job) (Calls.locate symbols))
 
 -- from the bytes got of a record, its length first, to the text of its line

@@ -3,10 +3,10 @@ use crate::answers::found_line;
 use crate::answers::refusal_line;
 use crate::answers::reply_line;
 use crate::parse::whole;
+use calls::locate::locate;
+use calls::shape::shape;
+use calls::states::empty;
 use finder::find::find;
-use link::locate::locate;
-use link::shape::shape;
-use link::states::empty;
 use reader::fields;
 use refusal::Checked;
 use refusal::Refusal;
@@ -39,7 +39,9 @@ fn frame_line(out: &mut [u8], at: usize, n: u16, checks: &[u16], symbols: &[u16]
     if let Checked::Refuse(k) = checked {
         return refusal_line(out, at, k);
     }
-    let located = locate(shaped.job, symbols);
+    let mut sums = [0u16; 512];
+    let mut taps = [0u16; 65];
+    let located = locate(shaped.head, &mut sums, &mut taps, symbols);
     let reply = located.reply;
     reply_line(out, at, reply, located.columns)
 }

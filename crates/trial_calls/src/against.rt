@@ -18,10 +18,9 @@ use brute::tally::count;
 use brute::values::copy;
 use brute::values::part;
 use columns::Columns;
-use job::Answered;
-use job::Findings;
-use job::Job;
 use job::Phase;
+use whole::Answered;
+use whole::Job;
 
 // A job and its model. They agree until a call answers or leaves what the model does not; whether the last call was refused.
 pub(crate) struct Pair {
@@ -32,7 +31,7 @@ pub(crate) struct Pair {
 }
 
 pub(crate) fn start() -> Pair {
-    let job = link::states::empty();
+    let job = whole::empty();
     let model = model::empty();
     Pair {
         agree: true,
@@ -70,25 +69,27 @@ fn same_found(c: usize, columns: Columns, found: Model) -> bool {
     same_columns(columns, &named)
 }
 
-fn same_findings(c: usize, findings: Findings, model: Model) -> bool {
-    let sums = findings.sums;
+fn same_findings(c: usize, job: Job, model: Model) -> bool {
+    let sums = job.sums;
     let held = model.sums;
     if !same(&held, &sums, 0) {
         return false;
     }
-    same_found(c, findings.columns, model)
+    let head = job.head;
+    same_found(c, head.columns, model)
 }
 
 // The phase is that of the model and, of a located job, what it holds.
 fn same_state(job: Job, model: Model) -> bool {
-    let phase = job.phase;
+    let head = job.head;
+    let phase = head.phase;
     if phase_number(phase) != model.phase {
         return false;
     }
     if model.phase != LOCATED {
         return true;
     }
-    same_findings(found_length(phase), job.findings, model)
+    same_findings(found_length(phase), job, model)
 }
 
 // The number that is answered and the job that is left are those of the model.
@@ -110,7 +111,7 @@ fn tally(number: u32, kind: usize, counts: &mut [u64]) {
 
 pub(crate) fn shape(pair: Pair, columns: u16, checks: &[u16], counts: &mut [u64]) -> Pair {
     let due = model::shape(pair.model, columns, checks);
-    let answer = link::shape::shape(pair.job, columns as usize, checks);
+    let answer = whole::shape(pair.job, columns as usize, checks);
     let checked = answer.checked;
     let number = of_checked(checked);
     tally(number, RESHAPED, counts);
@@ -148,7 +149,7 @@ pub(crate) fn encode(pair: Pair, frame: &mut [u16], counts: &mut [u64]) -> Pair 
     let due = model::encode_reason(model, frame);
     let mut room = [0u16; 512];
     copy(frame, &mut room, 0);
-    let number = of_checked(link::encode::encode(job, frame));
+    let number = of_checked(whole::encode(job, frame));
     tally(number, ENCODED, counts);
     let left = left_by_encode(model, number, part(&room, 0, frame.len()), frame);
     Pair {
@@ -175,7 +176,7 @@ fn answers(answer: Answered, number: u32, model: Model, found: Model) -> bool {
 pub(crate) fn locate(pair: Pair, frame: &[u16], counts: &mut [u64]) -> Pair {
     let due = model::located(pair.model, frame);
     let model = due.model;
-    let answer = link::locate::locate(pair.job, frame);
+    let answer = whole::locate(pair.job, frame);
     let reply = answer.reply;
     let job = answer.job;
     tally(of_reply(reply), FOUND, counts);
@@ -212,7 +213,7 @@ pub(crate) fn repair(pair: Pair, frame: &mut [u16], counts: &mut [u64]) -> Pair 
     let model = due.model;
     let mut room = [0u16; 512];
     copy(frame, &mut room, 0);
-    let answer = link::repair::repair(pair.job, frame);
+    let answer = whole::repair(pair.job, frame);
     let reply = answer.reply;
     tally(of_reply(reply), MENDED, counts);
     let right = answers(answer, due.number, model, held);

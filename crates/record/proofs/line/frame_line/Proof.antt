@@ -34,7 +34,7 @@ locate-requires c κs = search needs
 
 reply-line-requires : tie.Need-reply-line-requires
 reply-line-requires c κs =
-    let few = few-marks _ _ (c .before .locate .result) (c .before .locate .ensures) in
+    let few = few-marks _ _ _ _ (c .before .locate .result) (c .before .locate .ensures) in
     (search needs, few .0, few .1)
 
 same-length-2 : tie.Need-same-length-2
@@ -44,8 +44,8 @@ returns-2 : tie.Need-returns-2
 returns-2 c =
     let line = c .before .before .reply-line .ensures in
     let located =
-    frame-located _ _ _ _ (c .before .before .before .before .before .before .before .before .empty .ensures) (c .before .before .before .before .before .before .before .shape .result) (c .before .before .before .before .before .before .before .shape .ensures) (c .before .before .before .before .locate .result)
-    (c .before .before .before .before .before .enum-told .given .1) (c .before .before .before .before .locate .ensures) in
+    frame-located _ _ _ _ (c .before .before .before .before .before .before .before .before .before .before .empty .ensures) (c .before .before .before .before .before .before .before .before .before .shape .result) (c .before .before .before .before .before .before .before .before .before .shape .ensures) (c .before .before .before .before .locate .result) _ _
+    (c .before .before .before .before .before .before .before .enum-told .given .1) (c .before .before .before .before .locate .ensures) in
     (written-as _ _ _ _ _ _ located (line .0), line .1)
 
 pub frame-line-spec : {M : Type 1} → statement M

@@ -1,0 +1,145 @@
+-- What each call gives after each of its tests, and the answers that it makes of it.
+-- Assumes nothing.
+use mathlib.Core.Path.{_≡_, refl, sym, ap, ap₂, _∙_}
+use mathlib.Core.Bool.{true, false, cond, not}
+use mathlib.Core.List.{List, [], _∷_, _++_}
+use Prim.Native.Nat.{ℕ, _*_, _≤_, _<_}
+use lib.ListN.{length, getD}
+use Rattle.decoding.specs.Locating.{repaired}
+use Rattle.frame.specs.Encode.{encoded, encodeTests}
+use Rattle.frame.specs.Frame.{heldSums, frameTests}
+use Rattle.frame.specs.Shape.{shapeOf, shapeTests}
+use Rattle.frame.specs.declared.Shape.{Shape}
+use Rattle.frame.proofs.Reasons.{shape-passes, frame-passes}
+use Rattle.frame.proofs.Shapes.{shape-ranges}
+use Rattle.job.specs.Answers.{shapeOutcome, encodeOutcome, answeredOutcome}
+use Rattle.job.specs.Calls.{shape, encode, locate, repair, step, shapeCall, encodeCall, locateCall, repairCall, refusing, locates, registerTests, repairs, repairTests, sameSums}
+use Rattle.job.specs.Job.{Arrays, Job, beside, isEmpty, isLocatedPhase, lengthOf, shapedHead, shapedJob}
+use Rattle.job.specs.declared.Answered.{Answered}
+use Rattle.job.specs.declared.Head.{Head}
+use Rattle.refusal.specs.Number.{number}
+use Rattle.refusal.specs.declared.Refusal.{Refusal}
+use Rattle.refusal.specs.declared.Refusal.the-variants.{Empty}
+use Rattle.refusal.specs.declared.Checked.{Checked}
+use Rattle.refusal.specs.declared.Checked.the-variants.{Pass, Refuse}
+use Rattle.refusal.specs.Order.{Test, firstOf}
+use Rattle.refusal.specs.Outcome.{passed, refused, outcome, outcomeOf}
+use Rattle.refusal.proofs.Outcomes.{given-passed, given-refused}
+use Rattle.calls.specs.Answered as answer-of
+use Rattle.calls.proofs.Orders.{passed-pass}
+
+-- a refusal of the calls' answer, with the head that it leaves beside the arrays as they were
+pub refusal-outcome : (a : Arrays) (f : List ℕ) {r : Answered} {i j : Head} (why : Refusal) → r ≡ answer-of.refusal i why → i ≡ j
+    → answeredOutcome r a f ≡ refusing (beside j a) f (number why)
+refusal-outcome a f why e g = ap (λ x. answeredOutcome x a f) (e ∙ ap (λ k. answer-of.refusal k why) g)
+
+-- a repair's answer and frame
+pub mended-outcome : (j : Head) (a : Arrays) (f : List ℕ) {r : Answered} {c : ℕ} {left : List ℕ} → r ≡ answer-of.repair (j .shape) c (j .columns)
+    → c ≡ lengthOf (j .phase) → left ≡ repaired (j .shape) (j .columns) f → answeredOutcome r a left ≡ repairs (beside j a) f
+mended-outcome j a f e n l = rw (e, n, l) refl
+
+pub passed-size : (s : Shape) (f : List ℕ) → outcome (frameTests s f) ≡ passed → length f ≡ s .rows * s .columns
+passed-size s f e = frame-passes s f (passed-pass (frameTests s f) e) .size
+
+pub passed-symbols : (s : Shape) (f : List ℕ) → outcome (frameTests s f) ≡ passed → (k : ℕ) → k < length f → getD f k 0 < 257
+passed-symbols s f e = frame-passes s f (passed-pass (frameTests s f) e) .symbols
+
+-- ---- shape
+
+pub passed-rows : (n : ℕ) (checks : List ℕ) → outcome (shapeTests n checks) ≡ passed → length checks ≤ 8
+unfolding shapeOf
+passed-rows n checks e = shape-ranges (shapeOf n checks) (shape-passes n checks (passed-pass (shapeTests n checks) e)) .rows-most
+
+module _ (h : Head) (a : Arrays) (n : ℕ) (checks : List ℕ) where
+  abbrev j : Job
+  j = beside h a
+
+  pub shape-refused : {v : Checked} (why : Refusal) → outcomeOf v ≡ outcome (shapeTests n checks) → v ≡ Refuse why
+      → shapeOutcome (record { checked = v; head = h }) a ≡ step j (shape n checks)
+  unfolding step shapeCall
+  shape-refused why e r =
+      ap (λ x. shapeOutcome (record { checked = x; head = h }) a) r
+      ∙ sym (given-refused (refusing j []) _ (shapeTests n checks) (number why) (sym e ∙ ap outcomeOf r))
+
+  pub shape-given : {v : Checked} {i : Head} → outcomeOf v ≡ outcome (shapeTests n checks) → v ≡ Pass → i ≡ shapedHead (shapeOf n checks)
+      → shapeOutcome (record { checked = v; head = i }) a ≡ step j (shape n checks)
+  unfolding step shapeCall
+  shape-given e r s =
+      ap₂ (λ x y. shapeOutcome (record { checked = x; head = y }) a) r s
+      ∙ sym (given-passed (refusing j []) _ (shapeTests n checks) (sym e ∙ ap outcomeOf r))
+
+-- ---- encode
+
+module _ (j : Job) (f : List ℕ) where
+  pub encode-empty : isEmpty j ≡ true → encodeOutcome j (Refuse Empty) f ≡ step j (encode f)
+  unfolding step encodeCall
+  encode-empty e = rw e refl
+
+  abbrev leaves : List ℕ
+  leaves = firstOf (λ k. f) (encodeTests (j .head .shape) f) (encoded (j .head .shape) f)
+
+  pub encode-given : isEmpty j ≡ false → (v : Checked) {left : List ℕ} → outcomeOf v ≡ outcome (encodeTests (j .head .shape) f) → left ≡ leaves
+      → encodeOutcome j v left ≡ step j (encode f)
+  unfolding step encodeCall
+  encode-given full Pass e l =
+      ap (encodeOutcome j Pass) (l ∙ given-passed (λ k. f) _ (encodeTests (j .head .shape) f) (sym e))
+      ∙ rw full (sym (given-passed (refusing j f) _ (encodeTests (j .head .shape) f) (sym e)))
+  encode-given full (Refuse why) e l =
+      ap (encodeOutcome j (Refuse why)) (l ∙ given-refused (λ k. f) _ (encodeTests (j .head .shape) f) (number why) (sym e))
+      ∙ rw full (sym (given-refused (refusing j f) _ (encodeTests (j .head .shape) f) (number why) (sym e)))
+
+-- ---- locate
+
+module _ (j : Job) (f : List ℕ) where
+  pub locate-empty : isEmpty j ≡ true → refusing j f 21 ≡ step j (locate f)
+  unfolding step locateCall
+  locate-empty e = rw e refl
+
+  module _ (full : isEmpty j ≡ false) where
+    pub locate-refused : (k : ℕ) → outcome (frameTests (j .head .shape) f) ≡ refused k → refusing j f k ≡ step j (locate f)
+    unfolding step locateCall
+    locate-refused k e = rw full (sym (given-refused (refusing j f) _ (frameTests (j .head .shape) f) k e))
+
+    pub locate-goes-on : outcome (frameTests (j .head .shape) f) ≡ passed
+        → firstOf (refusing (shapedJob (j .head .shape) (j .arrays)) f) (registerTests (j .head .shape) f) (locates (j .head .shape) f) ≡ step j (locate f)
+    unfolding step locateCall
+    locate-goes-on e = rw full (sym (given-passed (refusing j f) _ (frameTests (j .head .shape) f) e))
+
+-- ---- repair
+
+-- one order after another
+after : {A : Type 0} (refuse : ℕ → A) (ts us : List Test) (otherwise : A) → firstOf refuse (ts ++ us) otherwise ≡ firstOf refuse ts (firstOf refuse us otherwise)
+after refuse [] us otherwise = refl
+after refuse (t ∷ ts) us otherwise = ap (λ later. cond (t .fails) (refuse (t .number)) later) (after refuse ts us otherwise)
+
+module _ (j : Job) (f : List ℕ) where
+  abbrev sumsTest : List Test
+  sumsTest = record { number = 23; fails = not (sameSums (heldSums (j .head .shape) f) (j .arrays .sums)) } ∷ []
+
+  pub repair-empty : isEmpty j ≡ true → refusing j f 21 ≡ step j (repair f)
+  unfolding step repairCall repairTests
+  repair-empty e = rw e refl
+
+  module _ (full : isEmpty j ≡ false) where
+    pub repair-unlocated : isLocatedPhase (j .head .phase) ≡ false → refusing j f 22 ≡ step j (repair f)
+    unfolding step repairCall repairTests
+    repair-unlocated e = rw (full, e) refl
+
+    module _ (located : isLocatedPhase (j .head .phase) ≡ true) where
+      -- the tests of the frame come next, then that of the sums
+      next : step j (repair f) ≡ firstOf (refusing j f) (frameTests (j .head .shape) f) (firstOf (refusing j f) sumsTest (repairs j f))
+      unfolding step repairCall repairTests
+      next = rw (full, located) (after (refusing j f) (frameTests (j .head .shape) f) sumsTest (repairs j f))
+
+      pub repair-refused : (k : ℕ) → outcome (frameTests (j .head .shape) f) ≡ refused k → refusing j f k ≡ step j (repair f)
+      repair-refused k e = sym (given-refused (refusing j f) _ (frameTests (j .head .shape) f) k e) ∙ sym next
+
+      module _ (well-formed : outcome (frameTests (j .head .shape) f) ≡ passed) where
+        goes-on : firstOf (refusing j f) sumsTest (repairs j f) ≡ step j (repair f)
+        goes-on = sym (given-passed (refusing j f) _ (frameTests (j .head .shape) f) well-formed) ∙ sym next
+
+        pub repair-differs : sameSums (heldSums (j .head .shape) f) (j .arrays .sums) ≡ false → refusing j f 23 ≡ step j (repair f)
+        repair-differs e = rw e at goes-on
+
+        pub repair-mends : sameSums (heldSums (j .head .shape) f) (j .arrays .sums) ≡ true → repairs j f ≡ step j (repair f)
+        repair-mends e = rw e at goes-on

@@ -1,0 +1,78 @@
+-- `calls::locate::shortest` meets its contract. Assumes nothing.
+use mathlib.Core.Path.{_≡_, ap, _∙_}
+use mathlib.Core.List.{List}
+use Prim.Native.Nat.{ℕ, _-_}
+use lib.ListN.{length, take}
+use native.Mathlib.Nat.{sub-zero}
+use native.Mathlib.Omega.{arith}
+use denote.Ref.{now}
+use Rattle.frame.specs.declared.Shape.{Shape}
+use Rattle.frame.proofs.Shapes.{shape-ranges}
+use Rattle.calls.proofs.Lending.{sums-most}
+use borrow.Author.Needs.{needs}
+use Rattle.calls.proofs.locate.shortest.Statement.{statement}
+use Rattle.calls.proofs.locate.shortest.Tie as tie
+
+sum-count-requires : tie.Need-sum-count-requires
+sum-count-requires c κs = search needs
+
+sub-synthesize : tie.Need-sub-synthesize
+sub-synthesize c = search needs
+
+part-synthesize-start : tie.Need-part-synthesize-start
+part-synthesize-start c = search needs
+
+part-synthesize-end : tie.Need-part-synthesize-end
+part-synthesize-end c =
+    let s = c .before .before .before .before .before in
+    let eight : length (s .args .s .checks) ≡ 8 = search needs in
+    let r = shape-ranges _ (s .pre .0) in
+    omega arith
+
+sub-synthesize-2 : tie.Need-sub-synthesize-2
+sub-synthesize-2 c = search needs
+
+part-synthesize-start-2 : tie.Need-part-synthesize-start-2
+part-synthesize-start-2 c = search needs
+
+part-synthesize-end-2 : tie.Need-part-synthesize-end-2
+part-synthesize-end-2 c =
+    let start = c .before .before .before .before .before .before in
+    let m = sums-most _ (start .pre .0) in
+    omega (arith, start .pre .1, c .before .before .sum-count .ensures)
+
+-- what is lent to the finder is what the contract speaks of
+lengths : (s : Shape) → take (s .rows - 0) (s .checks) ≡ take (s .rows) (s .checks)
+lengths s = ap (λ (n : ℕ). take n (s .checks)) (sub-zero (s .rows))
+
+symbols : (sums : List ℕ) (k n : ℕ) → k ≡ n → take (k - 0) sums ≡ take n sums
+symbols sums k n e = ap (λ (m : ℕ). take m sums) (sub-zero k ∙ e)
+
+synthesize-requires : tie.Need-synthesize-requires
+synthesize-requires c κs =
+    let start = c .before .before .before .before .before .before .before .before in
+    rw (lengths (start .args .s), symbols (now (start .args .sums)) _ _ (c .before .before .before .before .sum-count .ensures)) (start .pre .2)
+
+same-length : tie.Need-same-length
+same-length c = search needs
+
+returns : tie.Need-returns
+returns c =
+    let called = c .before .before in
+    let args = called .before .before .before .before .before .before .before .before .before .args in
+    rw (lengths (args .s), symbols (now (args .sums)) _ _ (called .before .before .before .before .before .sum-count .ensures)) at (called .synthesize .ensures)
+
+pub shortest-spec : {M : Type 1} → statement M
+shortest-spec =
+    tie.close
+    (tie.spec
+    sum-count-requires
+    sub-synthesize
+    part-synthesize-start
+    part-synthesize-end
+    sub-synthesize-2
+    part-synthesize-start-2
+    part-synthesize-end-2
+    synthesize-requires
+    same-length
+    returns)

@@ -1,0 +1,151 @@
+-- `calls::repair::repair` meets its contract. Assumes nothing.
+use mathlib.Core.Path.{_≡_, refl, sym, ap, _∙_}
+use mathlib.Core.Bool.{true, false}
+use mathlib.Core.List.{List}
+use Prim.Native.Nat.{ℕ}
+use denote.Ref.{now}
+use borrow.Author.Tests.{not-true, not-false}
+use Rattle.columns.specs.Columns.{Sound}
+use Rattle.columns.proofs.Marks.{sound}
+use Rattle.decoding.specs.Locating.{repaired}
+use Rattle.frame.specs.Frame.{heldSums, frameTests}
+use Rattle.job.specs.Calls.{sameSums}
+use Rattle.job.specs.Job.{countsEmpty, isLocatedPhase}
+use Rattle.job.proofs.Forms.{has-shape}
+use Rattle.refusal.specs.Outcome.{outcome, outcomeOf, passed}
+use Rattle.calls.proofs.Steps.{refusal-outcome, mended-outcome, passed-size, passed-symbols, repair-empty, repair-unlocated, repair-refused, repair-differs, repair-mends}
+use Rattle.calls.proofs.Marked.{located-marked}
+use borrow.Author.Needs.{needs}
+use Rattle.calls.proofs.repair.repair.Statement.{statement}
+use Rattle.calls.proofs.repair.repair.Tie as tie
+
+counts-as-empty-requires : tie.Need-counts-as-empty-requires
+counts-as-empty-requires c κs = search needs
+
+refuse-requires : tie.Need-refuse-requires
+refuse-requires c κs = search needs
+
+returns : tie.Need-returns
+returns c = λ a. refusal-outcome _ _ _ (c .refuse .ensures) refl ∙ repair-empty _ _ (sym (c .before .before .counts-as-empty .ensures) ∙ c .before .if1 .taken)
+
+-- the job does not count as empty
+full : (c : tie.Else1) → countsEmpty (c .before .before .before .args .j) ≡ false
+full c = sym (c .before .counts-as-empty .ensures) ∙ c .if1 .left
+
+is-located-requires : tie.Need-is-located-requires
+is-located-requires c κs = search needs
+
+refuse-requires-2 : tie.Need-refuse-requires-2
+refuse-requires-2 c κs = search needs
+
+returns-2 : tie.Need-returns-2
+returns-2 c =
+    λ a. refusal-outcome _ _ _ (c .refuse2 .ensures) refl
+    ∙ repair-unlocated _ _ (full (c .before .before .before)) (sym (c .before .before .is-located .ensures) ∙ not-true _ (c .before .if2 .taken))
+
+located : (c : tie.Else2) → isLocatedPhase (c .before .before .before .before .before .args .j .phase) ≡ true
+located c = sym (c .before .is-located .ensures) ∙ not-false _ (c .if2 .left)
+
+check-frame-requires : tie.Need-check-frame-requires
+check-frame-requires c κs = has-shape _ (full (c .before .before .before))
+
+enum-known-checked : tie.Need-enum-known-checked
+enum-known-checked c = search needs
+
+refuse-requires-3 : tie.Need-refuse-requires-3
+refuse-requires-3 c κs = search needs
+
+same-length : tie.Need-same-length
+same-length c = search needs
+
+returns-3 : tie.Need-returns-3
+returns-3 c =
+    λ a. refusal-outcome _ _ _ (c .refuse3 .ensures) refl
+    ∙ repair-refused _ _ (full (c .before .before .before .before .before .before .before .before)) (located (c .before .before .before .before .before .before)) _ (sym (c .before .before .before .before .check-frame .ensures) ∙ ap outcomeOf (c .before .before .checked .given .1))
+
+enum-told : tie.Need-enum-told
+enum-told c = search needs
+
+-- the frame is well-formed
+passes : (c : tie.After-enum-told) → outcome (frameTests (c .before .before .before .before .before .before .before .before .before .args .j .shape) (now (c .before .before .before .before .before .before .before .before .before .args .frame))) ≡ passed
+passes c = sym (c .before .before .check-frame .ensures) ∙ ap outcomeOf (c .enum-told .given .1)
+
+frame-sums-requires : tie.Need-frame-sums-requires
+frame-sums-requires c κs = (has-shape _ (full (c .before .before .before .before .before .before .before)), passed-size _ _ (passes (c .before)))
+
+same-sums-requires : tie.Need-same-sums-requires
+same-sums-requires c κs = search needs
+
+-- the sums are compared
+compared : (c : tie.After-same-sums) →
+    sameSums (heldSums (c .before .before .before .before .before .before .before .before .before .before .before .before .before .args .j .shape) (now (c .before .before .before .before .before .before .before .before .before .before .before .before .before .args .frame))) (c .before .before .before .before .before .before .before .before .before .before .before .before .before .args .sums .now) ≡ c .same-sums .result
+compared c = sym (c .same-sums .ensures ∙ ap (λ (l : List ℕ). sameSums l (c .before .before .before .before .before .before .before .before .before .before .before .before .before .args .sums .now)) (c .before .before .frame-sums .ensures))
+
+refuse-requires-4 : tie.Need-refuse-requires-4
+refuse-requires-4 c κs = search needs
+
+same-length-2 : tie.Need-same-length-2
+same-length-2 c = search needs
+
+returns-4 : tie.Need-returns-4
+returns-4 c =
+    λ a. refusal-outcome _ _ _ (c .refuse4 .ensures) refl
+    ∙ repair-differs _ _ (full (c .before .before .before .before .before .before .before .before .before .before .before .before)) (located (c .before .before .before .before .before .before .before .before .before .before)) (passes (c .before .before .before .before .before .before)) (compared (c .before .before) ∙ not-true _ (c .before .if3 .taken))
+
+words : (c : tie.Start) → Sound (c .args .j .columns)
+words c = sound _ (search needs) (λ w. search needs)
+
+slice-aggregate-mend : tie.Need-slice-aggregate-mend
+slice-aggregate-mend c = search needs
+
+mend-requires : tie.Need-mend-requires
+mend-requires c κs =
+    let summed = c .before .before .before .before .before .before in
+    let told = summed .before .before in
+    let nonempty = full (told .before .before .before .before .before .before) in
+    let marked = located-marked _ nonempty (located (told .before .before .before .before)) (words (told .before .before .before .before .before .before .before .before .before)) in
+    (has-shape _ nonempty, passed-size _ _ (passes told), passed-symbols _ _ (passes told), summed .frame-sums .ensures, marked .inside, marked .reach)
+
+length-of-requires : tie.Need-length-of-requires
+length-of-requires c κs = search needs
+
+mended-requires : tie.Need-mended-requires
+mended-requires c κs = search needs
+
+same-length-3 : tie.Need-same-length-3
+same-length-3 c = search needs
+
+returns-5 : tie.Need-returns-5
+unfolding repaired
+returns-5 c =
+    let told = c .before .before .before .before .before .before .before .before .before .before .before .before .before in
+    λ a. mended-outcome (told .before .before .before .before .before .before .before .before .before .args .j) _ _ (c .mended .ensures) (c .before .length-of .ensures) (c .before .before .before .before .mend .ensures)
+    ∙ repair-mends _ _ (full (told .before .before .before .before .before .before)) (located (told .before .before .before .before)) (passes told) (compared (c .before .before .before .before .before .before .before .before .before) ∙ not-false _ (c .before .before .before .before .before .before .before .before .if3 .left))
+
+pub repair-spec : {M : Type 1} → statement M
+repair-spec =
+    tie.close
+    (tie.spec
+    counts-as-empty-requires
+    refuse-requires
+    returns
+    is-located-requires
+    refuse-requires-2
+    returns-2
+    check-frame-requires
+    enum-known-checked
+    refuse-requires-3
+    same-length
+    returns-3
+    enum-told
+    frame-sums-requires
+    same-sums-requires
+    refuse-requires-4
+    same-length-2
+    returns-4
+    slice-aggregate-mend
+    mend-requires
+    length-of-requires
+    mended-requires
+    same-length-3
+    returns-5)

@@ -1,0 +1,25 @@
+-- `calls::search::is_root` meets its contract. Assumes nothing.
+use mathlib.Core.Path.{sym, ap, _∙_}
+use Prim.Native.Nat.{ℕ}
+use denote.Ref.{now}
+use lib.Dec.{eqb}
+use Rattle.field.specs.Coefficients.{value}
+use Rattle.frame.proofs.Locators.{inverse-power}
+use borrow.Author.Needs.{needs}
+use Rattle.calls.proofs.search.is_root.Statement.{statement}
+use Rattle.calls.proofs.search.is_root.Tie as tie
+
+sub-value-at : tie.Need-sub-value-at
+sub-value-at c = search needs
+
+value-at-requires : tie.Need-value-at-requires
+value-at-requires c κs = search needs
+
+returns : tie.Need-returns
+returns c =
+    let a = c .before .before .args in
+    ap (λ (v : ℕ). eqb v 0)
+    (c .value-at .ensures .0 ∙ ap (value 257 (now (a .taps))) (sym (inverse-power (a .i) (c .before .before .pre .2))))
+
+pub is-root-spec : {M : Type 1} → statement M
+is-root-spec = tie.close (tie.spec sub-value-at value-at-requires returns)

@@ -1,0 +1,58 @@
+-- `calls::sound::is_sound` meets its contract. Assumes nothing.
+use mathlib.Core.Path.{_≡_, sym, _∙_}
+use mathlib.Core.Bool.{true}
+use borrow.Author.Tests.{not-true, not-false}
+use Rattle.frame.specs.Shape.{isShape}
+use Rattle.calls.proofs.Emptiness.{empty-sound, shaped-sound, located-shapeless, located-sound}
+use borrow.Author.Needs.{needs}
+use Rattle.calls.proofs.sound.is_sound.Statement.{statement}
+use Rattle.calls.proofs.sound.is_sound.Tie as tie
+
+enum-told : tie.Need-enum-told
+enum-told c = search needs
+
+enum-told-2 : tie.Need-enum-told-2
+enum-told-2 c = search needs
+
+is-shape-requires : tie.Need-is-shape-requires
+is-shape-requires c κs = search needs
+
+enum-known-phase : tie.Need-enum-known-phase
+enum-known-phase c = search needs
+
+is-shape-requires-2 : tie.Need-is-shape-requires-2
+is-shape-requires-2 c κs = search needs
+
+returns : tie.Need-returns
+returns c =
+    sym (located-shapeless _ _ _ (c .before .before .before .phase .given .1) (sym (c .before .is-shape2 .ensures) ∙ not-true _ (c .if1 .taken)))
+
+has-shape : (c : tie.Else1) → isShape (c .before .before .before .before .before .args .j .shape) ≡ true
+has-shape c = sym (c .before .is-shape2 .ensures) ∙ not-false _ (c .if1 .left)
+
+is-findings-requires : tie.Need-is-findings-requires
+is-findings-requires c κs = has-shape c
+
+returns-2 : tie.Need-returns-2
+returns-2 c = sym (empty-sound _ (c .enum-told .given .1))
+
+returns-3 : tie.Need-returns-3
+returns-3 c = c .is-shape .ensures ∙ sym (shaped-sound _ (c .before .enum-told2 .given .1))
+
+returns-4 : tie.Need-returns-4
+returns-4 c = c .is-findings .ensures ∙ sym (located-sound _ _ _ (c .before .before .before .before .phase .given .1) (has-shape (c .before)))
+
+pub is-sound-spec : {M : Type 1} → statement M
+is-sound-spec =
+    tie.close
+    (tie.spec
+    enum-told
+    enum-told-2
+    is-shape-requires
+    enum-known-phase
+    is-shape-requires-2
+    returns
+    is-findings-requires
+    returns-2
+    returns-3
+    returns-4)

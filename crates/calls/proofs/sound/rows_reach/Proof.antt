@@ -1,0 +1,66 @@
+-- `calls::sound::rows_reach` meets its contract: the rows passed have at least c checks. Assumes nothing.
+use mathlib.Core.Path.{_≡_, sym}
+use mathlib.Core.Bool.{true}
+use Prim.Native.Nat.{ℕ, _-_, _≤_, _<_}
+use native.Mathlib.Omega.{arith}
+use lib.Dec.{leb}
+use borrow.Author.Count.{below-none, below-more}
+use borrow.Author.Tests.{le-leb, lt-leb}
+use Rattle.decoding.specs.Locating.{rowsReach}
+use Rattle.frame.specs.Shape.{checksOf}
+use Rattle.frame.proofs.Shapes.{shape-ranges}
+use Rattle.lists.proofs.Tabulated.{every-of, every-fails}
+use Rattle.calls.proofs.sound.rows_reach.Statement.{statement}
+use Rattle.calls.proofs.sound.rows_reach.Tie as tie
+
+abbrev Inv-loop : tie.InvT-loop
+Inv-loop c s rows h₀ h = (h ≤ rows) × ((k : ℕ) → k < h → leb c (checksOf s k) ≡ true)
+
+abbrev μ-loop : tie.MeasureT-loop
+μ-loop c s rows h₀ h = rows - h
+
+loop-holds : tie.Need-loop-holds Inv-loop μ-loop
+loop-holds c = (omega arith, below-none _)
+
+mul-if1 : tie.Need-mul-if1 Inv-loop μ-loop
+mul-if1 c = let r = shape-ranges _ (c .before .before .pre) in omega arith
+
+element-copy-out-if1 : tie.Need-element-copy-out-if1 Inv-loop μ-loop
+element-copy-out-if1 c = let r = shape-ranges _ (c .before .before .pre) in omega arith
+
+cast-if1 : tie.Need-cast-if1 Inv-loop μ-loop
+cast-if1 c =
+    let q = shape-ranges _ (c .before .before .before .pre) .checks (c .before .before .loop .h) (c .before .loop-test .taken) .most in omega arith
+
+returns : tie.Need-returns Inv-loop μ-loop
+unfolding rowsReach
+returns c = sym (every-fails _ _ (c .before .before .before .loop .h) (c .before .before .loop-test .taken) (lt-leb _ _ (c .if1 .taken)))
+
+add-h : tie.Need-add-h Inv-loop μ-loop
+add-h c = omega arith
+
+loop-less : tie.Need-loop-less Inv-loop μ-loop
+loop-less c = omega arith
+
+loop-again : tie.Need-loop-again Inv-loop μ-loop
+loop-again c = (omega arith, below-more _ _ (c .before .before .before .loop .inv .1) (le-leb _ _ (c .if1 .left)))
+
+returns-2 : tie.Need-returns-2 Inv-loop μ-loop
+unfolding rowsReach
+returns-2 c = sym (every-of _ _ (λ k l. c .before .loop .inv .1 k (omega arith)))
+
+pub rows-reach-spec : {M : Type 1} → statement M
+rows-reach-spec =
+    tie.close
+    (tie.spec
+    Inv-loop
+    μ-loop
+    loop-holds
+    mul-if1
+    element-copy-out-if1
+    cast-if1
+    returns
+    add-h
+    loop-less
+    loop-again
+    returns-2)

@@ -1,0 +1,24 @@
+// Giving a job its shape. Its arrays are neither read nor written.
+use crate::states::shaped;
+use codec::shape::check_shape;
+use codec::shape::shape_of;
+use job::Head;
+use job::Reshaped;
+use refusal::Checked;
+ghost use mathlib.Core.Path.{_≡_};
+ghost use Rattle.job.specs.Answers.{shapeOutcome};
+ghost use Rattle.job.specs.Calls.{shape, step};
+ghost use Rattle.job.specs.Job.{Arrays, beside};
+
+pub fn shape(j: Head, columns: usize, checks: &[u16]) -> Reshaped
+    ensures { λ r. ⌜ ((a : Arrays) → shapeOutcome r a ≡ step (beside j a) (shape columns (now (checks .entry)))) ⌝ }
+{
+    let checked = check_shape(columns, checks);
+    match checked {
+        Checked::Refuse(_) => Reshaped { checked, head: j },
+        Checked::Pass => {
+            let head = shaped(shape_of(columns, checks));
+            Reshaped { checked, head }
+        }
+    }
+}

@@ -1,0 +1,28 @@
+-- `capi::jobs::tomkhadi_locate` meets its contract, by those of the functions that it calls. Assumes nothing.
+use mathlib.Core.Path.{_∙_, ap}
+use mathlib.Core.List.{[]}
+use borrow.Author.Needs.{needs}
+use Rattle.capi.specs.Mirror.{answeredOf}
+use Rattle.job.specs.Calls.{Outcome, step, locate}
+use Rattle.job.specs.Job.{beside, withFound}
+use Rattle.job.specs.declared.Head.{Head}
+use Rattle.capi.proofs.jobs.tomkhadi_locate.Statement.{statement}
+use Rattle.capi.proofs.jobs.tomkhadi_locate.Tie as tie
+
+head-of-requires : tie.Need-head-of-requires
+head-of-requires c κs = search needs
+
+locate-requires : tie.Need-locate-requires
+locate-requires c κs = search needs
+
+answer-of-requires : tie.Need-answer-of-requires
+answer-of-requires c κs = search needs
+
+returns : tie.Need-returns
+returns c = λ b.
+    let a = c .before .before .before .before .before .before .args in
+    let done = c .before .locate .ensures b ∙ ap (λ (h : Head). step (beside h (withFound b (a .sums .now) (a .taps .now))) (locate (a .frame .now))) (c .before .before .before .before .head-of .ensures) in
+    record { answers = c .answer-of .ensures b [] ∙ ap answeredOf done; arrays = ap (λ (o : Outcome). o .job .arrays) done }
+
+pub tomkhadi-locate-spec : {M : Type 1} → statement M
+tomkhadi-locate-spec = tie.close (tie.spec head-of-requires locate-requires answer-of-requires returns)

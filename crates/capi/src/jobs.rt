@@ -1,0 +1,111 @@
+// The calls on a job for C.
+use crate::CAnswer;
+use crate::CHead;
+use crate::CShaped;
+use crate::mirror::head_of;
+use crate::mirror::mirror_of;
+use calls::encode::encode;
+use calls::locate::locate;
+use calls::repair::repair;
+use calls::shape::shape;
+use calls::states::empty;
+use job::Answered;
+use job::Reply;
+use refusal::Checked;
+use refusal::number_of;
+ghost use mathlib.Core.List.{List};
+ghost use mathlib.Core.Path.{_≡_};
+ghost use Prim.Native.Nat.{ℕ};
+ghost use Rattle.capi.specs.Exports.{CShapes, CEncodes, CLocates, CRepairs};
+ghost use Rattle.capi.specs.Mirror.{headOf, mirrorOf, refusalOf, countOf, answeredOf};
+ghost use Rattle.job.specs.Answers.{checkedAnswer, replyAnswer, answeredOutcome};
+ghost use Rattle.job.specs.Calls.{step, shape, encode, locate, repair};
+ghost use Rattle.job.specs.Job.{Arrays, beside, withSums, withFound, emptyHead};
+
+fn refusal_of(v: Checked) -> u32
+    ensures { λ r. ⌜ r ≡ refusalOf (checkedAnswer v) ⌝ }
+{
+    match v {
+        Checked::Pass => 0,
+        Checked::Refuse(why) => number_of(why),
+    }
+}
+
+fn reply_refusal(reply: Reply) -> u32
+    ensures { λ r. ⌜ r ≡ refusalOf (replyAnswer reply) ⌝ }
+{
+    match reply {
+        Reply::Count(_) => 0,
+        Reply::Refused(why) => number_of(why),
+    }
+}
+
+fn reply_count(reply: Reply) -> usize
+    ensures { λ r. ⌜ r ≡ countOf (replyAnswer reply) ⌝ }
+{
+    match reply {
+        Reply::Count(c) => c,
+        Reply::Refused(_) => 0,
+    }
+}
+
+fn answer_of(a: Answered) -> CAnswer
+    ensures { λ r. ⌜ ((b : Arrays) (f : List ℕ) → r ≡ answeredOf (answeredOutcome a b f)) ⌝ }
+{
+    let columns = a.columns;
+    let marks = columns.words;
+    let reply = a.reply;
+    let head = mirror_of(a.head);
+    CAnswer {
+        refusal: reply_refusal(reply),
+        count: reply_count(reply),
+        marks,
+        head,
+    }
+}
+
+#[no_mangle]
+pub extern "C" fn tomkhadi_empty() -> CHead
+    ensures { λ r. ⌜ r ≡ mirrorOf emptyHead ⌝ }
+{
+    mirror_of(empty())
+}
+
+#[no_mangle]
+pub extern "C" fn tomkhadi_shape(head: CHead, columns: usize, checks: &[u16]) -> CShaped
+    ensures { λ r. ⌜ ((a : Arrays) → CShapes (step (beside (headOf head) a) (shape columns (now (checks .entry)))) r a) ⌝ }
+{
+    let made = shape(head_of(head), columns, checks);
+    let checked = made.checked;
+    let next = mirror_of(made.head);
+    CShaped {
+        refusal: refusal_of(checked),
+        head: next,
+    }
+}
+
+#[no_mangle]
+pub extern "C" fn tomkhadi_encode(head: CHead, frame: &mut [u16]) -> u32
+    ensures { λ r. ⌜ ((a : Arrays) → CEncodes (step (beside (headOf head) a) (encode (now (frame .entry)))) r (now (frame .exit))) ⌝ }
+{
+    refusal_of(encode(head_of(head), frame))
+}
+
+#[no_mangle]
+pub extern "C" fn tomkhadi_locate(
+    head: CHead,
+    sums: &mut [u16; 512],
+    taps: &mut [u16; 65],
+    frame: &[u16],
+) -> CAnswer
+    ensures { λ r. ⌜ ((a : Arrays) → CLocates (step (beside (headOf head) (withFound a (now (sums .entry)) (now (taps .entry)))) (locate (now (frame .entry)))) r (withFound a (now (sums .exit)) (now (taps .exit)))) ⌝ }
+{
+    answer_of(locate(head_of(head), sums, taps, frame))
+}
+
+#[no_mangle]
+pub extern "C" fn tomkhadi_repair(head: CHead, sums: &[u16; 512], frame: &mut [u16]) -> CAnswer
+    ensures { λ r. ⌜ ((a : Arrays) → CRepairs (step (beside (headOf head) (withSums a (now (sums .entry)))) (repair (now (frame .entry)))) r (withSums a (now (sums .entry))) (now (frame .exit))) ⌝ }
+{
+    answer_of(repair(head_of(head), sums, frame))
+}
