@@ -11,14 +11,15 @@ use Rattle.decoding.proofs.Recovery.{recovers-half}
 use Rattle.frame.specs.Frame.{WellFormed, sequences}
 use Rattle.frame.specs.Shape.{isShape, checksOf}
 use Rattle.frame.specs.declared.Shape.{Shape}
+use Rattle.refusal.proofs.Orders.{Pass}
 use Rattle.register.specs.Register.{Shortest, Alone}
-use Rattle.job.specs.Calls.{Call, locate, repair, columns, Outcome, step, repairTests, locatedBy, locates, repairs}
+use Rattle.job.specs.Calls.{Call, locate, repair, columns, Outcome, describe, step, locatedBy, locates, repairs}
 use Rattle.job.specs.Demands.{run, runFrom, lastShape, Between, Mended, IsRefused, Found, LocateExact, DamageMended, Demand3}
 use Rattle.job.specs.Job.{Arrays, emptyJob, isEmpty, lengthOf}
 use Rattle.job.specs.Refusals.{LegalAt}
 use Rattle.job.proofs.AfterRefusal.{never-columns}
 use Rattle.job.proofs.Between.{between-keeps}
-use Rattle.job.proofs.Cases.{by-locate, by-repair}
+use Rattle.job.proofs.Cases.{by-call}
 use Rattle.job.proofs.Forms.{Locates, has-shape, run-form, run-append}
 use Rattle.job.proofs.Locating.{locate-takes, exact-at, found}
 use Rattle.job.proofs.NoPart.{play-no-part}
@@ -34,17 +35,25 @@ module _ (a : Arrays) (calls : List Call) (f : List ℕ) where
   last-shape : isEmpty (run a calls) ≡ false → lastShape calls ≡ some (run a calls .head .shape)
   last-shape e = sym (holds-last-shape a calls) ∙ not-empty-held (run a calls) e
 
+  -- a call that tests first that the job is not empty, and gives a count where it is not refused
+  module _ (c : Call) (P : Shape → ℕ → Outcome → Type 0) where
+    taken-gives : (n : ℕ) → describe (run a calls) c .gives .answer ≡ columns n
+        → (Pass (describe (run a calls) c .keeping) → isEmpty (run a calls) ≡ false)
+        → (Pass (describe (run a calls) c .keeping) → Pass (describe (run a calls) c .shaping)
+        → P (run a calls .head .shape) n (describe (run a calls) c .gives)) → After P (step (run a calls) c)
+    taken-gives n answers not-empty given =
+        by-call (run a calls) c (After P) (λ k m taken. absurd (taken (k, refl))) (λ k p m taken. absurd (taken (k, refl)))
+        (λ p q taken. (run a calls .head .shape, n, last-shape (not-empty p), answers, given p q))
+
   mends : After (λ s c o. Mended s f c o) (step (run a calls) (repair f))
-  unfolding repairTests
   mends =
-      by-repair (After (λ s c o. Mended s f c o)) (run a calls) f (λ k m taken. absurd (taken (k, refl)))
-      (λ p taken. (run a calls .head .shape, lengthOf (run a calls .head .phase), last-shape (p .0), refl, repair-mended (run a calls) f (run-form a calls) p))
+      taken-gives (repair f) (λ s c o. Mended s f c o) (lengthOf (run a calls .head .phase)) refl (λ p. p .0)
+      (λ p q. repair-mended (run a calls) f (run-form a calls) p)
 
   finds : After (λ s c o. Found s f c o) (step (run a calls) (locate f))
   finds =
-      by-locate (After (λ s c o. Found s f c o)) (run a calls) f (λ k m taken. absurd (taken (k, refl)))
-      (λ k p m taken. absurd (taken (k, refl)))
-      (λ (e, p) q taken. (run a calls .head .shape, sizeOf (run a calls .head .shape) f, last-shape e, refl, found (run a calls) f e p q))
+      taken-gives (locate f) (λ s c o. Found s f c o) (sizeOf (run a calls .head .shape) f) refl (λ p. p .0)
+      (λ (e, p) q. found (run a calls) f e p q)
 
 -- ---- a locate of a frame whose register is alone
 
@@ -62,24 +71,24 @@ module _ (a : Arrays) (before : List Call) (s : Shape) (f : List ℕ) (last : la
   shaped-so = let (not-empty, same) = shape-held a before s last in subst (λ (x : Shape). isShape x ≡ true) same (has-shape (run a before .head) not-empty)
 
   module _ (l : Locates s f) where
-    taken : step (run a before) (locate f) ≡ locates s f
+    taken : step (run a before) (locate f) ≡ locates s (run a before .arrays) f
     taken =
         let (not-empty, same) = shape-held a before s last in
-        subst (λ (x : Shape). Locates x f → step (run a before) (locate f) ≡ locates x f) same (locate-takes (run a before) f not-empty) l
+        subst (λ (x : Shape). Locates x f → step (run a before) (locate f) ≡ locates x (run a before .arrays) f) same (locate-takes (run a before) f not-empty) l
 
-    located-then : run a (before ++ (locate f ∷ [])) ≡ locatedBy s f
+    located-then : run a (before ++ (locate f ∷ [])) ≡ locatedBy s (run a before .arrays) f
     unfolding runFrom
     located-then = run-append (emptyJob a) before (locate f ∷ []) ∙ ap (λ o. o .job) taken
 
-    still-located : (between : List Call) → Between (run a (before ++ (locate f ∷ []))) between → run a (before ++ (locate f ∷ between)) ≡ locatedBy s f
+    still-located : (between : List Call) → Between (run a (before ++ (locate f ∷ []))) between → run a (before ++ (locate f ∷ between)) ≡ locatedBy s (run a before .arrays) f
     unfolding runFrom
     still-located between kept =
         run-append (emptyJob a) before (locate f ∷ between) ∙ ap (λ o. runFrom (o .job) between) taken
-        ∙ between-keeps (locatedBy s f) between (subst (λ j. Between j between) located-then kept)
+        ∙ between-keeps (locatedBy s (run a before .arrays) f) between (subst (λ j. Between j between) located-then kept)
 
     repair-then : (between : List Call) → Between (run a (before ++ (locate f ∷ []))) between
-        → step (run a (before ++ (locate f ∷ between))) (repair f) ≡ repairs (locatedBy s f) f
-    repair-then between kept = ap (λ j. step j (repair f)) (still-located between kept) ∙ repair-takes s f shaped-so l
+        → step (run a (before ++ (locate f ∷ between))) (repair f) ≡ repairs (locatedBy s (run a before .arrays) f) f
+    repair-then between kept = ap (λ j. step j (repair f)) (still-located between kept) ∙ repair-takes s (run a before .arrays) f shaped-so l
 
 damage-mended : DamageMended
 damage-mended a before between s f g last legal w half kept =
@@ -93,4 +102,4 @@ damage-mended a before between s f g last legal w half kept =
     }
 
 pub demand-3 : Demand3
-demand-3 = record { reached = reached; repair-mends = mends; locate-finds = finds; locate-exact = locate-exact; damage-mended = damage-mended; play-no-part = play-no-part }
+demand-3 = record { reached = reached; repair-mends = mends; locate-finds = finds; locate-exact = locate-exact; damage-mended = damage-mended; arrays = play-no-part }

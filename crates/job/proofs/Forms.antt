@@ -10,14 +10,14 @@ use Rattle.frame.specs.Frame.{WellFormed}
 use Rattle.frame.specs.Shape.{isShape, shapeOf}
 use Rattle.frame.specs.declared.Shape.{Shape}
 use Rattle.frame.proofs.Reasons.{shape-passes, frame-passes}
-use Rattle.refusal.proofs.Orders.{Pass, no-fail}
-use Rattle.job.specs.Calls.{Call, shape, encode, locate, repair, Outcome, step, registerTests, repairTests, locatedBy}
+use Rattle.refusal.proofs.Orders.{Among, Pass, no-fail}
+use Rattle.job.specs.Calls.{Call, shape, encode, locate, repair, describe, step, registerTests, locatedBy}
 use Rattle.job.specs.Demands.{run, runFrom}
 use Rattle.job.specs.Job.{Arrays, Job, emptyJob, shapedJob, headSound, phaseSound, findingsSound, isEmptyPhase, countsEmpty}
 use Rattle.job.specs.declared.Head.{Head}
 use Rattle.job.specs.declared.Phase.the-variants.{Empty, Shaped, Located}
 use Rattle.job.specs.declared.Phase.{Phase}
-use Rattle.job.proofs.Cases.{by-shape, by-encode, by-locate, by-repair}
+use Rattle.job.proofs.Cases.{by-call}
 
 -- a frame that locate takes
 pub record Locates (s : Shape) (f : List ℕ) : Type 0 where
@@ -29,7 +29,7 @@ pub record Locates (s : Shape) (f : List ℕ) : Type 0 where
 pub data Form : Job → Type 0 where
   empty : (a : Arrays) → Form (emptyJob a)
   shaped : (s : Shape) (a : Arrays) → isShape s ≡ true → Form (shapedJob s a)
-  located : (s : Shape) (f : List ℕ) → isShape s ≡ true → Locates s f → Form (locatedBy s f)
+  located : (s : Shape) (a : Arrays) (f : List ℕ) → isShape s ≡ true → Locates s f → Form (locatedBy s a f)
 
 -- a head that does not count as empty has a shape
 pub has-shape : (h : Head) → countsEmpty h ≡ false → isShape (h .shape) ≡ true
@@ -45,18 +45,23 @@ pub register-passes : (s : Shape) (f : List ℕ) → WellFormed s f → Pass (re
 unfolding registerTests
 register-passes s f w (a, (r, (n, u))) = record { well-formed = w; alone = no-fail _ a; reach = no-fail _ r; names = no-fail _ n }
 
-abbrev Keeps : Outcome → Type 0
-Keeps o = Form (o .job)
+-- a call that may leave the job shaped tests first that it is not empty
+shaped-before : (j : Job) (c : Call) (k : ℕ) → Pass (describe j c .keeping) → Among k (describe j c .shaping) → isShape (j .head .shape) ≡ true
+shaped-before j (shape n checks) k p a = absurd a
+shaped-before j (encode f) k p a = absurd a
+shaped-before j (locate f) k p a = has-shape (j .head) (p .0)
+shaped-before j (repair f) k p a = absurd a
 
-pub step-form : (j : Job) (c : Call) → Form j → Form (step j c .job)
-unfolding repairTests
-step-form j (shape n checks) form =
-    by-shape Keeps j n checks (λ k a. form) (λ p. shaped (shapeOf n checks) (j .arrays) (shape-passes n checks p))
-step-form j (encode f) form = by-encode Keeps j f (λ k a. form) (λ p. form)
-step-form j (locate f) form =
-    by-locate Keeps j f (λ k a. form) (λ k (e, p) a. shaped (j .head .shape) (j .arrays) (has-shape (j .head) e))
-    (λ (e, p) q. located (j .head .shape) f (has-shape (j .head) e) (register-passes (j .head .shape) f (frame-passes (j .head .shape) f p) q))
-step-form j (repair f) form = by-repair Keeps j f (λ k a. form) (λ (e, p). shaped (j .head .shape) (j .arrays) (has-shape (j .head) e))
+gives-form : (j : Job) (c : Call) → Form j → Pass (describe j c .keeping) → Pass (describe j c .shaping) → Form (describe j c .gives .job)
+gives-form j (shape n checks) form p q = shaped (shapeOf n checks) (j .arrays) (shape-passes n checks p)
+gives-form j (encode f) form p q = form
+gives-form j (locate f) form (e, p) q =
+    let s : Shape = j .head .shape in located s (j .arrays) f (has-shape (j .head) e) (register-passes s f (frame-passes s f p) q)
+gives-form j (repair f) form (e, p) q = shaped (j .head .shape) (j .arrays) (has-shape (j .head) e)
+
+step-form : (j : Job) (c : Call) → Form j → Form (step j c .job)
+step-form j c form =
+    by-call j c (λ o. Form (o .job)) (λ k a. form) (λ k p a. shaped (j .head .shape) (j .arrays) (shaped-before j c k p a)) (gives-form j c form)
 
 run-from-form : (j : Job) (calls : List Call) → Form j → Form (runFrom j calls)
 unfolding runFrom

@@ -18,12 +18,12 @@ use Rattle.frame.proofs.Reasons.{frame-passes, well-formed-passes}
 use Rattle.lists.proofs.Tabulated.{every-of}
 use Rattle.refusal.proofs.Orders.{Pass, pass-otherwise}
 use Rattle.register.specs.Register.{Shortest, Alone}
-use Rattle.job.specs.Calls.{locate, refused, refusing, step, locateCall, registerTests, locates}
+use Rattle.job.specs.Calls.{locate, refused, refusing, describe, step, registerTests, locates}
 use Rattle.job.specs.Demands.{IsRefused, Found}
 use Rattle.job.specs.Job.{Job, isEmpty}
 use Rattle.job.specs.Refusals.{LegalAt}
 use Rattle.job.proofs.AfterRefusal.{never-columns}
-use Rattle.job.proofs.Cases.{earlyTests, locate-passes}
+use Rattle.job.proofs.Cases.{step-gives}
 use Rattle.job.proofs.Forms.{Locates, has-shape, register-passes}
 use Rattle.job.proofs.Soundness.{marked-number}
 
@@ -34,17 +34,16 @@ module _ (j : Job) (f : List ℕ) (not-empty : isEmpty j ≡ false) where
   t : isShape s ≡ true
   t = has-shape (j .head) not-empty
 
-  pub locate-takes : Locates s f → step j (locate f) ≡ locates s f
+  pub locate-takes : Locates s f → step j (locate f) ≡ locates s (j .arrays) f
   unfolding registerTests
   locate-takes l =
-      locate-passes j f (not-empty, well-formed-passes s f (l .well-formed))
-      (ap not (l .alone), (ap not (l .reach), (ap not (l .names), tt)))
+      step-gives j (locate f) (not-empty, well-formed-passes s f (l .well-formed)) (ap not (l .alone), (ap not (l .reach), (ap not (l .names), tt)))
 
-  pub locate-refuses : WellFormed s f → aloneOf s f ≡ true → rowsReach s (sizeOf s f) ≡ true
+  locate-refuses : WellFormed s f → aloneOf s f ≡ true → rowsReach s (sizeOf s f) ≡ true
       → namesAll s (tapsOf s f) (sizeOf s f) ≡ false → step j (locate f) .answer ≡ refused 26
-  unfolding step locateCall registerTests
+  unfolding step registerTests
   locate-refuses w a r n =
-      rw (pass-otherwise (refusing j f) _ (earlyTests j f) (not-empty, well-formed-passes s f w)) (rw (a, r, n) refl)
+      rw (pass-otherwise (refusing j f) _ (describe j (locate f) .keeping) (not-empty, well-formed-passes s f w)) (rw (a, r, n) refl)
 
   exact-at-size : WellFormed s f → aloneOf s f ≡ true → rowsReach s (sizeOf s f) ≡ true
       → IsRefused (step j (locate f)) ↔ (LegalAt s f (sizeOf s f) → ⊥)
@@ -71,7 +70,7 @@ module _ (j : Job) (f : List ℕ) (not-empty : isEmpty j ≡ false) where
       (every-of (s .rows) _ (λ h l. le-leb (sizeOf s f) (checksOf s h) (omega (arith, checks h l)))))
 
   -- what is found
-  pub found : Pass (frameTests s f) → Pass (registerTests s f) → Found s f (sizeOf s f) (locates s f)
+  pub found : Pass (frameTests s f) → Pass (registerTests s f) → Found s f (sizeOf s f) (locates s (j .arrays) f)
   found early late =
       let l : Locates s f = register-passes s f (frame-passes s f early) late in
       let r = register-of-frame s f t in

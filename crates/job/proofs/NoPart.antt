@@ -1,39 +1,59 @@
 -- What an array holds that the phase does not speak for plays no part in any answer.
 -- Assumes nothing.
 use mathlib.Core.Path.{_≡_, refl, sym, ap, ap₂, subst, _∙_}
-use mathlib.Core.Bool.{Bool, true, false, cond, not, _||_, false≢true}
+use mathlib.Core.Bool.{Bool, true, false, cond, not, false≢true}
 use mathlib.Core.List.{List, [], _∷_}
 use Prim.Native.Nat.{ℕ}
-use Rattle.frame.specs.Encode.{encodeTests}
-use Rattle.frame.specs.Frame.{frameTests}
 use Rattle.frame.specs.Shape.{shapeOf, shapeTests}
 use Rattle.frame.specs.declared.Shape.{Shape}
 use Rattle.refusal.specs.Order.{Test, firstOf}
-use Rattle.job.specs.Calls.{Call, shape, encode, locate, repair, Outcome, refusing, emptyTest, refusingLate, step, shapeCall, encodeCall, locateCall, repairCall, registerTests, repairTests, shapes, encodes, locates, repairs}
+use Rattle.refusal.proofs.Orders.{Pass}
+use Rattle.job.specs.Calls.{Call, shape, encode, locate, repair, Outcome, Described, refusing, reshaped, registerTests, describe, step}
 use Rattle.job.specs.Demands.{Alike, SameOutcome, ArraysPlayNoPart}
-use Rattle.job.specs.Job.{Arrays, Job, emptyJob, isEmpty, isEmptyPhase, isLocatedPhase, headSound, phaseSound, countsEmpty, shapedJob}
+use Rattle.job.specs.Job.{Arrays, Job, beside, isLocatedPhase, shapedJob}
 use Rattle.job.specs.declared.Head.{Head}
-use Rattle.job.specs.declared.Phase.{Phase}
-use Rattle.job.specs.declared.Phase.the-variants.{Empty, Shaped, Located}
 
--- two orders of the same tests, that give what is related
-related : (R : Outcome → Outcome → Type 0) (p q : ℕ → Outcome) (x y : Outcome) → ((k : ℕ) → R (p k) (q k)) → R x y → (ts : List Test)
-    → R (firstOf p ts x) (firstOf q ts y)
-related R p q x y r o [] = o
-related R p q x y r o (t ∷ ts) = of (t .fails) (related R p q x y r o ts)
-  where
-    of : (b : Bool) → R (firstOf p ts x) (firstOf q ts y) → R (cond b (p (t .number)) (firstOf p ts x)) (cond b (q (t .number)) (firstOf q ts y))
-    of true later = r (t .number)
-    of false later = later
+-- ---- two orders that are the same up to a test that fails
+
+abbrev Agree : List Test → List Test → Type 0
+Agree [] [] = Unit {0}
+Agree [] (u ∷ us) = ⊥
+Agree (t ∷ ts) [] = ⊥
+Agree (t ∷ ts) (u ∷ us) = (t ≡ u) × (t .fails ≡ false → Agree ts us)
+
+same-tests : (ts : List Test) → Agree ts ts
+same-tests [] = tt
+same-tests (t ∷ ts) = (refl, λ e. same-tests ts)
+
+-- give what is related
+module _ (R : Outcome → Outcome → Type 0) (p q : ℕ → Outcome) (refusals : (k : ℕ) → R (p k) (q k)) (x y : Outcome) where
+  related : (ts us : List Test) → Agree ts us → (Pass ts → R x y) → R (firstOf p ts x) (firstOf q us y)
+  related [] [] a r = r tt
+  related [] (u ∷ us) a r = absurd a
+  related (t ∷ ts) [] a r = absurd a
+  related (t ∷ ts) (u ∷ us) (e, a) r =
+      subst (λ (v : Test). R (firstOf p (t ∷ ts) x) (firstOf q (v ∷ us) y)) e
+      (pick (t .fails) refl (λ f. related ts us (a f) (λ later. r (f, later))))
+    where
+      pick : (b : Bool) → t .fails ≡ b → (t .fails ≡ false → R (firstOf p ts x) (firstOf q us y)) → R (firstOf p (t ∷ ts) x) (firstOf q (t ∷ us) y)
+      pick true f later = rw f (refusals (t .number))
+      pick false f later = rw f (later f)
 
 -- ---- one head that is not located beside two arrays
 
+-- calls that are lent the same, are refused by the same tests and give the same
+record SameCall (d e : Described) : Type 0 where
+  lent : d .lent ≡ e .lent
+  keeping : Agree (d .keeping) (e .keeping)
+  shaping : Agree (d .shaping) (e .shaping)
+  gives : SameOutcome (d .gives) (e .gives)
+
 module _ (h : Head) (a b : Arrays) (none : isLocatedPhase (h .phase) ≡ false) where
   abbrev i : Job
-  i = record { head = h; arrays = a }
+  i = beside h a
 
   abbrev j : Job
-  j = record { head = h; arrays = b }
+  j = beside h b
 
   kept : Alike i j
   kept = (refl, λ l. absurd (false≢true (sym none ∙ l)))
@@ -41,36 +61,43 @@ module _ (h : Head) (a b : Arrays) (none : isLocatedPhase (h .phase) ≡ false) 
   shaped-alike : (s : Shape) → Alike (shapedJob s a) (shapedJob s b)
   shaped-alike s = (refl, λ l. absurd (false≢true l))
 
-  refusals : (f : List ℕ) (k : ℕ) → SameOutcome (refusing i f k) (refusing j f k)
-  refusals f k = record { answer = refl; marks = refl; frame = refl; job = kept }
+  -- of the tests only repair's comparison of the sums reads an array, and the refusal 22 comes before it
+  same-call : (c : Call) → SameCall (describe i c) (describe j c)
+  same-call (shape n checks) = record {
+    lent = refl;
+    keeping = same-tests (shapeTests n checks);
+    shaping = tt;
+    gives = record { answer = refl; marks = refl; frame = refl; job = shaped-alike (shapeOf n checks) };
+  }
+  same-call (encode f) = record {
+    lent = refl;
+    keeping = same-tests (describe i (encode f) .keeping);
+    shaping = tt;
+    gives = record { answer = refl; marks = refl; frame = refl; job = kept };
+  }
+  same-call (locate f) = record {
+    lent = refl;
+    keeping = same-tests (describe i (locate f) .keeping);
+    shaping = same-tests (registerTests (h .shape) f);
+    gives = record { answer = refl; marks = refl; frame = refl; job = (refl, λ l. refl) };
+  }
+  same-call (repair f) = record {
+    lent = refl;
+    keeping = (refl, λ e. (refl, λ l. absurd (false≢true (sym l ∙ ap not none))));
+    shaping = tt;
+    gives = record { answer = refl; marks = refl; frame = refl; job = shaped-alike (h .shape) };
+  }
 
-  late : (f : List ℕ) (k : ℕ) → SameOutcome (refusingLate i f k) (refusingLate j f k)
-  late f k = record { answer = refl; marks = refl; frame = refl; job = shaped-alike (h .shape) }
-
-  -- refusal 21 first, and then the same tests
-  after-empty : (f : List ℕ) (ts : List Test) (x y : Outcome) → SameOutcome x y
-      → SameOutcome (firstOf (refusing i f) (emptyTest i ∷ ts) x) (firstOf (refusing j f) (emptyTest j ∷ ts) y)
-  after-empty f ts x y o = related SameOutcome (refusing i f) (refusing j f) x y (refusals f) o (emptyTest i ∷ ts)
-
-  unlocated-repair : (d : Arrays) (f : List ℕ) → firstOf (refusing (record { head = h; arrays = d }) f) (emptyTest (record { head = h; arrays = d }) ∷ []) (refusing (record { head = h; arrays = d }) f 22) ≡ step (record { head = h; arrays = d }) (repair f)
-  unfolding step repairCall repairTests
-  unlocated-repair d f = rw none refl
+  refused-same : (i j : Job) → Alike i j → (f g : List ℕ) → f ≡ g → (k : ℕ) → SameOutcome (refusing i f k) (refusing j g k)
+  refused-same i j l f g e k = record { answer = refl; marks = refl; frame = e; job = l }
 
   same-step : (c : Call) → SameOutcome (step i c) (step j c)
-  unfolding step shapeCall encodeCall locateCall
-  same-step (shape n checks) =
-      related SameOutcome (refusing i []) (refusing j []) (shapes a n checks) (shapes b n checks) (refusals [])
-      (record { answer = refl; marks = refl; frame = refl; job = shaped-alike (shapeOf n checks) }) (shapeTests n checks)
-  same-step (encode f) =
-      after-empty f (encodeTests (h .shape) f) (encodes i f) (encodes j f) (record { answer = refl; marks = refl; frame = refl; job = kept })
-  same-step (locate f) =
-      after-empty f (frameTests (h .shape) f) _ _
-      (related SameOutcome (refusingLate i f) (refusingLate j f) (locates (h .shape) f) (locates (h .shape) f) (late f)
-      (record { answer = refl; marks = refl; frame = refl; job = (refl, λ l. refl) }) (registerTests (h .shape) f))
-  same-step (repair f) =
-      subst (λ (o : Outcome). SameOutcome o (step j (repair f))) (unlocated-repair a f)
-      (subst (λ (o : Outcome). SameOutcome (firstOf (refusing i f) (emptyTest i ∷ []) (refusing i f 22)) o) (unlocated-repair b f)
-      (after-empty f [] (refusing i f 22) (refusing j f 22) (refusals f 22)))
+  unfolding step
+  same-step c =
+      let s : SameCall (describe i c) (describe j c) = same-call c in
+      related SameOutcome _ _ (refused-same i j kept _ _ (s .lent)) _ _ (describe i c .keeping) (describe j c .keeping) (s .keeping) (λ p.
+      related SameOutcome _ _ (refused-same (reshaped i) (reshaped j) (shaped-alike (h .shape)) _ _ (s .lent)) _ _ (describe i c .shaping)
+      (describe j c .shaping) (s .shaping) (λ q. s .gives))
 
 -- ---- any two jobs that are alike
 
@@ -81,7 +108,6 @@ pub play-no-part : ArraysPlayNoPart
 play-no-part i j c (head, arrays) = pick (isLocatedPhase (j .head .phase)) refl
   where
     pick : (b : Bool) → isLocatedPhase (j .head .phase) ≡ b → SameOutcome (step i c) (step j c)
-    pick true e = subst (λ (k : Job). SameOutcome (step k c) (step j c)) (sym (ap₂ (λ h a. record { head = h; arrays = a }) head (arrays e))) (self (step j c))
+    pick true e = subst (λ (k : Job). SameOutcome (step k c) (step j c)) (sym (ap₂ beside head (arrays e))) (self (step j c))
     pick false e =
-        subst (λ (h : Head). SameOutcome (step (record { head = h; arrays = i .arrays }) c) (step j c)) (sym head)
-        (same-step (j .head) (i .arrays) (j .arrays) e c)
+        subst (λ (h : Head). SameOutcome (step (beside h (i .arrays)) c) (step j c)) (sym head) (same-step (j .head) (i .arrays) (j .arrays) e c)

@@ -4,7 +4,7 @@
 use mathlib.Core.Path.{_≡_, refl, sym, subst, _∙_}
 use mathlib.Core.Logic.{_⊎_, inl, inr}
 use mathlib.Core.Bool.{Bool, true, false, not, _||_, or-true, false≢true}
-use mathlib.Core.List.{List}
+use mathlib.Core.List.{List, [], _∷_}
 use Prim.Native.Nat.{ℕ, _≤_}
 use native.Mathlib.Omega.{arith}
 use lib.Dec.{leb}
@@ -16,18 +16,19 @@ use Rattle.frame.specs.Demands.{frameReasons}
 use Rattle.frame.specs.Frame.{WellFormed, sequences, heldSums, frameTests}
 use Rattle.frame.specs.Shape.{checksOf, isShape}
 use Rattle.frame.specs.declared.Shape.{Shape}
-use Rattle.frame.proofs.Reasons.{frame-says}
+use Rattle.frame.proofs.Reasons.{shape-says, encode-says, frame-says, frame-passes}
 use Rattle.lists.proofs.Tabulated.{every-at, every-witness}
-use Rattle.refusal.proofs.Orders.{Says, SayAll, says-not, say-append}
+use Rattle.refusal.proofs.Orders.{Pass, Says, SayAll, SayInTurn, no-fail, says-not, say-append, fails-not}
 use Rattle.register.specs.EachRound.{IsShortest}
 use Rattle.register.specs.Register.{Generator}
-use Rattle.job.specs.Calls.{repair, emptyTest, repairTests, sameSums}
+use Rattle.job.specs.Calls.{Call, shape, encode, locate, repair, describe, emptyTest, notLocatedTest, sameSums, sumsTest, registerTests}
 use Rattle.job.specs.Job.{Job, sound, isEmptyPhase, isLocatedPhase, countsEmpty}
-use Rattle.job.specs.Refusals.{LegalAt, emptyReason, notAloneReason, shortRowReason, noFrameReason, SumsDiffer, reasons}
+use Rattle.job.specs.Refusals.{LegalAt, emptyReason, notLocatedReason, sumsReason, notAloneReason, shortRowReason, noFrameReason, registerReasons, reasons}
 use Rattle.job.specs.declared.Phase.the-variants.{Empty, Shaped, Located}
 use Rattle.job.specs.declared.Phase.{Phase}
+use Rattle.job.proofs.Forms.{has-shape}
 
-pub empty-says : (j : Job) → Says (emptyTest j) (emptyReason j)
+empty-says : (j : Job) → Says (emptyTest j) (emptyReason j)
 unfolding countsEmpty
 empty-says j = record { number = refl; reason = reason (j .head .phase) (sound j); fails = fails (j .head .phase) (sound j) }
   where
@@ -42,26 +43,14 @@ empty-says j = record { number = refl; reason = reason (j .head .phase) (sound j
     fails p b (inl e) = rw e refl
     fails p b (inr e) = rw e (or-true (isEmptyPhase p))
 
-not-located-says : (p : Phase)
-    → Says (record { number = 22; fails = not (isLocatedPhase p) }) (record { number = 22; holds = isLocatedPhase p ≡ false })
-not-located-says p = says-not 22 (isLocatedPhase p) _ (λ t f. false≢true (sym f ∙ t)) (λ f. f)
+not-located-says : (j : Job) → Says (notLocatedTest j) (notLocatedReason j)
+not-located-says j = says-not 22 (isLocatedPhase (j .head .phase)) _ (λ t f. false≢true (sym f ∙ t)) (λ f. f)
 
-sums-say : (a b : List ℕ) → Says (record { number = 23; fails = not (sameSums a b) }) (record { number = 23; holds = SumsDiffer a b })
+sums-say : (j : Job) (f : List ℕ) → Says (sumsTest j f) (sumsReason j f)
 unfolding sameSums
-sums-say a b =
-    says-not 23 (sameSums a b) (SumsDiffer a b) (λ e (k, h, n). n (eqb-true _ _ (every-at 512 _ e k h)))
+sums-say j f =
+    says-not 23 (sameSums (heldSums (j .head .shape) f) (j .arrays .sums)) _ (λ e (k, h, n). n (eqb-true _ _ (every-at 512 _ e k h)))
     (λ e. let (k, h, n) = every-witness 512 _ e in (k, h, eqb-false _ _ n))
-
-pub repair-says : (j : Job) (f : List ℕ) → SayAll (repairTests j f) (reasons j (repair f))
-unfolding repairTests
-repair-says j f = (
-  empty-says j,
-  (
-    not-located-says (j .head .phase),
-    say-append (frameTests (j .head .shape) f) _ (frameReasons (j .head .shape) f) _ (frame-says (j .head .shape) f)
-        (sums-say (heldSums (j .head .shape) f) (j .arrays .sums), tt),
-  ),
-)
 
 module _ (s : Shape) (f : List ℕ) (t : isShape s ≡ true) where
   register : IsShortest 257 (sizeOf s f) (sequences s f) (tapsOf s f) (aloneOf s f)
@@ -71,13 +60,13 @@ module _ (s : Shape) (f : List ℕ) (t : isShape s ≡ true) where
   the-one : aloneOf s f ≡ true → (c : ℕ) (τ : List ℕ) → c ≡ sizeOf s f → Generator 257 c (sequences s f) τ → τ ≡ tapsOf s f
   the-one e c τ q g = register .alone e τ (subst (λ (l : ℕ). Generator 257 l (sequences s f) τ) q g)
 
-  pub not-alone-says : Says (record { number = 24; fails = not (aloneOf s f) }) (notAloneReason s f)
+  not-alone-says : Says (record { number = 24; fails = not (aloneOf s f) }) (notAloneReason s f)
   not-alone-says =
       says-not 24 (aloneOf s f) _
       (λ e (c, σ, τ, h, g, n). let q = same-size s f t c σ h in n (the-one e c τ q g ∙ sym (the-one e c σ q (h .generator))))
       (λ e. let (τ, g, n) = not-alone s f t .0 e in (sizeOf s f, tapsOf s f, τ, register .shortest, g, n))
 
-  pub short-row-says : aloneOf s f ≡ true
+  short-row-says : aloneOf s f ≡ true
       → Says (record { number = 25; fails = not (rowsReach s (sizeOf s f)) }) (shortRowReason s f)
   unfolding rowsReach
   short-row-says e =
@@ -90,10 +79,42 @@ module _ (s : Shape) (f : List ℕ) (t : isShape s ≡ true) where
       let (h, b, l) = every-witness (s .rows) (λ h. leb (sizeOf s f) (checksOf s h)) r in
       (sizeOf s f, tapsOf s f, h, register .shortest, register .alone e, b, leb-false _ _ l))
 
-  pub no-frame-says : WellFormed s f → aloneOf s f ≡ true
+  no-frame-says : WellFormed s f → aloneOf s f ≡ true
       → Says (record { number = 26; fails = not (namesAll s (tapsOf s f) (sizeOf s f)) }) (noFrameReason s f)
   no-frame-says w e =
       let exact = legal-at-size s t f w e in
       says-not 26 (namesAll s (tapsOf s f) (sizeOf s f)) _
       (λ a (c, σ, m, n). n (subst (LegalAt s f) (sym (same-size s f t c σ m)) (exact .0 a)))
       (λ a. (sizeOf s f, tapsOf s f, register .shortest, λ l. false≢true (sym a ∙ exact .1 l)))
+
+  -- each where the reasons before it do not hold
+  register-says : WellFormed s f → SayInTurn (registerTests s f) (registerReasons s f)
+  unfolding registerTests
+  register-says w = (
+    not-alone-says,
+    λ n.
+        let a : aloneOf s f ≡ true = no-fail (aloneOf s f) (fails-not _ (notAloneReason s f) not-alone-says n) in
+        (short-row-says a, λ m. (no-frame-says w a, λ l. tt)),
+  )
+
+-- ---- the calls
+
+pub keeping-says : (j : Job) (c : Call) → SayAll (describe j c .keeping) (reasons j c .keeping)
+keeping-says j (shape n checks) = shape-says n checks
+keeping-says j (encode f) = (empty-says j, encode-says (j .head .shape) f)
+keeping-says j (locate f) = (empty-says j, frame-says (j .head .shape) f)
+keeping-says j (repair f) = (
+  empty-says j,
+  (
+    not-located-says j,
+    say-append (frameTests (j .head .shape) f) (sumsTest j f ∷ []) (frameReasons (j .head .shape) f) (sumsReason j f ∷ []) (frame-says (j .head .shape) f)
+        (sums-say j f, tt),
+  ),
+)
+
+pub shaping-says : (j : Job) (c : Call) → Pass (describe j c .keeping) → SayInTurn (describe j c .shaping) (reasons j c .shaping)
+shaping-says j (shape n checks) p = tt
+shaping-says j (encode f) p = tt
+shaping-says j (locate f) (e, p) =
+    register-says (j .head .shape) f (has-shape (j .head) e) (frame-passes (j .head .shape) f p)
+shaping-says j (repair f) p = tt

@@ -19,10 +19,10 @@ use Rattle.lists.proofs.Tabulated.{every-at, every-of}
 use Rattle.refusal.proofs.Orders.{Pass, no-fail}
 use Rattle.register.specs.Algorithm4.{found, foundAlone}
 use Rattle.register.specs.Sequences.{longest}
-use Rattle.job.specs.Calls.{repair, step, repairTests, sameSums, locatedBy, repairs}
+use Rattle.job.specs.Calls.{repair, describe, step, sameSums, locatedBy, repairs}
 use Rattle.job.specs.Demands.{Mended}
-use Rattle.job.specs.Job.{Job, countsEmpty, lengthOf}
-use Rattle.job.proofs.Cases.{repair-passes}
+use Rattle.job.specs.Job.{Arrays, Job, countsEmpty, lengthOf}
+use Rattle.job.proofs.Cases.{step-gives}
 use Rattle.job.proofs.Forms.{Locates, Form, empty, shaped, located}
 use Rattle.job.proofs.Soundness.{form-sound}
 
@@ -49,8 +49,8 @@ module _ (s : Shape) (f g : List ℕ) (e : heldSums s f ≡ heldSums s g) where
   unfolding aloneOf
   same-alone = ap (λ ss. foundAlone 257 ss (longest ss)) same-sequences
 
-  same-located : locatedBy s f ≡ locatedBy s g
-  same-located = rw (same-size, e, same-taps) refl
+  same-located : (a : Arrays) → locatedBy s a f ≡ locatedBy s a g
+  same-located a = rw (same-size, e, same-taps) refl
 
   same-locates : WellFormed s f → Locates s g → Locates s f
   same-locates w l = record {
@@ -62,31 +62,31 @@ module _ (s : Shape) (f g : List ℕ) (e : heldSums s f ≡ heldSums s g) where
 
 -- ---- the frame that is left
 
-located-mended : (s : Shape) (f : List ℕ) → isShape s ≡ true → Locates s f → Mended s f (sizeOf s f) (repairs (locatedBy s f) f)
-located-mended s f t l = record {
+located-mended : (s : Shape) (a : Arrays) (f : List ℕ) → isShape s ≡ true → Locates s f → Mended s f (sizeOf s f) (repairs (locatedBy s a f) f)
+located-mended s a f t l = record {
   legal = mended-legal s t f (l .well-formed) (l .names);
   count = mended-distance s t f (l .well-formed) (l .names);
   marks = sym (mended-differing s t f (l .well-formed) (l .names));
   nearest = λ g legal other. sole-nearest s t f (l .well-formed) (l .alone) (l .reach) g legal other;
 }
 
-pub repair-mended : (j : Job) (f : List ℕ) → Form j → Pass (repairTests j f) → Mended (j .head .shape) f (lengthOf (j .head .phase)) (repairs j f)
-unfolding repairTests frameTests
+pub repair-mended : (j : Job) (f : List ℕ) → Form j → Pass (describe j (repair f) .keeping) → Mended (j .head .shape) f (lengthOf (j .head .phase)) (repairs j f)
+unfolding frameTests
 repair-mended _ f (empty a) p = absurd (false≢true (sym (p .1 .0)))
 repair-mended _ f (shaped s a t) p = absurd (false≢true (sym (p .1 .0)))
-repair-mended _ f (located s g t l) (e, (h, (size, (symbols, (sums, u))))) =
+repair-mended _ f (located s a g t l) (e, (h, (size, (symbols, (sums, u))))) =
     let w : WellFormed s f = frame-passes s f (size, (symbols, tt)) in
     let same : heldSums s f ≡ heldSums s g = same-sums _ _ (held-length s f t) (held-length s g t) (no-fail _ sums) in
-    subst (λ j. Mended s f (lengthOf (j .head .phase)) (repairs j f)) (same-located s f g same)
-    (located-mended s f t (same-locates s f g same w l))
+    subst (λ j. Mended s f (lengthOf (j .head .phase)) (repairs j f)) (same-located s f g same a)
+    (located-mended s a f t (same-locates s f g same w l))
 
 -- ---- the frame that was located
 
-pub repair-takes : (s : Shape) (f : List ℕ) → isShape s ≡ true → Locates s f → step (locatedBy s f) (repair f) ≡ repairs (locatedBy s f) f
-unfolding repairTests frameTests countsEmpty sameSums
-repair-takes s f t l =
+pub repair-takes : (s : Shape) (a : Arrays) (f : List ℕ) → isShape s ≡ true → Locates s f → step (locatedBy s a f) (repair f) ≡ repairs (locatedBy s a f) f
+unfolding frameTests countsEmpty sameSums
+repair-takes s a f t l =
     let (size, (symbols, u)) = well-formed-passes s f (l .well-formed) in
-    repair-passes (locatedBy s f) f (
-      ap not (form-sound (locatedBy s f) (located s f t l)),
+    step-gives (locatedBy s a f) (repair f) (
+      ap not (form-sound (locatedBy s a f) (located s a f t l)),
       (refl, (size, (symbols, (ap not (every-of 512 _ (λ k h. eq-eqb (getD (heldSums s f) k 0) _ refl)), tt)))),
-    )
+    ) tt

@@ -13,17 +13,16 @@ use Rattle.columns.specs.Columns.{has, members}
 use Rattle.decoding.specs.Locating.{sizeOf, tapsOf, named, namedColumns}
 use Rattle.decoding.proofs.NamedColumns.{has-named, size-named}
 use Rattle.decoding.proofs.SoleNearest.{names-count}
-use Rattle.frame.specs.Shape.{isShape, shapeOf, shapeTests}
+use Rattle.frame.specs.Shape.{isShape, shapeTests}
 use Rattle.frame.specs.declared.Shape.{Shape}
 use Rattle.lists.proofs.Tabulated.{every-of}
-use Rattle.refusal.specs.Order.{firstOf}
-use Rattle.refusal.proofs.Orders.{firstOf-map}
-use Rattle.job.specs.Calls.{Call, shape, encode, locate, repair, Outcome, refusing, step, shapeCall, repairTests, shapes, locatedBy}
-use Rattle.job.specs.Demands.{run, runFrom, lastShape, lastShapeFrom, heldShape, Reached}
+use Rattle.refusal.proofs.Orders.{Among, Pass, firstOf-map}
+use Rattle.job.specs.Calls.{Call, shape, encode, locate, repair, refusing, describe, step, shapes}
+use Rattle.job.specs.Demands.{run, runFrom, shapeAfter, lastShape, lastShapeFrom, heldShape, Reached}
 use Rattle.job.specs.Job.{Arrays, Job, emptyJob, noColumns, sound, headSound, phaseSound, findingsSound, isEmpty, isEmptyPhase, isLocatedPhase, countsEmpty}
 use Rattle.job.specs.declared.Phase.the-variants.{Empty, Shaped, Located}
 use Rattle.job.specs.declared.Phase.{Phase}
-use Rattle.job.proofs.Cases.{by-encode, by-locate, by-repair}
+use Rattle.job.proofs.Cases.{by-call}
 use Rattle.job.proofs.Forms.{Locates, Form, empty, shaped, located, run-form}
 
 -- ---- the shape
@@ -40,35 +39,24 @@ not-empty-held j e = of-phase (j .head .phase) (not (sound j)) e
     of-phase Shaped b e = refl
     of-phase (Located c a) b e = refl
 
-shape-step : (j : Job) (n : ℕ) (checks : List ℕ)
-    → shapeHeld (step j (shape n checks) .job) ≡ firstOf (λ k. shapeHeld j) (shapeTests n checks) (some (shapeOf n checks))
-unfolding step shapeCall
-shape-step j n checks = firstOf-map (λ o. shapeHeld (o .job)) (refusing j []) (shapeTests n checks) (shapes (j .arrays) n checks)
+-- a call that is refused leaves the shape; after a late refusal the job was not empty, and has the same
+module _ (j : Job) (c : Call) where
+  kept-shape : ((k : ℕ) → Pass (describe j c .keeping) → Among k (describe j c .shaping) → isEmpty j ≡ false)
+      → (Pass (describe j c .keeping) → shapeHeld (describe j c .gives .job) ≡ shapeHeld j) → shapeHeld (step j c .job) ≡ shapeHeld j
+  kept-shape late given =
+      by-call j c (λ o. shapeHeld (o .job) ≡ shapeHeld j) (λ k a. refl) (λ k p a. sym (not-empty-held j (late k p a))) (λ p q. given p)
 
--- a call that is no shape call leaves the shape
-module _ (j : Job) (f : List ℕ) where
-  abbrev Leaves : Outcome → Type 0
-  Leaves o = shapeHeld (o .job) ≡ shapeHeld j
-
-  encode-step : Leaves (step j (encode f))
-  encode-step = by-encode Leaves j f (λ k a. refl) (λ p. refl)
-
-  locate-step : Leaves (step j (locate f))
-  locate-step =
-      by-locate Leaves j f (λ k a. refl) (λ k (e, p) a. sym (not-empty-held j e)) (λ (e, p) q. sym (not-empty-held j e))
-
-  repair-step : Leaves (step j (repair f))
-  unfolding repairTests
-  repair-step = by-repair Leaves j f (λ k a. refl) (λ (e, p). sym (not-empty-held j e))
+shape-step : (j : Job) (c : Call) → shapeHeld (step j c .job) ≡ shapeAfter (shapeHeld j) c
+unfolding step
+shape-step j (shape n checks) = firstOf-map (λ o. shapeHeld (o .job)) (refusing j []) (shapeTests n checks) (shapes (j .arrays) n checks)
+shape-step j (encode f) = kept-shape j (encode f) (λ k p a. absurd a) (λ p. refl)
+shape-step j (locate f) = kept-shape j (locate f) (λ k p a. p .0) (λ p. sym (not-empty-held j (p .0)))
+shape-step j (repair f) = kept-shape j (repair f) (λ k p a. absurd a) (λ p. sym (not-empty-held j (p .0)))
 
 run-shape : (j : Job) (calls : List Call) → shapeHeld (runFrom j calls) ≡ lastShapeFrom (shapeHeld j) calls
 unfolding runFrom lastShapeFrom
 run-shape j [] = refl
-run-shape j (shape n checks ∷ cs) =
-    run-shape (step j (shape n checks) .job) cs ∙ ap (λ s. lastShapeFrom s cs) (shape-step j n checks)
-run-shape j (encode f ∷ cs) = run-shape (step j (encode f) .job) cs ∙ ap (λ s. lastShapeFrom s cs) (encode-step j f)
-run-shape j (locate f ∷ cs) = run-shape (step j (locate f) .job) cs ∙ ap (λ s. lastShapeFrom s cs) (locate-step j f)
-run-shape j (repair f ∷ cs) = run-shape (step j (repair f) .job) cs ∙ ap (λ s. lastShapeFrom s cs) (repair-step j f)
+run-shape j (c ∷ cs) = run-shape (step j c .job) cs ∙ ap (λ s. lastShapeFrom s cs) (shape-step j c)
 
 pub holds-last-shape : (a : Arrays) (calls : List Call) → shapeHeld (run a calls) ≡ lastShape calls
 holds-last-shape a calls = run-shape (emptyJob a) calls
@@ -78,7 +66,7 @@ holds-last-shape a calls = run-shape (emptyJob a) calls
 unmarked : (j : Job) → Form j → isLocatedPhase (j .head .phase) ≡ false → j .head .columns ≡ noColumns
 unmarked _ (empty a) e = refl
 unmarked _ (shaped s a t) e = refl
-unmarked _ (located s f t l) e = absurd (false≢true (sym e))
+unmarked _ (located s a f t l) e = absurd (false≢true (sym e))
 
 -- ---- soundness
 
@@ -106,7 +94,7 @@ pub form-sound : (j : Job) → Form j → sound j ≡ true
 unfolding headSound phaseSound
 form-sound _ (empty a) = refl
 form-sound _ (shaped s a t) = t
-form-sound _ (located s f t l) = ap₂ _&&_ t (located-sound s f t l)
+form-sound _ (located s a f t l) = ap₂ _&&_ t (located-sound s f t l)
 
 pub reached : (a : Arrays) (calls : List Call) → Reached a calls
 reached a calls = record {

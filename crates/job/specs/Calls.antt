@@ -1,5 +1,6 @@
--- What each call on a job answers and leaves, for every job and everything lent (document 01, "A job" and the orders of its refusals).
-use mathlib.Core.Bool.{Bool, not}
+-- What each call on a job answers and leaves, for every job and everything lent (document 01, "A job" and the orders of its refusals). Each call is
+-- described once, and `step` carries out what is described.
+use mathlib.Core.Bool.{Bool, not, _||_}
 use mathlib.Core.List.{List, [], _∷_, _++_}
 use Prim.Native.Nat.{ℕ}
 use lib.Dec.{eqb}
@@ -34,30 +35,38 @@ pub record Outcome : Type 0 where
   pub job : Job
   pub frame : List ℕ
 
--- a refusal leaves the job j and the frame f
+-- a call refused by the number k, which leaves the job j and the frame f
 abbrev pub refusing : Job → (f : List ℕ) (k : ℕ) → Outcome
 refusing j f k = record { answer = refused k; marks = noColumns; job = j; frame = f }
 
--- but after 24, 25, 26 the head is shaped, and the arrays are as they were
-abbrev pub refusingLate : Job → (f : List ℕ) (k : ℕ) → Outcome
-refusingLate j f k = refusing (shapedJob (j .head .shape) (j .arrays)) f k
+-- the job as it is left shaped, with its arrays as they were
+abbrev pub reshaped : Job → Job
+reshaped j = shapedJob (j .head .shape) (j .arrays)
 
--- what a shape call gives that is not refused
-abbrev pub shapes : Arrays → (n : ℕ) (checks : List ℕ) → Outcome
-shapes a n checks = record { answer = done; marks = noColumns; job = shapedJob (shapeOf n checks) a; frame = [] }
+-- A call on a job: the frame that is lent; the tests whose refusal leaves the job as it was, in their order; after these the tests whose refusal leaves it
+-- shaped; and what is given where no test fails.
+pub record Described : Type 0 where
+  pub lent : List ℕ
+  pub keeping : List Test
+  pub shaping : List Test
+  pub gives : Outcome
 
-unfoldable pub shapeCall : Job → (n : ℕ) (checks : List ℕ) → Outcome
-shapeCall j n checks = firstOf (refusing j []) (shapeTests n checks) (shapes (j .arrays) n checks)
+-- ---- the tests
 
--- refusal 21, which stands first in the orders of the other calls
+-- the job is empty
 abbrev pub emptyTest : Job → Test
 emptyTest j = record { number = 21; fails = isEmpty j }
 
-abbrev pub encodes : Job → (f : List ℕ) → Outcome
-encodes j f = record { answer = done; marks = noColumns; job = j; frame = encoded (j .head .shape) f }
+abbrev pub notLocatedTest : Job → Test
+notLocatedTest j = record { number = 22; fails = not (isLocatedPhase (j .head .phase)) }
 
-unfoldable pub encodeCall : Job → (f : List ℕ) → Outcome
-encodeCall j f = firstOf (refusing j f) (emptyTest j ∷ encodeTests (j .head .shape) f) (encodes j f)
+-- whether two lists of held sums are the same
+unfoldable pub sameSums : (a b : List ℕ) → Bool
+sameSums a b = every 512 (λ k. eqb (getD a k 0) (getD b k 0))
+
+-- the frame's sums are not those located
+abbrev pub sumsTest : Job → (f : List ℕ) → Test
+sumsTest j f = record { number = 23; fails = not (sameSums (heldSums (j .head .shape) f) (j .arrays .sums)) }
 
 -- the refusals 24, 25, 26 of a well-formed frame
 unfoldable pub registerTests : Shape → (f : List ℕ) → List Test
@@ -67,41 +76,54 @@ registerTests s f =
     record { number = 26; fails = not (namesAll s (tapsOf s f) (sizeOf s f)) } ∷
     []
 
--- the job that is located by the frame f; its arrays are all written
-abbrev pub locatedBy : Shape → (f : List ℕ) → Job
-locatedBy s f = locatedJob s (sizeOf s f) (heldSums s f) (tapsOf s f) (namedColumns s (tapsOf s f))
+-- ---- what is given
 
-abbrev pub locates : Shape → (f : List ℕ) → Outcome
-locates s f =
-    record { answer = columns (sizeOf s f); marks = namedColumns s (tapsOf s f); job = locatedBy s f; frame = f }
+abbrev pub shapes : Arrays → (n : ℕ) (checks : List ℕ) → Outcome
+shapes a n checks = record { answer = done; marks = noColumns; job = shapedJob (shapeOf n checks) a; frame = [] }
 
-unfoldable pub locateCall : Job → (f : List ℕ) → Outcome
-locateCall j f =
-    let s = j .head .shape in
-    firstOf (refusing j f) (emptyTest j ∷ frameTests s f)
-    (firstOf (refusingLate j f) (registerTests s f) (locates s f))
+abbrev pub encodes : Job → (f : List ℕ) → Outcome
+encodes j f = record { answer = done; marks = noColumns; job = j; frame = encoded (j .head .shape) f }
 
--- whether two lists of held sums are the same
-unfoldable pub sameSums : (a b : List ℕ) → Bool
-sameSums a b = every 512 (λ k. eqb (getD a k 0) (getD b k 0))
+-- the job that is located by the frame f
+abbrev pub locatedBy : Shape → Arrays → (f : List ℕ) → Job
+locatedBy s a f = locatedJob s a (sizeOf s f) (heldSums s f) (tapsOf s f) (namedColumns s (tapsOf s f))
 
-unfoldable pub repairTests : Job → (f : List ℕ) → List Test
-repairTests j f =
-    let s = j .head .shape in
-    emptyTest j ∷ record { number = 22; fails = not (isLocatedPhase (j .head .phase)) } ∷
-    (frameTests s f ++ (record { number = 23; fails = not (sameSums (heldSums s f) (j .arrays .sums)) } ∷ []))
+abbrev pub locates : Shape → Arrays → (f : List ℕ) → Outcome
+locates s a f =
+    record { answer = columns (sizeOf s f); marks = namedColumns s (tapsOf s f); job = locatedBy s a f; frame = f }
 
 abbrev pub repairs : Job → (f : List ℕ) → Outcome
 repairs j f =
-    let s = j .head .shape in
     let J : Columns = j .head .columns in
-    record { answer = columns (lengthOf (j .head .phase)); marks = J; job = shapedJob s (j .arrays); frame = repaired s J f }
+    record { answer = columns (lengthOf (j .head .phase)); marks = J; job = reshaped j; frame = repaired (j .head .shape) J f }
 
-unfoldable pub repairCall : Job → (f : List ℕ) → Outcome
-repairCall j f = firstOf (refusing j f) (repairTests j f) (repairs j f)
+-- ---- the calls
+
+abbrev pub describe : Job → Call → Described
+describe j (shape n checks) =
+    record { lent = []; keeping = shapeTests n checks; shaping = []; gives = shapes (j .arrays) n checks }
+describe j (encode f) =
+    record { lent = f; keeping = emptyTest j ∷ encodeTests (j .head .shape) f; shaping = []; gives = encodes j f }
+describe j (locate f) =
+    record {
+      lent = f;
+      keeping = emptyTest j ∷ frameTests (j .head .shape) f;
+      shaping = registerTests (j .head .shape) f;
+      gives = locates (j .head .shape) (j .arrays) f;
+    }
+describe j (repair f) =
+    record {
+      lent = f;
+      keeping = emptyTest j ∷ notLocatedTest j ∷ (frameTests (j .head .shape) f ++ (sumsTest j f ∷ []));
+      shaping = [];
+      gives = repairs j f;
+    }
 
 unfoldable pub step : Job → Call → Outcome
-step j (shape n checks) = shapeCall j n checks
-step j (encode f) = encodeCall j f
-step j (locate f) = locateCall j f
-step j (repair f) = repairCall j f
+step j c =
+    let d : Described = describe j c in
+    firstOf (refusing j (d .lent)) (d .keeping) (firstOf (refusing (reshaped j) (d .lent)) (d .shaping) (d .gives))
+
+-- document 01: the refusals after which the job is shaped; after every other one it is as it was
+unfoldable pub late : ℕ → Bool
+late k = eqb k 24 || (eqb k 25 || eqb k 26)

@@ -12,7 +12,7 @@ use Rattle.frame.specs.Shape.{checksOf, shapeOf, shapeTests}
 use Rattle.frame.specs.declared.Shape.{Shape}
 use Rattle.refusal.specs.Order.{firstOf}
 use Rattle.register.specs.Register.{Shortest, Alone}
-use Rattle.job.specs.Calls.{Call, shape, encode, locate, repair, columns, refused, Outcome, step}
+use Rattle.job.specs.Calls.{Call, shape, encode, locate, repair, columns, refused, Outcome, step, late}
 use Rattle.job.specs.Job.{Arrays, Job, emptyJob, isLocatedPhase, sound, noColumns}
 use Rattle.job.specs.Refusals.{LegalAt}
 use Rattle.job.specs.declared.Phase.{Phase}
@@ -27,13 +27,17 @@ runFrom j (c ∷ cs) = runFrom (step j c .job) cs
 abbrev pub run : Arrays → List Call → Job
 run a calls = runFrom (emptyJob a) calls
 
--- The shape of the last shape call that is not refused, or the one given where there is none. Whether a shape call is refused does not depend on the job.
+-- the shape that a job has after the call: that of a shape call that is not refused, whatever the job, and after every other call the one given
+abbrev pub shapeAfter : Option Shape → Call → Option Shape
+shapeAfter s (shape n checks) = firstOf (λ k. s) (shapeTests n checks) (some (shapeOf n checks))
+shapeAfter s (encode f) = s
+shapeAfter s (locate f) = s
+shapeAfter s (repair f) = s
+
+-- the shape of the last shape call that is not refused, or the one given where there is none
 unfoldable pub lastShapeFrom : Option Shape → List Call → Option Shape
 lastShapeFrom s [] = s
-lastShapeFrom s (shape n checks ∷ cs) = lastShapeFrom (firstOf (λ k. s) (shapeTests n checks) (some (shapeOf n checks))) cs
-lastShapeFrom s (encode f ∷ cs) = lastShapeFrom s cs
-lastShapeFrom s (locate f ∷ cs) = lastShapeFrom s cs
-lastShapeFrom s (repair f ∷ cs) = lastShapeFrom s cs
+lastShapeFrom s (c ∷ cs) = lastShapeFrom (shapeAfter s c) cs
 
 abbrev pub lastShape : List Call → Option Shape
 lastShape calls = lastShapeFrom none calls
@@ -90,17 +94,13 @@ LocateExact =
     Shortest 257 c (sequences s f) σ → Alone 257 c (sequences s f) σ → ((h : ℕ) → h < s .rows → c ≤ checksOf s h) →
     IsRefused (step (run a calls) (locate f)) ↔ (LegalAt s f c → ⊥)
 
--- an encode, or a call refused by another number than 24, 25, 26
 abbrev pub IsEncode : Call → Type 0
-IsEncode (shape n checks) = ⊥
-IsEncode (encode f) = Unit {0}
-IsEncode (locate f) = ⊥
-IsEncode (repair f) = ⊥
+IsEncode c = (f : List ℕ) × (c ≡ encode f)
 
 abbrev pub RefusedEarly : Outcome → Type 0
-RefusedEarly o = (k : ℕ) × (o .answer ≡ refused k) × (k ≡ 24 → ⊥) × (k ≡ 25 → ⊥) × (k ≡ 26 → ⊥)
+RefusedEarly o = (k : ℕ) × (o .answer ≡ refused k) × (late k ≡ false)
 
--- calls from the job j on that are encodes or refused so
+-- calls from the job j on that are encodes, or refused by other numbers than 24, 25, 26
 abbrev pub Between : Job → List Call → Type 0
 Between j [] = Unit {0}
 Between j (c ∷ cs) = (IsEncode c ⊎ RefusedEarly (step j c)) × Between (step j c .job) cs
@@ -138,4 +138,4 @@ pub record Demand3 : Type 0 where
   pub locate-finds : LocateFinds
   pub locate-exact : LocateExact
   pub damage-mended : DamageMended
-  pub play-no-part : ArraysPlayNoPart
+  pub arrays : ArraysPlayNoPart

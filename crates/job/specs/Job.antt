@@ -14,7 +14,7 @@ use Rattle.job.specs.declared.Head.{Head}
 use Rattle.job.specs.declared.Phase.{Phase}
 use Rattle.job.specs.declared.Phase.the-variants.{Empty, Shaped, Located}
 
--- what is lent beside the head and written in place
+-- what is lent beside the head and written in place: the check sums of all rows, row after row, and the taps of the register
 pub record Arrays : Type 0 where
   pub sums : List ℕ
   pub taps : List ℕ
@@ -23,20 +23,15 @@ pub record Job : Type 0 where
   pub head : Head
   pub arrays : Arrays
 
--- the job of a head beside its arrays
 abbrev pub beside : Head → Arrays → Job
 beside h a = record { head = h; arrays = a }
 
--- the arrays with other sums; with other sums and taps
+-- The arrays with other sums; with what locating writes. A call says what it does for all arrays that it is not lent, and through these.
 abbrev pub withSums : Arrays → (sums : List ℕ) → Arrays
 withSums a sums = record { sums = sums; taps = a .taps }
 
 abbrev pub withFound : Arrays → (sums taps : List ℕ) → Arrays
 withFound a sums taps = record { sums = sums; taps = taps }
-
--- the job of a head and its arrays
-abbrev pub jobOf : Head → (sums taps : List ℕ) → Job
-jobOf h sums taps = record { head = h; arrays = record { sums = sums; taps = taps } }
 
 -- zeros
 abbrev pub noArrays : Arrays
@@ -55,15 +50,16 @@ shapedHead s = record { phase = Shaped; shape = s; columns = noColumns }
 abbrev pub locatedHead : Shape → (c : ℕ) (J : Columns) → Head
 locatedHead s c J = record { phase = Located c true; shape = s; columns = J }
 
--- an empty or shaped job leaves its arrays as they were
+-- beside an empty or shaped head the arrays may hold anything
 abbrev pub emptyJob : Arrays → Job
-emptyJob a = record { head = emptyHead; arrays = a }
+emptyJob a = beside emptyHead a
 
 abbrev pub shapedJob : Shape → Arrays → Job
-shapedJob s a = record { head = shapedHead s; arrays = a }
+shapedJob s a = beside (shapedHead s) a
 
-abbrev pub locatedJob : Shape → (c : ℕ) (sums taps : List ℕ) (J : Columns) → Job
-locatedJob s c sums taps J = jobOf (locatedHead s c J) sums (taps ++ replicate (65 - length taps) 0)
+-- a located job holds the sums, the taps, then zeros, and the columns named
+abbrev pub locatedJob : Shape → Arrays → (c : ℕ) (sums taps : List ℕ) (J : Columns) → Job
+locatedJob s a c sums taps J = beside (locatedHead s c J) (withFound a sums (taps ++ replicate (65 - length taps) 0))
 
 -- what a located job of length c and alone mark a must hold
 unfoldable pub findingsSound : Shape → (J : Columns) (c : ℕ) (a : Bool) → Bool
@@ -72,13 +68,12 @@ findingsSound s J c a =
     (every 256 (λ i. not (has J i) || ltb i (s .columns)) &&
     (eqb (length (members J)) c && rowsReach s c))
 
--- A head and sums that a list of calls can leave meet this. Those that do not, made by nobody's call, count as empty.
+-- A head that a list of calls can leave meets this. One that does not, made by nobody's call, counts as empty. The arrays play no part.
 unfoldable pub phaseSound : Phase → Shape → (J : Columns) → Bool
 phaseSound Empty s J = true
 phaseSound Shaped s J = isShape s
 phaseSound (Located c a) s J = isShape s && findingsSound s J c a
 
--- of the head h beside the sums; the taps play no part
 unfoldable pub headSound : Head → Bool
 headSound h = phaseSound (h .phase) (h .shape) (h .columns)
 

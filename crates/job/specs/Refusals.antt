@@ -2,7 +2,7 @@
 -- Proved in proofs/Refusals.antt.
 use mathlib.Core.Path.{_≡_}
 use mathlib.Core.Logic.{_⊎_, _↔_}
-use mathlib.Core.Bool.{false}
+use mathlib.Core.Bool.{false, cond}
 use mathlib.Core.List.{List, [], _∷_, _++_}
 use Prim.Native.Nat.{ℕ, _<_}
 use lib.ListN.{getD}
@@ -12,8 +12,8 @@ use Rattle.frame.specs.Shape.{checksOf}
 use Rattle.frame.specs.declared.Shape.{Shape}
 use Rattle.refusal.specs.Order.{Reason, First}
 use Rattle.register.specs.Register.{Generator, Shortest, Alone}
-use Rattle.job.specs.Calls.{Call, shape, encode, locate, repair, refused, Outcome, step}
-use Rattle.job.specs.Job.{Job, noColumns, shapedJob, isLocatedPhase, sound}
+use Rattle.job.specs.Calls.{Call, shape, encode, locate, repair, refused, Outcome, reshaped, describe, step, late}
+use Rattle.job.specs.Job.{Job, noColumns, isLocatedPhase, sound}
 use Rattle.job.specs.declared.Phase.the-variants.{Empty}
 
 -- a legal frame lies at distance c from f
@@ -23,6 +23,9 @@ LegalAt s f c = (g : List ℕ) × Legal s g × (distance s g f ≡ c)
 -- the job is empty, or a value that no call leaves, which counts as empty
 abbrev pub emptyReason : Job → Reason
 emptyReason j = record { number = 21; holds = (j .head .phase ≡ Empty) ⊎ (sound j ≡ false) }
+
+abbrev pub notLocatedReason : Job → Reason
+notLocatedReason j = record { number = 22; holds = isLocatedPhase (j .head .phase) ≡ false }
 
 -- Of a well-formed frame: another register of the shortest length exists;
 abbrev pub notAloneReason : Shape → (f : List ℕ) → Reason
@@ -56,35 +59,31 @@ registerReasons s f = notAloneReason s f ∷ shortRowReason s f ∷ noFrameReaso
 abbrev pub SumsDiffer : (a b : List ℕ) → Type 0
 SumsDiffer a b = (k : ℕ) × (k < 512) × (getD a k 0 ≡ getD b k 0 → ⊥)
 
--- the refusals of a call in their order
-abbrev pub reasons : Job → Call → List Reason
-reasons j (shape n checks) = shapeReasons n checks
-reasons j (encode f) = emptyReason j ∷ encodeReasons (j .head .shape) f
-reasons j (locate f) = emptyReason j ∷ (frameReasons (j .head .shape) f ++ registerReasons (j .head .shape) f)
+abbrev pub sumsReason : Job → (f : List ℕ) → Reason
+sumsReason j f = record { number = 23; holds = SumsDiffer (heldSums (j .head .shape) f) (j .arrays .sums) }
+
+-- the reasons of a call's refusals in their order: those that leave the job as it was, and after them those that leave it shaped
+pub record Reasons : Type 1 where
+  pub keeping : List Reason
+  pub shaping : List Reason
+
+abbrev pub reasons : Job → Call → Reasons
+reasons j (shape n checks) = record { keeping = shapeReasons n checks; shaping = [] }
+reasons j (encode f) = record { keeping = emptyReason j ∷ encodeReasons (j .head .shape) f; shaping = [] }
+reasons j (locate f) =
+    record { keeping = emptyReason j ∷ frameReasons (j .head .shape) f; shaping = registerReasons (j .head .shape) f }
 reasons j (repair f) =
-    emptyReason j ∷ record { number = 22; holds = isLocatedPhase (j .head .phase) ≡ false } ∷
-    (frameReasons (j .head .shape) f ++
-    (record { number = 23; holds = SumsDiffer (heldSums (j .head .shape) f) (j .arrays .sums) } ∷ []))
+    record {
+      keeping = emptyReason j ∷ notLocatedReason j ∷ (frameReasons (j .head .shape) f ++ (sumsReason j f ∷ []));
+      shaping = [];
+    }
 
--- the frame that is lent to a call
-abbrev pub lent : Call → List ℕ
-lent (shape n checks) = []
-lent (encode f) = f
-lent (locate f) = f
-lent (repair f) = f
-
--- after 24, 25, 26 the job is shaped and its arrays are as they were; after every other refusal all of it is as it was
-abbrev pub leaves : Job → ℕ → Job → Type 0
-leaves j k after = (Late × (after ≡ shapedJob (j .head .shape) (j .arrays))) ⊎ ((Late → ⊥) × (after ≡ j))
-  where
-    Late : Type 0
-    Late = (k ≡ 24) ⊎ ((k ≡ 25) ⊎ (k ≡ 26))
-
+-- a call refused by the number k leaves the frame as it was lent and marks nothing; the job is shaped after a late refusal, and as it was after any other
 pub record Refused (j : Job) (c : Call) (k : ℕ) (o : Outcome) : Type 0 where
-  pub frame : o .frame ≡ lent c
+  pub frame : o .frame ≡ describe j c .lent
   pub marks : o .marks ≡ noColumns
-  pub job : leaves j k (o .job)
+  pub job : o .job ≡ cond (late k) (reshaped j) j
 
 pub record Demand1 : Type 0 where
-  pub exact : (j : Job) (c : Call) (k : ℕ) → (step j c .answer ≡ refused k) ↔ First k (reasons j c)
+  pub exact : (j : Job) (c : Call) (k : ℕ) → (step j c .answer ≡ refused k) ↔ First k (reasons j c .keeping ++ reasons j c .shaping)
   pub left : (j : Job) (c : Call) (k : ℕ) → step j c .answer ≡ refused k → Refused j c k (step j c)

@@ -64,6 +64,19 @@ SayAll [] (r ∷ rs) = ⊥
 SayAll (t ∷ ts) [] = ⊥
 SayAll (t ∷ ts) (r ∷ rs) = Says t r × SayAll ts rs
 
+-- the same where a test need say its reason only if no reason before it holds
+abbrev pub SayInTurn : List Test → List Reason → Type 0
+SayInTurn [] [] = Unit {0}
+SayInTurn [] (r ∷ rs) = ⊥
+SayInTurn (t ∷ ts) [] = ⊥
+SayInTurn (t ∷ ts) (r ∷ rs) = Says t r × ((r .holds → ⊥) → SayInTurn ts rs)
+
+in-turn : (ts : List Test) (rs : List Reason) → SayAll ts rs → SayInTurn ts rs
+in-turn [] [] s = s
+in-turn [] (r ∷ rs) s = s
+in-turn (t ∷ ts) [] s = s
+in-turn (t ∷ ts) (r ∷ rs) s = (s .0, λ n. in-turn ts rs (s .1))
+
 -- one order after another
 pub say-append : (ts us : List Test) (rs qs : List Reason) → SayAll ts rs → SayAll us qs → SayAll (ts ++ us) (rs ++ qs)
 say-append [] us [] qs s q = q
@@ -101,7 +114,7 @@ none-pass (t ∷ ts) (r ∷ rs) s n = (fails-not t r (s .0) (n .0), none-pass ts
 
 -- Gives a says that a is the refusal k. Where no reason of an order holds, what is given goes on with the order `rest`.
 module _ {A : Type 0} (Gives : A → Type 0) (k : ℕ) (refuse : ℕ → A) (tells : (m : ℕ) → Gives (refuse m) ↔ (k ≡ m)) where
-  pub gives-next : (t : Test) (r : Reason) (otherwise : A) (rest : List Reason) → Says t r → ((r .holds → ⊥) → Gives otherwise ↔ First k rest)
+  gives-next : (t : Test) (r : Reason) (otherwise : A) (rest : List Reason) → Says t r → ((r .holds → ⊥) → Gives otherwise ↔ First k rest)
       → Gives (firstOf refuse (t ∷ []) otherwise) ↔ First k (r ∷ rest)
   gives-next t r otherwise rest s later = pick (t .fails) refl
     where
@@ -123,14 +136,18 @@ module _ {A : Type 0} (Gives : A → Type 0) (k : ℕ) (refuse : ℕ → A) (tel
           tail (inl f) = absurd (no-reason (f .0))
           tail (inr f) = f .1
 
+  pub gives-in-turn : (ts : List Test) (rs : List Reason) (otherwise : A) (rest : List Reason) → SayInTurn ts rs
+      → (None rs → Gives otherwise ↔ First k rest) → Gives (firstOf refuse ts otherwise) ↔ First k (rs ++ rest)
+  gives-in-turn [] [] otherwise rest s later = later tt
+  gives-in-turn [] (r ∷ rs) otherwise rest s later = absurd s
+  gives-in-turn (t ∷ ts) [] otherwise rest s later = absurd s
+  gives-in-turn (t ∷ ts) (r ∷ rs) otherwise rest s later =
+      gives-next t r (firstOf refuse ts otherwise) (rs ++ rest) (s .0) (λ n.
+      gives-in-turn ts rs otherwise rest (s .1 n) (λ m. later (n, m)))
+
   pub gives-first : (ts : List Test) (rs : List Reason) (otherwise : A) (rest : List Reason) → SayAll ts rs
       → (None rs → Gives otherwise ↔ First k rest) → Gives (firstOf refuse ts otherwise) ↔ First k (rs ++ rest)
-  gives-first [] [] otherwise rest s later = later tt
-  gives-first [] (r ∷ rs) otherwise rest s later = absurd s
-  gives-first (t ∷ ts) [] otherwise rest s later = absurd s
-  gives-first (t ∷ ts) (r ∷ rs) otherwise rest s later =
-      gives-next t r (firstOf refuse ts otherwise) (rs ++ rest) (s .0) (λ n.
-      gives-first ts rs otherwise rest (s .1) (λ m. later (n, m)))
+  gives-first ts rs otherwise rest s = gives-in-turn ts rs otherwise rest (in-turn ts rs s)
 
 -- ---- the outcome of tests
 
