@@ -1,4 +1,4 @@
--- The register of a frame, the columns that it names, and the repair of a frame at a set of columns (document 01, "A job").
+-- The register of sequences modulo 257, the columns that it names, and the repair of a frame at a set of columns (document 01, "A job").
 use mathlib.Core.Bool.{Bool, not, _&&_}
 use mathlib.Core.List.{List}
 use Prim.Native.Nat.{ℕ}
@@ -10,7 +10,6 @@ use Rattle.field.specs.Coefficients.{value}
 use Rattle.field.specs.Residue.{inverse}
 use Rattle.frame.specs.Completion.{completed}
 use Rattle.frame.specs.Encode.{eachRow}
-use Rattle.frame.specs.Frame.{sequences}
 use Rattle.frame.specs.Powers.{locatorOf}
 use Rattle.frame.specs.Shape.{checksOf}
 use Rattle.frame.specs.declared.Shape.{Shape}
@@ -18,15 +17,15 @@ use Rattle.lists.specs.Tabulate.{every}
 use Rattle.register.specs.Algorithm4.{found, foundAlone}
 use Rattle.register.specs.Sequences.{longest}
 
--- the shortest register of a frame's check sums: its length c, its taps, and whether it is alone
-unfoldable pub sizeOf : Shape → (f : List ℕ) → ℕ
-sizeOf s f = found 257 (sequences s f) (longest (sequences s f)) .size
+-- the shortest register of sequences: its length c, its taps, and whether it is alone
+unfoldable pub sizeOf : (ss : List (List ℕ)) → ℕ
+sizeOf ss = found 257 ss (longest ss) .size
 
-unfoldable pub tapsOf : Shape → (f : List ℕ) → List ℕ
-tapsOf s f = found 257 (sequences s f) (longest (sequences s f)) .taps
+unfoldable pub tapsOf : (ss : List (List ℕ)) → List ℕ
+tapsOf ss = found 257 ss (longest ss) .taps
 
-unfoldable pub aloneOf : Shape → (f : List ℕ) → Bool
-aloneOf s f = foundAlone 257 (sequences s f) (longest (sequences s f))
+unfoldable pub aloneOf : (ss : List (List ℕ)) → Bool
+aloneOf ss = foundAlone 257 ss (longest ss)
 
 -- whether every row has at least c checks
 unfoldable pub rowsReach : Shape → (c : ℕ) → Bool

@@ -32,13 +32,25 @@ checkSum n x j = total n (λ i. getD x i 0 * weight i j) % 257
 unfoldable pub checkSums : (n m : ℕ) (x : List ℕ) → List ℕ
 checkSums n m x = tabulate m (λ j. checkSum n x (suc j))
 
--- the sequences of check sums of a frame, one for each row, as long as the row has checks
-unfoldable pub sequences : Shape → (f : List ℕ) → List (List ℕ)
-sequences s f = tabulate (s .rows) (λ h. checkSums (s .columns) (checksOf s h) (row (s .columns) f h))
+-- the check sums of row h of a frame, as many as the row has checks
+unfoldable pub rowSums : Shape → (f : List ℕ) (h : ℕ) → List ℕ
+rowSums s f h = checkSums (s .columns) (checksOf s h) (row (s .columns) f h)
 
--- the check sums of a frame as they are held: sequence after sequence, then zeros up to 512 entries, which eight rows of 64 checks fill
+-- the sequences of a frame: the check sums of each row
+unfoldable pub sequences : Shape → (f : List ℕ) → List (List ℕ)
+sequences s f = tabulate (s .rows) (rowSums s f)
+
+-- the check sums of a frame as they are held: those of row after row, then zeros up to 512 entries, which eight rows of 64 checks fill
 unfoldable pub heldSums : Shape → (f : List ℕ) → List ℕ
 heldSums s f = let sums : List ℕ = joined (sequences s f) in sums ++ replicate (512 - length sums) 0
+
+-- where the check sums of row h begin among those that are held
+abbrev pub sumsBefore : Shape → (h : ℕ) → ℕ
+sumsBefore s h = total h (checksOf s)
+
+-- the sequences that held sums hold, one for each row
+unfoldable pub heldSequences : Shape → (sums : List ℕ) → List (List ℕ)
+heldSequences s sums = tabulate (s .rows) (λ h. take (checksOf s h) (drop (sumsBefore s h) sums))
 
 -- document 01's term: rows × columns symbols, all below 257
 pub record WellFormed (s : Shape) (f : List ℕ) : Type 0 where

@@ -1,8 +1,9 @@
--- Lists one after the other: one more, how long they are together, what all their entries share, and that lists of equal lengths are told by what they join to.
+-- Lists one after the other: one more, the place of each, how long they are together, and what all their entries share.
 -- Assumes nothing.
-use mathlib.Core.Path.{_≡_, refl, sym, ap, ap₂, _∙_}
+use mathlib.Core.Path.{_≡_, refl, sym, ap, _∙_}
 use mathlib.Core.List.{List, [], _∷_, _++_, append-assoc, append-nil}
 use Prim.Native.Nat.{ℕ, zero, suc, _+_, _*_, _≤_, _<_}
+use native.Mathlib.Decide.{ℕ-discrete}
 use native.Mathlib.Omega.{arith}
 use lib.ListN.{length, getD, take, drop, replicate, length-append}
 use lib.Seq.{take-at, drop-at}
@@ -26,6 +27,31 @@ module _ {ℓ} {A : Type ℓ} where
       joined-suc (suc n) f ∙ ap (λ l. f 0 ++ l) (joined-more n (λ h. f (suc h)))
       ∙ sym (append-assoc (f 0) (joined (tabulate n (λ h. f (suc h)))) (f (suc n)))
       ∙ ap (λ l. l ++ f (suc n)) (sym (joined-suc n f))
+
+  -- the lists up to h stand first
+  pub joined-first : (f : ℕ → List A) (h n : ℕ) → h < n → (rest : List A) × (joined (tabulate n f) ≡ joined (tabulate (suc h) f) ++ rest)
+  joined-first f h zero l = absurd (let z : ⊥ = omega arith in z)
+  joined-first f h (suc n) l = pick (ℕ-discrete h n) (joined-first f h n)
+    where
+      First : ℕ → Type ℓ
+      First k = (rest : List A) × (joined (tabulate k f) ≡ joined (tabulate (suc h) f) ++ rest)
+
+      pick : Dec (h ≡ n) → (h < n → First n) → First (suc n)
+      pick (yes e) before = ([], ap (λ (k : ℕ). joined (tabulate (suc k) f)) (sym e) ∙ sym (append-nil (joined (tabulate (suc h) f))))
+      pick (no e) before =
+          let (rest, q) = before (omega arith) in
+          (rest ++ f n, joined-more n f ∙ ap (λ (l : List A). l ++ f n) q ∙ append-assoc (joined (tabulate (suc h) f)) rest (f n))
+
+  -- so that list h is found again at the place where it begins
+  pub joined-part : (f : ℕ → List A) (h n : ℕ) → h < n → (rest : List A)
+      → take (length (f h)) (drop (length (joined (tabulate h f))) (joined (tabulate n f) ++ rest)) ≡ f h
+  joined-part f h n l rest =
+      let (more, q) = joined-first f h n l in
+      let before : List A = joined (tabulate h f) in
+      ap (λ (x : List A). take (length (f h)) (drop (length before) (x ++ rest))) (q ∙ ap (λ (x : List A). x ++ more) (joined-more h f))
+      ∙ ap (λ (x : List A). take (length (f h)) (drop (length before) x)) (append-assoc (before ++ f h) more rest ∙ append-assoc before (f h) (more ++ rest))
+      ∙ ap (take (length (f h))) (drop-at before (f h ++ (more ++ rest)) (length before) refl)
+      ∙ take-at (f h) (more ++ rest) (length (f h)) refl
 
   pub length-joined : (b n : ℕ) (f : ℕ → List A) → ((h : ℕ) → h < n → length (f h) ≤ b) → length (joined (tabulate n f)) ≤ n * b
   length-joined b zero f short = let e = ap length (joined-zero f) in omega arith
@@ -55,28 +81,3 @@ module _ {ℓ} {A : Type ℓ} where
     joined-each z zero f p i = rw joined-zero z
     joined-each z (suc n) f p i =
         rw (joined-suc n f) (append-each (f 0) (joined (tabulate n (λ h. f (suc h)))) (p 0) (joined-each z n (λ h. f (suc h)) (λ h. p (suc h))) i)
-
-  pub length-joined-same : (n : ℕ) (f g : ℕ → List A) → ((h : ℕ) → h < n → length (f h) ≡ length (g h))
-      → length (joined (tabulate n f)) ≡ length (joined (tabulate n g))
-  length-joined-same zero f g l = ap length (joined-zero f ∙ sym (joined-zero g))
-  length-joined-same (suc n) f g l =
-      ap length (joined-suc n f) ∙ length-append (f 0) (joined (tabulate n (λ h. f (suc h))))
-      ∙ ap₂ _+_ (l 0 (omega arith)) (length-joined-same n (λ h. f (suc h)) (λ h. g (suc h)) (λ h p. l (suc h) (omega arith)))
-      ∙ sym (ap length (joined-suc n g) ∙ length-append (g 0) (joined (tabulate n (λ h. g (suc h)))))
-
-  pub append-same : (xs xs′ ys ys′ : List A) → length xs ≡ length xs′ → xs ++ ys ≡ xs′ ++ ys′ → (xs ≡ xs′) × (ys ≡ ys′)
-  append-same xs xs′ ys ys′ l e = (
-    sym (take-at xs ys (length xs′) l) ∙ ap (take (length xs′)) e ∙ take-at xs′ ys′ (length xs′) refl,
-    sym (drop-at xs ys (length xs′) l) ∙ ap (drop (length xs′)) e ∙ drop-at xs′ ys′ (length xs′) refl,
-  )
-
-  pub joined-same : (n : ℕ) (f g : ℕ → List A) → ((h : ℕ) → h < n → length (f h) ≡ length (g h))
-      → joined (tabulate n f) ≡ joined (tabulate n g) → tabulate n f ≡ tabulate n g
-  joined-same zero f g l e = tabulate-zero f ∙ sym (tabulate-zero g)
-  joined-same (suc n) f g l e =
-      let (first, rest) =
-      append-same (f 0) (g 0) (joined (tabulate n (λ h. f (suc h)))) (joined (tabulate n (λ h. g (suc h)))) (l 0 (omega arith))
-      (sym (joined-suc n f) ∙ e ∙ joined-suc n g)
-      in
-      tabulate-suc n f ∙ ap₂ _∷_ first (joined-same n (λ h. f (suc h)) (λ h. g (suc h)) (λ h p. l (suc h) (omega arith)) rest)
-      ∙ sym (tabulate-suc n g)
