@@ -1,5 +1,5 @@
--- What locate lends to the finder: the check counts of the shape, the sums before the zeros, and a buffer of 65 zeros. The finder refuses none of it, and
--- answers the register of the frame.
+-- What is lent to the finder when locating from sums: the check counts of the shape, the sums of its rows, and a buffer of 65 zeros. The finder refuses none
+-- of it, and answers the register of the sequences that the sums hold.
 -- Assumes nothing.
 use mathlib.Core.Path.{_≡_, refl, sym, ap, ap₂, _∙_}
 use mathlib.Core.Bool.{true, not, _&&_}
@@ -7,30 +7,30 @@ use mathlib.Core.List.{List, [], _∷_, _++_}
 use Prim.Native.Nat.{ℕ, suc, _+_, _-_, _≤_, _<_}
 use native.Mathlib.Omega.{arith}
 use lib.ListN.{length, getD, take, drop, replicate}
-use lib.Seq.{take-at, getD-take}
+use lib.Seq.{length-take-le, getD-take}
 use borrow.Author.Tests.{lt-ltb, le-ltb, le-leb, eq-eqb}
 use Rattle.decoding.specs.Locating.{sizeOf, tapsOf, aloneOf}
-use Rattle.decoding.proofs.FrameRegister.{length-sequences, frame-taps}
-use Rattle.decoding.proofs.FrameSums.{sequence-length}
+use Rattle.decoding.proofs.SequenceRegister.{length-taps}
 use Rattle.field.specs.Prime.{isModulus, isPrime, noDivisor}
 use Rattle.field.specs.Total.{total}
 use Rattle.field.proofs.Totals.{total-ext, total-bound}
 use Rattle.finder.specs.Finder.{tests, answer, tapsLeft, register}
-use Rattle.frame.specs.Frame.{row, checkSums, sequences, heldSums}
+use Rattle.frame.specs.Frame.{heldSequences}
 use Rattle.frame.specs.Shape.{checksOf, isShape}
 use Rattle.frame.specs.declared.Shape.{Shape}
-use Rattle.frame.proofs.HeldSums.{held-below}
+use Rattle.frame.proofs.HeldSequences.{length-held, held-short, held-symbol}
 use Rattle.frame.proofs.Shapes.{Ranges, shape-ranges}
-use Rattle.lists.specs.Tabulate.{tabulate, joined}
-use Rattle.lists.proofs.Tabulated.{length-tabulate, getD-tabulate, tabulate-ext, every-of}
+use Rattle.lists.specs.Tabulate.{tabulate}
+use Rattle.lists.proofs.Filling.{take-tabulate}
+use Rattle.lists.proofs.Tabulated.{length-tabulate, getD-tabulate, every-of}
 use Rattle.lists.proofs.Zeros.{zeros, drop-zeros}
 use Rattle.refusal.specs.Outcome.{outcome, passed, refused}
 use Rattle.refusal.proofs.Orders.{Pass, pass-otherwise}
 use Rattle.register.specs.Algorithm4.{found, foundAlone}
-use Rattle.register.specs.Sequences.{largest, longest, ordered, split}
+use Rattle.register.specs.Sequences.{Below, largest, longest, ordered, split}
 use Rattle.register.proofs.Bounds.{bounded-rounds}
 use Rattle.register.proofs.Ordering.{longest-least}
-use Rattle.calls.proofs.Splitting.{split-joined, joined-total, take-tabulate}
+use Rattle.register.proofs.Splitting.{split-first}
 
 -- the entries of a list bound the largest
 largest-bound : (b : ℕ) (l : List ℕ) → ((i : ℕ) → i < length l → getD l i 0 ≤ b) → largest l ≤ b
@@ -44,109 +44,106 @@ sums-most s shape =
     let n = r .rows-most in
     omega (arith, total-bound (s .rows) 64 (checksOf s) (λ h l. r .checks h l .most))
 
-pub size-most : (s : Shape) (f : List ℕ) → isShape s ≡ true → sizeOf s f ≤ 64
-unfolding sizeOf found
-size-most s f shape =
-    let ss = sequences s f in
-    let short = longest-least 64 ss (λ h l.
-    let b : h < s .rows = let e = length-sequences s f in omega arith in
-    omega (arith, sequence-length s f h b, shape-ranges s shape .checks h b .most)) in
-    let b = bounded-rounds 257 (longest ss) (ordered ss) (omega arith) (longest ss) .size in
-    omega arith
+-- ---- the sequences of held sums
 
-module _ (s : Shape) (f : List ℕ) (shape : isShape s ≡ true) (eight : length (s .checks) ≡ 8) where
-  -- what is lent
-  abbrev pub lengths : List ℕ
-  lengths = take (s .rows) (s .checks)
+module _ (s : Shape) (sums : List ℕ) (shape : isShape s ≡ true) where
+  pub held-some : 0 < length (heldSequences s sums)
+  held-some = omega (arith, length-held s sums, shape-ranges s shape .rows-least)
 
-  abbrev pub symbols : List ℕ
-  symbols = take (total (s .rows) (checksOf s)) (heldSums s f)
+  pub size-most : sizeOf (heldSequences s sums) ≤ 64
+  unfolding sizeOf found
+  size-most =
+      let ss = heldSequences s sums in
+      let short = longest-least 64 ss (λ h l.
+      let b : h < s .rows = let e = length-held s sums in omega arith in
+      let m = shape-ranges s shape .checks h b .most in
+      omega (arith, held-short s sums h l)) in
+      let b = bounded-rounds 257 (longest ss) (ordered ss) (omega arith) (longest ss) .size in
+      omega arith
 
-  ranges : Ranges s
-  ranges = shape-ranges s shape
+  module _ (small : (k : ℕ) → getD sums k 0 < 257) where
+    pub held-below : Below 257 (heldSequences s sums)
+    held-below h inside = held-symbol s sums h inside (λ x. x < 257) small
 
-  abbrev sequenceOf : ℕ → List ℕ
-  sequenceOf h = checkSums (s .columns) (checksOf s h) (row (s .columns) f h)
+    module _ (eight : length (s .checks) ≡ 8) (sized : length sums ≡ 512) where
+      -- what is lent
+      abbrev lengths : List ℕ
+      lengths = take (s .rows) (s .checks)
 
-  length-sequence : (h : ℕ) → length (sequenceOf h) ≡ checksOf s h
-  unfolding checkSums
-  length-sequence h = length-tabulate (checksOf s h) _
+      abbrev symbols : List ℕ
+      symbols = take (total (s .rows) (checksOf s)) sums
 
-  lengths-are : lengths ≡ tabulate (s .rows) (checksOf s)
-  lengths-are = take-tabulate (s .rows) (s .checks) (let r = ranges .rows-most in omega arith)
+      ranges : Ranges s
+      ranges = shape-ranges s shape
 
-  sums-length : length (joined (sequences s f)) ≡ total (s .rows) (checksOf s)
-  unfolding sequences
-  sums-length = joined-total (s .rows) sequenceOf ∙ total-ext (s .rows) _ _ (λ h l. length-sequence h)
+      lengths-are : lengths ≡ tabulate (s .rows) (checksOf s)
+      lengths-are = take-tabulate (s .rows) (s .checks) (let r = ranges .rows-most in omega arith)
 
-  symbols-are : symbols ≡ joined (sequences s f)
-  unfolding heldSums
-  symbols-are = take-at (joined (sequences s f)) _ (total (s .rows) (checksOf s)) sums-length
+      split-lent : split lengths symbols ≡ heldSequences s sums
+      unfolding heldSequences
+      split-lent = ap (λ l. split l symbols) lengths-are ∙ split-first (s .rows) (checksOf s) sums
 
-  pub split-lent : split lengths symbols ≡ sequences s f
-  unfolding sequences
-  split-lent =
-      ap₂ split (lengths-are ∙ tabulate-ext (s .rows) _ _ (λ h l. sym (length-sequence h))) symbols-are ∙ split-joined (s .rows) sequenceOf
+      length-lengths : length lengths ≡ s .rows
+      length-lengths = ap length lengths-are ∙ length-tabulate (s .rows) (checksOf s)
 
-  length-lengths : length lengths ≡ s .rows
-  length-lengths = ap length lengths-are ∙ length-tabulate (s .rows) (checksOf s)
+      lengths-at : (h : ℕ) → h < s .rows → getD lengths h 0 ≡ checksOf s h
+      lengths-at h l = ap (λ (x : List ℕ). getD x h 0) lengths-are ∙ getD-tabulate (s .rows) (checksOf s) h 0 l
 
-  lengths-at : (h : ℕ) → h < s .rows → getD lengths h 0 ≡ checksOf s h
-  lengths-at h l = ap (λ (x : List ℕ). getD x h 0) lengths-are ∙ getD-tabulate (s .rows) (checksOf s) h 0 l
+      length-symbols : length symbols ≡ total (s .rows) (checksOf s)
+      length-symbols = length-take-le (total (s .rows) (checksOf s)) sums (let m = sums-most s shape in omega arith)
 
-  length-symbols : length symbols ≡ total (s .rows) (checksOf s)
-  length-symbols = ap length symbols-are ∙ sums-length
+      length-most : (h : ℕ) → h < length lengths → getD lengths h 0 ≤ 64
+      length-most h l =
+          let b : h < s .rows = let e = length-lengths in omega arith in
+          omega (arith, lengths-at h b, ranges .checks h b .most)
 
-  length-most : (h : ℕ) → h < length lengths → getD lengths h 0 ≤ 64
-  length-most h l =
-      let b : h < s .rows = let e = length-lengths in omega arith in
-      omega (arith, lengths-at h b, ranges .checks h b .most)
+      lent-total : total (length lengths) (λ h. getD lengths h 0) ≡ length symbols
+      lent-total =
+          ap (λ (n : ℕ). total n (λ h. getD lengths h 0)) length-lengths ∙ total-ext (s .rows) _ _ lengths-at ∙ sym length-symbols
 
-  lent-total : total (length lengths) (λ h. getD lengths h 0) ≡ length symbols
-  lent-total =
-      ap (λ (n : ℕ). total n (λ h. getD lengths h 0)) length-lengths ∙ total-ext (s .rows) _ _ lengths-at ∙ sym length-symbols
+      symbol-below : (i : ℕ) → i < length symbols → getD symbols i 0 < 257
+      symbol-below i l = rw (getD-take (total (s .rows) (checksOf s)) sums i 0 (let e = length-symbols in omega arith)) (small i)
 
-  symbol-below : (i : ℕ) → i < length symbols → getD symbols i 0 < 257
-  symbol-below i l =
-      rw (getD-take (total (s .rows) (checksOf s)) (heldSums s f) i 0 (let e = length-symbols in omega arith)) (held-below s f i)
-
-  lent-passes : Pass (tests 257 lengths symbols 65)
-  unfolding tests isModulus isPrime noDivisor
-  lent-passes =
-      let n = length-lengths in
-      let r = ranges in (
-        refl,
-        (
-          ap not (ap₂ _&&_ (le-leb 1 (length lengths) (omega arith)) (le-leb (length lengths) 8 (omega arith))),
-          (
-            ap not (ap₂ _&&_ (every-of (length lengths) _ (λ h l. le-leb (getD lengths h 0) 128 (omega (arith, length-most h l)))) (eq-eqb _ _ lent-total)),
+      lent-passes : Pass (tests 257 lengths symbols 65)
+      unfolding tests isModulus isPrime noDivisor
+      lent-passes =
+          let n = length-lengths in
+          let r = ranges in (
+            refl,
             (
-              le-ltb 65 (suc (largest lengths)) (let b = largest-bound 64 lengths length-most in omega arith),
+              ap not (ap₂ _&&_ (le-leb 1 (length lengths) (omega arith)) (le-leb (length lengths) 8 (omega arith))),
               (
-                ap not (every-of (length symbols) _ (λ i l. lt-ltb (getD symbols i 0) 257 (symbol-below i l))),
-                tt,
+                ap not (ap₂ _&&_ (every-of (length lengths) _ (λ h l. le-leb (getD lengths h 0) 128 (omega (arith, length-most h l)))) (eq-eqb _ _ lent-total)),
+                (
+                  le-ltb 65 (suc (largest lengths)) (let b = largest-bound 64 lengths length-most in omega arith),
+                  (
+                    ap not (every-of (length symbols) _ (λ i l. lt-ltb (getD symbols i 0) 257 (symbol-below i l))),
+                    tt,
+                  ),
+                ),
               ),
             ),
-          ),
-        ),
-      )
+          )
 
-  pub lent-passed : outcome (tests 257 lengths symbols 65) ≡ passed
-  lent-passed = pass-otherwise refused passed (tests 257 lengths symbols 65) lent-passes
+      pub lent-passed : outcome (tests 257 lengths symbols 65) ≡ passed
+      lent-passed = pass-otherwise refused passed (tests 257 lengths symbols 65) lent-passes
 
-  pub lent-answer : answer 257 lengths symbols 65 ≡ register (sizeOf s f) (aloneOf s f)
-  unfolding answer sizeOf aloneOf
-  lent-answer =
-      pass-otherwise _ _ (tests 257 lengths symbols 65) lent-passes
-      ∙ ap (λ ss. register (found 257 ss (longest ss) .size) (foundAlone 257 ss (longest ss))) split-lent
+      pub lent-answer : answer 257 lengths symbols 65 ≡ register (sizeOf (heldSequences s sums)) (aloneOf (heldSequences s sums))
+      unfolding answer sizeOf aloneOf
+      lent-answer =
+          pass-otherwise _ _ (tests 257 lengths symbols 65) lent-passes
+          ∙ ap (λ ss. register (found 257 ss (longest ss) .size) (foundAlone 257 ss (longest ss))) split-lent
 
-  -- the buffer has room for the taps
-  room : 65 ≡ length (tapsOf s f) + (65 - length (tapsOf s f))
-  room = let n = frame-taps s f shape in let m = size-most s f shape in omega arith
+      abbrev taps : List ℕ
+      taps = tapsOf (heldSequences s sums)
 
-  pub lent-taps : tapsLeft 257 lengths symbols (replicate 65 0) ≡ tapsOf s f ++ replicate (65 - length (tapsOf s f)) 0
-  unfolding tapsLeft tapsOf
-  lent-taps =
-      pass-otherwise _ _ (tests 257 lengths symbols 65) lent-passes
-      ∙ ap (λ ss. found 257 ss (longest ss) .taps ++ drop (length (found 257 ss (longest ss) .taps)) (replicate 65 0)) split-lent
-      ∙ ap (λ (l : List ℕ). tapsOf s f ++ l) (ap (λ (n : ℕ). drop (length (tapsOf s f)) (zeros n)) room ∙ drop-zeros (length (tapsOf s f)) _)
+      -- the buffer has room for the taps
+      room : 65 ≡ length taps + (65 - length taps)
+      room = let n = length-taps (heldSequences s sums) held-some held-below in let m = size-most in omega arith
+
+      pub lent-taps : tapsLeft 257 lengths symbols (replicate 65 0) ≡ taps ++ replicate (65 - length taps) 0
+      unfolding tapsLeft tapsOf
+      lent-taps =
+          pass-otherwise _ _ (tests 257 lengths symbols 65) lent-passes
+          ∙ ap (λ ss. found 257 ss (longest ss) .taps ++ drop (length (found 257 ss (longest ss) .taps)) (replicate 65 0)) split-lent
+          ∙ ap (λ (l : List ℕ). taps ++ l) (ap (λ (n : ℕ). drop (length taps) (zeros n)) room ∙ drop-zeros (length taps) _)

@@ -1,6 +1,5 @@
 pub mod Outside
 pub mod Searching
-pub mod Splitting
 pub mod Lending
 pub mod Emptiness
 pub mod Locating

@@ -1,7 +1,7 @@
 -- What each call gives after each of its tests, and the answers that it makes of it.
 -- Assumes nothing.
 use mathlib.Core.Path.{_≡_, refl, sym, ap, ap₂, _∙_}
-use mathlib.Core.Bool.{true, false, cond, not}
+use mathlib.Core.Bool.{true, false, cond}
 use mathlib.Core.List.{List, [], _∷_, _++_}
 use Prim.Native.Nat.{ℕ, _*_, _≤_, _<_}
 use lib.ListN.{length, getD}
@@ -13,8 +13,8 @@ use Rattle.frame.specs.declared.Shape.{Shape}
 use Rattle.frame.proofs.Reasons.{shape-passes, frame-passes}
 use Rattle.frame.proofs.Shapes.{shape-ranges}
 use Rattle.job.specs.Answers.{shapeOutcome, encodeOutcome, answeredOutcome}
-use Rattle.job.specs.Calls.{shape, encode, locate, repair, step, shapeCall, encodeCall, locateCall, repairCall, refusing, locates, registerTests, repairs, repairTests, sameSums}
-use Rattle.job.specs.Job.{Arrays, Job, beside, isEmpty, isLocatedPhase, lengthOf, shapedHead, shapedJob}
+use Rattle.job.specs.Calls.{shape, encode, locate, repair, step, refusing, repairs, sameSums, sumsTest}
+use Rattle.job.specs.Job.{Arrays, Job, beside, isEmpty, isLocatedPhase, lengthOf, shapedHead}
 use Rattle.job.specs.declared.Answered.{Answered}
 use Rattle.job.specs.declared.Head.{Head}
 use Rattle.refusal.specs.Number.{number}
@@ -26,6 +26,7 @@ use Rattle.refusal.specs.Order.{Test, firstOf}
 use Rattle.refusal.specs.Outcome.{passed, refused, outcome, outcomeOf}
 use Rattle.refusal.proofs.Outcomes.{given-passed, given-refused}
 use Rattle.calls.specs.Answered as answer-of
+use Rattle.calls.specs.FromSums.{fromSums}
 use Rattle.calls.proofs.Orders.{passed-pass}
 
 -- a refusal of the calls' answer, with the head that it leaves beside the arrays as they were
@@ -56,14 +57,14 @@ module _ (h : Head) (a : Arrays) (n : ℕ) (checks : List ℕ) where
 
   pub shape-refused : {v : Checked} (why : Refusal) → outcomeOf v ≡ outcome (shapeTests n checks) → v ≡ Refuse why
       → shapeOutcome (record { checked = v; head = h }) a ≡ step j (shape n checks)
-  unfolding step shapeCall
+  unfolding step
   shape-refused why e r =
       ap (λ x. shapeOutcome (record { checked = x; head = h }) a) r
       ∙ sym (given-refused (refusing j []) _ (shapeTests n checks) (number why) (sym e ∙ ap outcomeOf r))
 
   pub shape-given : {v : Checked} {i : Head} → outcomeOf v ≡ outcome (shapeTests n checks) → v ≡ Pass → i ≡ shapedHead (shapeOf n checks)
       → shapeOutcome (record { checked = v; head = i }) a ≡ step j (shape n checks)
-  unfolding step shapeCall
+  unfolding step
   shape-given e r s =
       ap₂ (λ x y. shapeOutcome (record { checked = x; head = y }) a) r s
       ∙ sym (given-passed (refusing j []) _ (shapeTests n checks) (sym e ∙ ap outcomeOf r))
@@ -72,7 +73,7 @@ module _ (h : Head) (a : Arrays) (n : ℕ) (checks : List ℕ) where
 
 module _ (j : Job) (f : List ℕ) where
   pub encode-empty : isEmpty j ≡ true → encodeOutcome j (Refuse Empty) f ≡ step j (encode f)
-  unfolding step encodeCall
+  unfolding step
   encode-empty e = rw e refl
 
   abbrev leaves : List ℕ
@@ -80,7 +81,7 @@ module _ (j : Job) (f : List ℕ) where
 
   pub encode-given : isEmpty j ≡ false → (v : Checked) {left : List ℕ} → outcomeOf v ≡ outcome (encodeTests (j .head .shape) f) → left ≡ leaves
       → encodeOutcome j v left ≡ step j (encode f)
-  unfolding step encodeCall
+  unfolding step
   encode-given full Pass e l =
       ap (encodeOutcome j Pass) (l ∙ given-passed (λ k. f) _ (encodeTests (j .head .shape) f) (sym e))
       ∙ rw full (sym (given-passed (refusing j f) _ (encodeTests (j .head .shape) f) (sym e)))
@@ -92,17 +93,17 @@ module _ (j : Job) (f : List ℕ) where
 
 module _ (j : Job) (f : List ℕ) where
   pub locate-empty : isEmpty j ≡ true → refusing j f 21 ≡ step j (locate f)
-  unfolding step locateCall
+  unfolding step
   locate-empty e = rw e refl
 
   module _ (full : isEmpty j ≡ false) where
     pub locate-refused : (k : ℕ) → outcome (frameTests (j .head .shape) f) ≡ refused k → refusing j f k ≡ step j (locate f)
-    unfolding step locateCall
+    unfolding step
     locate-refused k e = rw full (sym (given-refused (refusing j f) _ (frameTests (j .head .shape) f) k e))
 
     pub locate-goes-on : outcome (frameTests (j .head .shape) f) ≡ passed
-        → firstOf (refusing (shapedJob (j .head .shape) (j .arrays)) f) (registerTests (j .head .shape) f) (locates (j .head .shape) f) ≡ step j (locate f)
-    unfolding step locateCall
+        → fromSums (j .head .shape) (j .arrays) (heldSums (j .head .shape) f) f ≡ step j (locate f)
+    unfolding step
     locate-goes-on e = rw full (sym (given-passed (refusing j f) _ (frameTests (j .head .shape) f) e))
 
 -- ---- repair
@@ -113,29 +114,26 @@ after refuse [] us otherwise = refl
 after refuse (t ∷ ts) us otherwise = ap (λ later. cond (t .fails) (refuse (t .number)) later) (after refuse ts us otherwise)
 
 module _ (j : Job) (f : List ℕ) where
-  abbrev sumsTest : List Test
-  sumsTest = record { number = 23; fails = not (sameSums (heldSums (j .head .shape) f) (j .arrays .sums)) } ∷ []
-
   pub repair-empty : isEmpty j ≡ true → refusing j f 21 ≡ step j (repair f)
-  unfolding step repairCall repairTests
+  unfolding step
   repair-empty e = rw e refl
 
   module _ (full : isEmpty j ≡ false) where
     pub repair-unlocated : isLocatedPhase (j .head .phase) ≡ false → refusing j f 22 ≡ step j (repair f)
-    unfolding step repairCall repairTests
+    unfolding step
     repair-unlocated e = rw (full, e) refl
 
     module _ (located : isLocatedPhase (j .head .phase) ≡ true) where
       -- the tests of the frame come next, then that of the sums
-      next : step j (repair f) ≡ firstOf (refusing j f) (frameTests (j .head .shape) f) (firstOf (refusing j f) sumsTest (repairs j f))
-      unfolding step repairCall repairTests
-      next = rw (full, located) (after (refusing j f) (frameTests (j .head .shape) f) sumsTest (repairs j f))
+      next : step j (repair f) ≡ firstOf (refusing j f) (frameTests (j .head .shape) f) (firstOf (refusing j f) (sumsTest j f ∷ []) (repairs j f))
+      unfolding step
+      next = rw (full, located) (after (refusing j f) (frameTests (j .head .shape) f) (sumsTest j f ∷ []) (repairs j f))
 
       pub repair-refused : (k : ℕ) → outcome (frameTests (j .head .shape) f) ≡ refused k → refusing j f k ≡ step j (repair f)
       repair-refused k e = sym (given-refused (refusing j f) _ (frameTests (j .head .shape) f) k e) ∙ sym next
 
       module _ (well-formed : outcome (frameTests (j .head .shape) f) ≡ passed) where
-        goes-on : firstOf (refusing j f) sumsTest (repairs j f) ≡ step j (repair f)
+        goes-on : firstOf (refusing j f) (sumsTest j f ∷ []) (repairs j f) ≡ step j (repair f)
         goes-on = sym (given-passed (refusing j f) _ (frameTests (j .head .shape) f) well-formed) ∙ sym next
 
         pub repair-differs : sameSums (heldSums (j .head .shape) f) (j .arrays .sums) ≡ false → refusing j f 23 ≡ step j (repair f)

@@ -8,19 +8,19 @@ use mathlib.Core.Option.{some}
 use Prim.Native.Nat.{ℕ, _≤_, _<_}
 use Rattle.decoding.specs.Locating.{sizeOf}
 use Rattle.decoding.proofs.Recovery.{recovers-half}
-use Rattle.frame.specs.Frame.{WellFormed, sequences}
+use Rattle.frame.specs.Frame.{WellFormed, sequences, heldSums, heldSequences}
 use Rattle.frame.specs.Shape.{isShape, checksOf}
 use Rattle.frame.specs.declared.Shape.{Shape}
 use Rattle.refusal.proofs.Orders.{Pass}
 use Rattle.register.specs.Register.{Shortest, Alone}
-use Rattle.job.specs.Calls.{Call, locate, repair, columns, Outcome, describe, step, locatedBy, locates, repairs}
+use Rattle.job.specs.Calls.{Call, locate, repair, columns, Outcome, describe, step, repairs}
 use Rattle.job.specs.Demands.{run, runFrom, lastShape, Between, Mended, IsRefused, Found, LocateExact, DamageMended, Demand3}
 use Rattle.job.specs.Job.{Arrays, emptyJob, isEmpty, lengthOf}
 use Rattle.job.specs.Refusals.{LegalAt}
 use Rattle.job.proofs.AfterRefusal.{never-columns}
 use Rattle.job.proofs.Between.{between-keeps}
 use Rattle.job.proofs.Cases.{by-call}
-use Rattle.job.proofs.Forms.{Locates, has-shape, run-form, run-append}
+use Rattle.job.proofs.Forms.{Locates, locatedFrame, locatesFrame, has-shape, run-form, run-append}
 use Rattle.job.proofs.Locating.{locate-takes, exact-at, found}
 use Rattle.job.proofs.NoPart.{play-no-part}
 use Rattle.job.proofs.Repairing.{repair-mended, repair-takes}
@@ -52,7 +52,7 @@ module _ (a : Arrays) (calls : List Call) (f : List ℕ) where
 
   finds : After (λ s c o. Found s f c o) (step (run a calls) (locate f))
   finds =
-      taken-gives (locate f) (λ s c o. Found s f c o) (sizeOf (run a calls .head .shape) f) refl (λ p. p .0)
+      taken-gives (locate f) (λ s c o. Found s f c o) (sizeOf (heldSequences (run a calls .head .shape) (heldSums (run a calls .head .shape) f))) refl (λ p. p .0)
       (λ (e, p) q. found (run a calls) f e p q)
 
 -- ---- a locate of a frame whose register is alone
@@ -71,23 +71,23 @@ module _ (a : Arrays) (before : List Call) (s : Shape) (f : List ℕ) (last : la
   shaped-so = let (not-empty, same) = shape-held a before s last in subst (λ (x : Shape). isShape x ≡ true) same (has-shape (run a before .head) not-empty)
 
   module _ (l : Locates s f) where
-    taken : step (run a before) (locate f) ≡ locates s (run a before .arrays) f
+    taken : step (run a before) (locate f) ≡ locatesFrame s (run a before .arrays) f
     taken =
         let (not-empty, same) = shape-held a before s last in
-        subst (λ (x : Shape). Locates x f → step (run a before) (locate f) ≡ locates x (run a before .arrays) f) same (locate-takes (run a before) f not-empty) l
+        subst (λ (x : Shape). Locates x f → step (run a before) (locate f) ≡ locatesFrame x (run a before .arrays) f) same (locate-takes (run a before) f not-empty) l
 
-    located-then : run a (before ++ (locate f ∷ [])) ≡ locatedBy s (run a before .arrays) f
+    located-then : run a (before ++ (locate f ∷ [])) ≡ locatedFrame s (run a before .arrays) f
     unfolding runFrom
     located-then = run-append (emptyJob a) before (locate f ∷ []) ∙ ap (λ o. o .job) taken
 
-    still-located : (between : List Call) → Between (run a (before ++ (locate f ∷ []))) between → run a (before ++ (locate f ∷ between)) ≡ locatedBy s (run a before .arrays) f
+    still-located : (between : List Call) → Between (run a (before ++ (locate f ∷ []))) between → run a (before ++ (locate f ∷ between)) ≡ locatedFrame s (run a before .arrays) f
     unfolding runFrom
     still-located between kept =
         run-append (emptyJob a) before (locate f ∷ between) ∙ ap (λ o. runFrom (o .job) between) taken
-        ∙ between-keeps (locatedBy s (run a before .arrays) f) between (subst (λ j. Between j between) located-then kept)
+        ∙ between-keeps (locatedFrame s (run a before .arrays) f) between (subst (λ j. Between j between) located-then kept)
 
     repair-then : (between : List Call) → Between (run a (before ++ (locate f ∷ []))) between
-        → step (run a (before ++ (locate f ∷ between))) (repair f) ≡ repairs (locatedBy s (run a before .arrays) f) f
+        → step (run a (before ++ (locate f ∷ between))) (repair f) ≡ repairs (locatedFrame s (run a before .arrays) f) f
     repair-then between kept = ap (λ j. step j (repair f)) (still-located between kept) ∙ repair-takes s (run a before .arrays) f shaped-so l
 
 damage-mended : DamageMended

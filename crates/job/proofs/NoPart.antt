@@ -8,7 +8,7 @@ use Rattle.frame.specs.Shape.{shapeOf, shapeTests}
 use Rattle.frame.specs.declared.Shape.{Shape}
 use Rattle.refusal.specs.Order.{Test, firstOf}
 use Rattle.refusal.proofs.Orders.{Pass}
-use Rattle.job.specs.Calls.{Call, shape, encode, locate, repair, Outcome, Described, refusing, reshaped, registerTests, describe, step}
+use Rattle.job.specs.Calls.{Call, shape, encode, locate, repair, Outcome, Described, refusing, reshaped, describe, step}
 use Rattle.job.specs.Demands.{Alike, SameOutcome, ArraysPlayNoPart}
 use Rattle.job.specs.Job.{Arrays, Job, beside, isLocatedPhase, shapedJob}
 use Rattle.job.specs.declared.Head.{Head}
@@ -78,7 +78,7 @@ module _ (h : Head) (a b : Arrays) (none : isLocatedPhase (h .phase) ≡ false) 
   same-call (locate f) = record {
     lent = refl;
     keeping = same-tests (describe i (locate f) .keeping);
-    shaping = same-tests (registerTests (h .shape) f);
+    shaping = same-tests (describe i (locate f) .shaping);
     gives = record { answer = refl; marks = refl; frame = refl; job = (refl, λ l. refl) };
   }
   same-call (repair f) = record {

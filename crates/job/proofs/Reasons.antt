@@ -1,7 +1,7 @@
 -- The tests of the calls on a job say their reasons: each fails exactly where its reason holds; those of the register in turn, where the tests before
 -- them pass.
 -- Assumes nothing.
-use mathlib.Core.Path.{_≡_, refl, sym, subst, _∙_}
+use mathlib.Core.Path.{_≡_, refl, sym, subst, subst⁻¹, _∙_}
 use mathlib.Core.Logic.{_⊎_, inl, inr}
 use mathlib.Core.Bool.{Bool, true, false, not, _||_, or-true, false≢true}
 use mathlib.Core.List.{List, [], _∷_}
@@ -16,6 +16,7 @@ use Rattle.frame.specs.Demands.{frameReasons}
 use Rattle.frame.specs.Frame.{WellFormed, sequences, heldSums, frameTests}
 use Rattle.frame.specs.Shape.{checksOf, isShape}
 use Rattle.frame.specs.declared.Shape.{Shape}
+use Rattle.frame.proofs.HeldSums.{held-sequences}
 use Rattle.frame.proofs.Reasons.{shape-says, encode-says, frame-says, frame-passes}
 use Rattle.lists.proofs.Tabulated.{every-at, every-witness}
 use Rattle.refusal.proofs.Orders.{Pass, Says, SayAll, SayInTurn, no-fail, says-not, say-append, fails-not}
@@ -53,47 +54,47 @@ sums-say j f =
     (λ e. let (k, h, n) = every-witness 512 _ e in (k, h, eqb-false _ _ n))
 
 module _ (s : Shape) (f : List ℕ) (t : isShape s ≡ true) where
-  register : IsShortest 257 (sizeOf s f) (sequences s f) (tapsOf s f) (aloneOf s f)
+  register : IsShortest 257 (sizeOf (sequences s f)) (sequences s f) (tapsOf (sequences s f)) (aloneOf (sequences s f))
   register = register-of-frame s f t
 
   -- where it is alone, a register of the shortest length is the one found
-  the-one : aloneOf s f ≡ true → (c : ℕ) (τ : List ℕ) → c ≡ sizeOf s f → Generator 257 c (sequences s f) τ → τ ≡ tapsOf s f
+  the-one : aloneOf (sequences s f) ≡ true → (c : ℕ) (τ : List ℕ) → c ≡ sizeOf (sequences s f) → Generator 257 c (sequences s f) τ → τ ≡ tapsOf (sequences s f)
   the-one e c τ q g = register .alone e τ (subst (λ (l : ℕ). Generator 257 l (sequences s f) τ) q g)
 
-  not-alone-says : Says (record { number = 24; fails = not (aloneOf s f) }) (notAloneReason s f)
+  not-alone-says : Says (record { number = 24; fails = not (aloneOf (sequences s f)) }) (notAloneReason s f)
   not-alone-says =
-      says-not 24 (aloneOf s f) _
+      says-not 24 (aloneOf (sequences s f)) _
       (λ e (c, σ, τ, h, g, n). let q = same-size s f t c σ h in n (the-one e c τ q g ∙ sym (the-one e c σ q (h .generator))))
-      (λ e. let (τ, g, n) = not-alone s f t .0 e in (sizeOf s f, tapsOf s f, τ, register .shortest, g, n))
+      (λ e. let (τ, g, n) = not-alone s f t .0 e in (sizeOf (sequences s f), tapsOf (sequences s f), τ, register .shortest, g, n))
 
-  short-row-says : aloneOf s f ≡ true
-      → Says (record { number = 25; fails = not (rowsReach s (sizeOf s f)) }) (shortRowReason s f)
+  short-row-says : aloneOf (sequences s f) ≡ true
+      → Says (record { number = 25; fails = not (rowsReach s (sizeOf (sequences s f))) }) (shortRowReason s f)
   unfolding rowsReach
   short-row-says e =
-      says-not 25 (rowsReach s (sizeOf s f)) _
+      says-not 25 (rowsReach s (sizeOf (sequences s f))) _
       (λ r (c, σ, h, m, a, b, l).
       let q = same-size s f t c σ m in
-      let d : sizeOf s f ≤ checksOf s h = leb-true _ _ (every-at (s .rows) _ r h b) in
+      let d : sizeOf (sequences s f) ≤ checksOf s h = leb-true _ _ (every-at (s .rows) _ r h b) in
       omega (arith, l))
       (λ r.
-      let (h, b, l) = every-witness (s .rows) (λ h. leb (sizeOf s f) (checksOf s h)) r in
-      (sizeOf s f, tapsOf s f, h, register .shortest, register .alone e, b, leb-false _ _ l))
+      let (h, b, l) = every-witness (s .rows) (λ h. leb (sizeOf (sequences s f)) (checksOf s h)) r in
+      (sizeOf (sequences s f), tapsOf (sequences s f), h, register .shortest, register .alone e, b, leb-false _ _ l))
 
-  no-frame-says : WellFormed s f → aloneOf s f ≡ true
-      → Says (record { number = 26; fails = not (namesAll s (tapsOf s f) (sizeOf s f)) }) (noFrameReason s f)
+  no-frame-says : WellFormed s f → aloneOf (sequences s f) ≡ true
+      → Says (record { number = 26; fails = not (namesAll s (tapsOf (sequences s f)) (sizeOf (sequences s f))) }) (noFrameReason s f)
   no-frame-says w e =
       let exact = legal-at-size s t f w e in
-      says-not 26 (namesAll s (tapsOf s f) (sizeOf s f)) _
+      says-not 26 (namesAll s (tapsOf (sequences s f)) (sizeOf (sequences s f))) _
       (λ a (c, σ, m, n). n (subst (LegalAt s f) (sym (same-size s f t c σ m)) (exact .0 a)))
-      (λ a. (sizeOf s f, tapsOf s f, register .shortest, λ l. false≢true (sym a ∙ exact .1 l)))
+      (λ a. (sizeOf (sequences s f), tapsOf (sequences s f), register .shortest, λ l. false≢true (sym a ∙ exact .1 l)))
 
   -- each where the reasons before it do not hold
-  register-says : WellFormed s f → SayInTurn (registerTests s f) (registerReasons s f)
+  register-says : WellFormed s f → SayInTurn (registerTests s (sequences s f)) (registerReasons s f)
   unfolding registerTests
   register-says w = (
     not-alone-says,
     λ n.
-        let a : aloneOf s f ≡ true = no-fail (aloneOf s f) (fails-not _ (notAloneReason s f) not-alone-says n) in
+        let a : aloneOf (sequences s f) ≡ true = no-fail (aloneOf (sequences s f)) (fails-not _ (notAloneReason s f) not-alone-says n) in
         (short-row-says a, λ m. (no-frame-says w a, λ l. tt)),
   )
 
@@ -116,5 +117,7 @@ pub shaping-says : (j : Job) (c : Call) → Pass (describe j c .keeping) → Say
 shaping-says j (shape n checks) p = tt
 shaping-says j (encode f) p = tt
 shaping-says j (locate f) (e, p) =
-    register-says (j .head .shape) f (has-shape (j .head) e) (frame-passes (j .head .shape) f p)
+    let s : Shape = j .head .shape in
+    subst⁻¹ (λ ss. SayInTurn (registerTests s ss) (registerReasons s f)) (held-sequences s f)
+    (register-says s f (has-shape (j .head) e) (frame-passes s f p))
 shaping-says j (repair f) p = tt

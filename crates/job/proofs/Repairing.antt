@@ -1,6 +1,6 @@
 -- Repairing: a frame with the sums of the frame that was located has its register, so that the repair mends it; and the located frame itself is taken.
 -- Assumes nothing.
-use mathlib.Core.Path.{_≡_, refl, sym, ap, subst, _∙_}
+use mathlib.Core.Path.{_≡_, refl, sym, ap, ap₂, subst, _∙_}
 use mathlib.Core.Bool.{true, not, false≢true}
 use mathlib.Core.List.{List}
 use Prim.Native.Nat.{ℕ, _<_}
@@ -8,22 +8,20 @@ use native.Mathlib.Omega.{arith}
 use lib.ListN.{length, getD}
 use lib.Seq.{ext-getD}
 use borrow.Author.Tests.{eqb-true, eq-eqb}
-use Rattle.decoding.specs.Locating.{sizeOf, tapsOf, aloneOf, rowsReach}
+use Rattle.decoding.specs.Locating.{sizeOf, tapsOf, aloneOf, rowsReach, namesAll}
 use Rattle.decoding.proofs.SoleNearest.{mended-legal, mended-distance, mended-differing, sole-nearest}
-use Rattle.frame.specs.Frame.{WellFormed, sequences, heldSums, frameTests}
+use Rattle.frame.specs.Frame.{WellFormed, sequences, heldSums, heldSequences, frameTests}
 use Rattle.frame.specs.Shape.{isShape}
 use Rattle.frame.specs.declared.Shape.{Shape}
 use Rattle.frame.proofs.HeldSums.{held-length, held-sequences}
 use Rattle.frame.proofs.Reasons.{frame-passes, well-formed-passes}
 use Rattle.lists.proofs.Tabulated.{every-at, every-of}
 use Rattle.refusal.proofs.Orders.{Pass, no-fail}
-use Rattle.register.specs.Algorithm4.{found, foundAlone}
-use Rattle.register.specs.Sequences.{longest}
 use Rattle.job.specs.Calls.{repair, describe, step, sameSums, locatedBy, repairs}
 use Rattle.job.specs.Demands.{Mended}
 use Rattle.job.specs.Job.{Arrays, Job, countsEmpty, lengthOf}
 use Rattle.job.proofs.Cases.{step-gives}
-use Rattle.job.proofs.Forms.{Locates, Form, empty, shaped, located}
+use Rattle.job.proofs.Forms.{Locates, locatedFrame, Form, empty, shaped, located}
 use Rattle.job.proofs.Soundness.{form-sound}
 
 -- ---- the same sums
@@ -35,34 +33,22 @@ same-sums a b m n e =
 
 module _ (s : Shape) (f g : List ℕ) (e : heldSums s f ≡ heldSums s g) where
   same-sequences : sequences s f ≡ sequences s g
-  same-sequences = held-sequences s f g e
+  same-sequences = sym (held-sequences s f) ∙ ap (heldSequences s) e ∙ held-sequences s g
 
-  same-size : sizeOf s f ≡ sizeOf s g
-  unfolding sizeOf
-  same-size = ap (λ ss. found 257 ss (longest ss) .size) same-sequences
-
-  same-taps : tapsOf s f ≡ tapsOf s g
-  unfolding tapsOf
-  same-taps = ap (λ ss. found 257 ss (longest ss) .taps) same-sequences
-
-  same-alone : aloneOf s f ≡ aloneOf s g
-  unfolding aloneOf
-  same-alone = ap (λ ss. foundAlone 257 ss (longest ss)) same-sequences
-
-  same-located : (a : Arrays) → locatedBy s a f ≡ locatedBy s a g
-  same-located a = rw (same-size, e, same-taps) refl
+  same-located : (a : Arrays) → locatedFrame s a f ≡ locatedFrame s a g
+  same-located a = ap₂ (locatedBy s a) same-sequences e
 
   same-locates : WellFormed s f → Locates s g → Locates s f
   same-locates w l = record {
     well-formed = w;
-    alone = same-alone ∙ l .alone;
-    reach = ap (rowsReach s) same-size ∙ l .reach;
-    names = rw (same-size, same-taps) (l .names);
+    alone = ap aloneOf same-sequences ∙ l .alone;
+    reach = ap (λ ss. rowsReach s (sizeOf ss)) same-sequences ∙ l .reach;
+    names = ap (λ ss. namesAll s (tapsOf ss) (sizeOf ss)) same-sequences ∙ l .names;
   }
 
 -- ---- the frame that is left
 
-located-mended : (s : Shape) (a : Arrays) (f : List ℕ) → isShape s ≡ true → Locates s f → Mended s f (sizeOf s f) (repairs (locatedBy s a f) f)
+located-mended : (s : Shape) (a : Arrays) (f : List ℕ) → isShape s ≡ true → Locates s f → Mended s f (sizeOf (sequences s f)) (repairs (locatedFrame s a f) f)
 located-mended s a f t l = record {
   legal = mended-legal s t f (l .well-formed) (l .names);
   count = mended-distance s t f (l .well-formed) (l .names);
@@ -82,11 +68,11 @@ repair-mended _ f (located s a g t l) (e, (h, (size, (symbols, (sums, u))))) =
 
 -- ---- the frame that was located
 
-pub repair-takes : (s : Shape) (a : Arrays) (f : List ℕ) → isShape s ≡ true → Locates s f → step (locatedBy s a f) (repair f) ≡ repairs (locatedBy s a f) f
+pub repair-takes : (s : Shape) (a : Arrays) (f : List ℕ) → isShape s ≡ true → Locates s f → step (locatedFrame s a f) (repair f) ≡ repairs (locatedFrame s a f) f
 unfolding frameTests countsEmpty sameSums
 repair-takes s a f t l =
     let (size, (symbols, u)) = well-formed-passes s f (l .well-formed) in
-    step-gives (locatedBy s a f) (repair f) (
-      ap not (form-sound (locatedBy s a f) (located s a f t l)),
+    step-gives (locatedFrame s a f) (repair f) (
+      ap not (form-sound (locatedFrame s a f) (located s a f t l)),
       (refl, (size, (symbols, (ap not (every-of 512 _ (λ k h. eq-eqb (getD (heldSums s f) k 0) _ refl)), tt)))),
     ) tt

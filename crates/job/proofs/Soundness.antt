@@ -13,6 +13,7 @@ use Rattle.columns.specs.Columns.{has, members}
 use Rattle.decoding.specs.Locating.{sizeOf, tapsOf, named, namedColumns}
 use Rattle.decoding.proofs.NamedColumns.{has-named, size-named}
 use Rattle.decoding.proofs.SoleNearest.{names-count}
+use Rattle.frame.specs.Frame.{sequences}
 use Rattle.frame.specs.Shape.{isShape, shapeTests}
 use Rattle.frame.specs.declared.Shape.{Shape}
 use Rattle.lists.proofs.Tabulated.{every-of}
@@ -80,14 +81,14 @@ marked-inside s σ i h = rw (has-named s σ i h) (inside (ltb i (s .columns)) _)
     inside false b = refl
 
 -- as many columns are marked as the register is long
-pub marked-number : (s : Shape) (f : List ℕ) → isShape s ≡ true → Locates s f → length (members (namedColumns s (tapsOf s f))) ≡ sizeOf s f
-marked-number s f t l = size-named s (tapsOf s f) t ∙ names-count s t f (l .well-formed) (l .names)
+pub marked-number : (s : Shape) (f : List ℕ) → isShape s ≡ true → Locates s f → length (members (namedColumns s (tapsOf (sequences s f)))) ≡ sizeOf (sequences s f)
+marked-number s f t l = size-named s (tapsOf (sequences s f)) t ∙ names-count s t f (l .well-formed) (l .names)
 
 located-sound : (s : Shape) (f : List ℕ) → isShape s ≡ true → Locates s f
-    → findingsSound s (namedColumns s (tapsOf s f)) (sizeOf s f) true ≡ true
+    → findingsSound s (namedColumns s (tapsOf (sequences s f))) (sizeOf (sequences s f)) true ≡ true
 unfolding findingsSound
 located-sound s f t l =
-    ap₂ _&&_ (every-of 256 _ (marked-inside s (tapsOf s f)))
+    ap₂ _&&_ (every-of 256 _ (marked-inside s (tapsOf (sequences s f))))
     (ap₂ _&&_ (eq-eqb _ _ (marked-number s f t l)) (l .reach))
 
 pub form-sound : (j : Job) → Form j → sound j ≡ true

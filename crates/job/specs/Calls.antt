@@ -8,7 +8,7 @@ use lib.ListN.{getD}
 use Rattle.columns.specs.declared.Columns.{Columns}
 use Rattle.decoding.specs.Locating.{sizeOf, tapsOf, aloneOf, rowsReach, namesAll, namedColumns, repaired}
 use Rattle.frame.specs.Encode.{encoded, encodeTests}
-use Rattle.frame.specs.Frame.{heldSums, frameTests}
+use Rattle.frame.specs.Frame.{heldSums, heldSequences, frameTests}
 use Rattle.frame.specs.Shape.{shapeOf, shapeTests}
 use Rattle.frame.specs.declared.Shape.{Shape}
 use Rattle.lists.specs.Tabulate.{every}
@@ -68,12 +68,12 @@ sameSums a b = every 512 (λ k. eqb (getD a k 0) (getD b k 0))
 abbrev pub sumsTest : Job → (f : List ℕ) → Test
 sumsTest j f = record { number = 23; fails = not (sameSums (heldSums (j .head .shape) f) (j .arrays .sums)) }
 
--- the refusals 24, 25, 26 of a well-formed frame
-unfoldable pub registerTests : Shape → (f : List ℕ) → List Test
-registerTests s f =
-    record { number = 24; fails = not (aloneOf s f) } ∷
-    record { number = 25; fails = not (rowsReach s (sizeOf s f)) } ∷
-    record { number = 26; fails = not (namesAll s (tapsOf s f) (sizeOf s f)) } ∷
+-- the refusals 24, 25, 26 of the sequences of a well-formed frame
+unfoldable pub registerTests : Shape → (ss : List (List ℕ)) → List Test
+registerTests s ss =
+    record { number = 24; fails = not (aloneOf ss) } ∷
+    record { number = 25; fails = not (rowsReach s (sizeOf ss)) } ∷
+    record { number = 26; fails = not (namesAll s (tapsOf ss) (sizeOf ss)) } ∷
     []
 
 -- ---- what is given
@@ -84,13 +84,13 @@ shapes a n checks = record { answer = done; marks = noColumns; job = shapedJob (
 abbrev pub encodes : Job → (f : List ℕ) → Outcome
 encodes j f = record { answer = done; marks = noColumns; job = j; frame = encoded (j .head .shape) f }
 
--- the job that is located by the frame f
-abbrev pub locatedBy : Shape → Arrays → (f : List ℕ) → Job
-locatedBy s a f = locatedJob s a (sizeOf s f) (heldSums s f) (tapsOf s f) (namedColumns s (tapsOf s f))
+-- the job that is located by the register of the sequences, which the sums hold
+abbrev pub locatedBy : Shape → Arrays → (ss : List (List ℕ)) (sums : List ℕ) → Job
+locatedBy s a ss sums = locatedJob s a (sizeOf ss) sums (tapsOf ss) (namedColumns s (tapsOf ss))
 
-abbrev pub locates : Shape → Arrays → (f : List ℕ) → Outcome
-locates s a f =
-    record { answer = columns (sizeOf s f); marks = namedColumns s (tapsOf s f); job = locatedBy s a f; frame = f }
+abbrev pub locates : Shape → Arrays → (ss : List (List ℕ)) (sums f : List ℕ) → Outcome
+locates s a ss sums f =
+    record { answer = columns (sizeOf ss); marks = namedColumns s (tapsOf ss); job = locatedBy s a ss sums; frame = f }
 
 abbrev pub repairs : Job → (f : List ℕ) → Outcome
 repairs j f =
@@ -105,11 +105,13 @@ describe j (shape n checks) =
 describe j (encode f) =
     record { lent = f; keeping = emptyTest j ∷ encodeTests (j .head .shape) f; shaping = []; gives = encodes j f }
 describe j (locate f) =
+    let s : Shape = j .head .shape in
+    let sums : List ℕ = heldSums s f in
     record {
       lent = f;
-      keeping = emptyTest j ∷ frameTests (j .head .shape) f;
-      shaping = registerTests (j .head .shape) f;
-      gives = locates (j .head .shape) (j .arrays) f;
+      keeping = emptyTest j ∷ frameTests s f;
+      shaping = registerTests s (heldSequences s sums);
+      gives = locates s (j .arrays) (heldSequences s sums) sums f;
     }
 describe j (repair f) =
     record {

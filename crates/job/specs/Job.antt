@@ -26,9 +26,12 @@ pub record Job : Type 0 where
 abbrev pub beside : Head → Arrays → Job
 beside h a = record { head = h; arrays = a }
 
--- The arrays with other sums; with what locating writes. A call says what it does for all arrays that it is not lent, and through these.
+-- The arrays with other sums; with other taps; with both. A call says what it does for all arrays that it is not lent, and through these.
 abbrev pub withSums : Arrays → (sums : List ℕ) → Arrays
 withSums a sums = record { sums = sums; taps = a .taps }
+
+abbrev pub withTaps : Arrays → (taps : List ℕ) → Arrays
+withTaps a taps = record { sums = a .sums; taps = taps }
 
 abbrev pub withFound : Arrays → (sums taps : List ℕ) → Arrays
 withFound a sums taps = record { sums = sums; taps = taps }

@@ -8,8 +8,8 @@ use native.Mathlib.Decide.{decLt, ℕ-discrete}
 use native.Mathlib.Omega.{arith}
 use borrow.Author.Tests.{lt-ltb, le-ltb}
 use lib.Dec.{ltb}
-use lib.ListN.{length, getD, set, length-set}
-use lib.Seq.{getD-set-same, getD-set-other}
+use lib.ListN.{length, getD, set, take, length-set}
+use lib.Seq.{length-take-le, getD-take, getD-set-same, getD-set-other}
 use Rattle.lists.proofs.Tabulated.{length-tabulate, getD-tabulate, tabulate-ext, tabulate-getD}
 use Rattle.lists.specs.Tabulate.{tabulate}
 
@@ -17,6 +17,10 @@ use Rattle.lists.specs.Tabulate.{tabulate}
 pub by-entries : (n : ℕ) (g : ℕ → ℕ) (l : List ℕ) → length l ≡ n → ((k : ℕ) → k < n → getD l k 0 ≡ g k) → l ≡ tabulate n g
 by-entries n g l e h =
     sym (tabulate-getD l 0) ∙ ap (λ (m : ℕ). tabulate m (λ k. getD l k 0)) e ∙ tabulate-ext n (λ k. getD l k 0) g h
+
+-- the first n entries
+pub take-tabulate : (n : ℕ) (l : List ℕ) → n ≤ length l → take n l ≡ tabulate n (λ i. getD l i 0)
+take-tabulate n l h = by-entries n (λ i. getD l i 0) (take n l) (length-take-le n l h) (λ k b. getD-take n l k 0 b)
 
 -- the entry i becomes h i, and the others are h's already
 pub set-tabulate : (n : ℕ) (g h : ℕ → ℕ) (i v : ℕ) → i < n → v ≡ h i → ((k : ℕ) → k < n → k ≢ i → g k ≡ h k) → set (tabulate n g) i v ≡ tabulate n h

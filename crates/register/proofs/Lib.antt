@@ -7,4 +7,5 @@ pub mod EachRound
 pub mod FieldStep
 pub mod Generators
 pub mod Ordering
+pub mod Splitting
 pub mod Stable

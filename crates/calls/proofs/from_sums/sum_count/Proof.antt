@@ -1,4 +1,4 @@
--- `calls::locate::sum_count` meets its contract: the checks of the rows passed are added. Assumes nothing.
+-- `calls::from_sums::sum_count` meets its contract: the checks of the rows passed are added. Assumes nothing.
 use mathlib.Core.Path.{_≡_, refl, sym, ap, ap₂, _∙_}
 use Prim.Native.Nat.{ℕ, _+_, _-_, _*_, _≤_}
 use native.Mathlib.Numerals.{add-one}
@@ -7,8 +7,8 @@ use Rattle.field.specs.Total.{total}
 use Rattle.field.proofs.Totals.{total-zero, total-suc}
 use Rattle.frame.specs.Shape.{checksOf}
 use Rattle.frame.proofs.Shapes.{shape-ranges}
-use Rattle.calls.proofs.locate.sum_count.Statement.{statement}
-use Rattle.calls.proofs.locate.sum_count.Tie as tie
+use Rattle.calls.proofs.from_sums.sum_count.Statement.{statement}
+use Rattle.calls.proofs.from_sums.sum_count.Tie as tie
 
 abbrev Inv-loop : tie.InvT-loop
 Inv-loop s rows all₀ h₀ all h = (h ≤ rows) × (all ≡ total h (checksOf s)) × (all ≤ h * 64)

@@ -1,4 +1,4 @@
--- `calls::locate::locate_in` meets its contract. Assumes nothing.
+-- `calls::from_sums::locate_from` meets its contract. Assumes nothing.
 use mathlib.Core.Path.{_≡_, sym, ap, _∙_}
 use native.Mathlib.Omega.{arith}
 use lib.ListN.{length}
@@ -9,8 +9,8 @@ use Rattle.frame.proofs.Shapes.{shape-ranges}
 use Rattle.calls.proofs.Steps.{refusal-outcome}
 use Rattle.calls.proofs.Locating.{Seen, passes, never-refused, seen, length-most, front-short, first-tap, gives-24, gives-25, gives-26, gives-columns}
 use borrow.Author.Needs.{needs}
-use Rattle.calls.proofs.locate.locate_in.Statement.{statement}
-use Rattle.calls.proofs.locate.locate_in.Tie as tie
+use Rattle.calls.proofs.from_sums.locate_from.Statement.{statement}
+use Rattle.calls.proofs.from_sums.locate_from.Tie as tie
 
 frame-sums-requires : tie.Need-frame-sums-requires
 frame-sums-requires c κs = search needs
