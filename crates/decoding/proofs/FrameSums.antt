@@ -23,8 +23,8 @@ use Rattle.frame.specs.Shape.{checksOf}
 use Rattle.frame.specs.declared.Shape.{Shape}
 use Rattle.frame.proofs.CheckSums.{checkSum-below, res-checkSum}
 use Rattle.frame.proofs.Field257.{F257, R257, res257, res-tells, res-tells-zero}
-use Rattle.frame.proofs.Locators.{locatorAt, locator-nonzero, firstExponent}
 use Rattle.frame.proofs.HeldSums.{length-rowSums}
+use Rattle.frame.proofs.Locators.{locatorAt, locator-nonzero, firstExponent}
 use Rattle.frame.proofs.Rows.{row-cell}
 use Rattle.lists.proofs.Tabulated.{getD-tabulate}
 use Rattle.register.specs.Sequences.{symbol}

@@ -67,7 +67,7 @@ module _ (l : ℕ) (τ : List ℕ) (register : Register 257 l τ) where
     products-generate zeros j after within =
         res-tells-zero _ (discrepancy-less 257 l τ x j (omega arith)) (res-discrepancy j after within ∙ zeros j after within)
 
--- the coefficients of a polynomial are taps
+-- the coefficients of a polynomial are taps, and generate what it generates
 pub polynomial-generator : (l : ℕ) (φ : ℕ → car) → Degree R257 l φ → φ 0 ≡ 𝟙
     → (ss : List (List ℕ)) (S : ℕ → ℕ → car) → ((h : ℕ) → h < length ss → Symbols (getD ss h []) (S h))
     → ((h : ℕ) → h < length ss → Vanish l (length (getD ss h [])) φ (S h)) → Generator 257 l ss (coefficients 257 prime-257 l φ)
