@@ -9,10 +9,10 @@ use Prim.Native.Nat.{ℕ, zero, suc, _≤_, _<_}
 use native.Mathlib.Decide.{decLt}
 use native.Mathlib.Omega.{arith}
 use lib.Dec.{ltb}
+use lib.ListN.{getD}
 use borrow.Author.Tests.{lt-ltb, le-ltb}
 use Rattle.algebra.specs.Ring.{CRing}
-use Rattle.algebra.specs.Sum.{sum, pow}
-use Rattle.algebra.specs.Polynomial.{Degree, conv}
+use Rattle.algebra.specs.Polynomial.{conv}
 use Rattle.algebra.proofs.Convolution.{conv-ext, conv-add-right}
 use Rattle.algebra.proofs.Solver.{:1, :neg, _:+_, _:-_, _:=_, _:×_:≡_:⇒_, solve}
 use Rattle.columns.specs.Columns.{has}
@@ -21,16 +21,16 @@ use Rattle.columns.proofs.Listing.{by-test}
 use Rattle.columns.proofs.Marks.{columnsOf-ext}
 use Rattle.columns.proofs.Subset.{Within, within-le, within-same}
 use Rattle.decoding.specs.Locating.{sizeOf, tapsOf, named, namedColumns}
-use Rattle.decoding.proofs.DamageRegister.{no-nearer}
-use Rattle.decoding.proofs.FrameRegister.{length-sequences, frame-generator, frame-taps}
-use Rattle.decoding.proofs.FrameSums.{poly257, columns-distinct, columns-nonzero, sums, error, error-sums, same-cell-error, sums-codeword, generates-sums, res-sums}
-use Rattle.decoding.proofs.NamedColumns.{named-roots, named-past, has-named, size-named}
-use Rattle.decoding.proofs.Recurrence.{roots-generate, zeros-go-on}
+use Rattle.decoding.proofs.DamageSums.{no-nearer}
+use Rattle.decoding.proofs.FrameRegister.{length-sequences, frame-generator}
+use Rattle.decoding.proofs.FrameSums.{sums, error, error-sums, same-cell-error, sums-codeword, res-sums, sequence-length, sequence-sums}
+use Rattle.decoding.proofs.NamedColumns.{columns-distinct, columns-nonzero, named-roots, named-past, has-named, size-named}
+use Rattle.decoding.proofs.Recurrence.{powerSum, roots-generate, zeros-go-on}
+use Rattle.decoding.proofs.RegisterPolynomial.{poly257, register-degree, register-constant, generates-products}
 use Rattle.decoding.proofs.RepairedFrame.{Completes}
-use Rattle.field.proofs.Bridge.{res-zero, res-one}
-use Rattle.field.proofs.Polynomials.{poly-degree}
+use Rattle.field.proofs.Bridge.{res-zero}
 use Rattle.field.proofs.Prime257.{prime-257}
-use Rattle.frame.specs.Frame.{Codeword, differs, distance, differing}
+use Rattle.frame.specs.Frame.{sequences, Codeword, differs, distance, differing}
 use Rattle.frame.specs.Shape.{isShape, checksOf}
 use Rattle.frame.specs.declared.Shape.{Shape}
 use Rattle.frame.proofs.Distances.{agreeing}
@@ -38,22 +38,22 @@ use Rattle.frame.proofs.Field257.{F257, R257, res257}
 use Rattle.frame.proofs.Locators.{locatorAt}
 use Rattle.frame.proofs.Members.{size}
 use Rattle.frame.proofs.Shapes.{shape-ranges}
-open CRing R257 using (car, zero as 𝟘, add as _⊕_, mul as _⊗_, neg, add-zero)
+use Rattle.register.specs.Register.{Register}
+open CRing R257 using (car, zero as 𝟘, add as _⊕_, add-zero)
 
 infixl 60 _⊕_
-infixl 70 _⊗_
 module _ (s : Shape) (shape : isShape s ≡ true) (f : List ℕ) where
   abbrev n : ℕ
   n = s .columns
 
   abbrev c : ℕ
-  c = sizeOf s f
+  c = sizeOf (sequences s f)
 
   abbrev σ : List ℕ
-  σ = tapsOf s f
+  σ = tapsOf (sequences s f)
 
-  degree : Degree R257 c (poly257 σ)
-  degree = poly-degree 257 prime-257 c σ (frame-taps s f shape)
+  register : Register 257 c σ
+  register = frame-generator s f shape .register
 
   unmarked : (i : ℕ) → i < n → named s σ i ≡ false → has (namedColumns s σ) i ≡ false
   unmarked i below e = let few = shape-ranges s shape .columns-most in has-named s σ i (omega arith) ∙ e
@@ -62,20 +62,18 @@ module _ (s : Shape) (shape : isShape s ≡ true) (f : List ℕ) where
     size-c : size (namedColumns s σ) ≡ c
     size-c = size-named s σ shape ∙ all
 
-    errors : ℕ → ℕ → car
-    errors h j = sum R257 n (λ i. error n f e h i ⊗ pow R257 (locatorAt i) j)
+    abbrev errors : ℕ → ℕ → car
+    errors h = powerSum R257 n locatorAt (error n f e h)
 
     errors-generated : (h j : ℕ) → h < s .rows → c < j → conv R257 (poly257 σ) (errors h) j ≡ 𝟘
-    unfolding errors
-    errors-generated h j below after =
-        roots-generate F257 n locatorAt (columns-distinct s shape) (columns-nonzero s shape) (named s σ) (error n f e h) (errors h)
+    errors-generated h j below =
+        roots-generate F257 n locatorAt (columns-distinct s shape) (columns-nonzero s shape) (named s σ) (error n f e h)
         (λ i inside out. same-cell-error n f e h i (sym (completes .kept h i below inside (unmarked i inside out))))
-        j (λ k _ _. refl) c (poly257 σ) degree (named-roots s c σ (frame-generator s f shape .register)) j after (omega arith)
+        c (poly257 σ) (register-degree c σ register) (named-roots s c σ register) j
 
     pub completes-codeword : Codeword s e
-    unfolding errors
     completes-codeword = sums-codeword s e (λ h j below.
-        zeros-go-on R257 c (checksOf s h) (poly257 σ) (sums n e h) degree (ap res257 (frame-generator s f shape .register .first) ∙ res-one 257 prime-257)
+        zeros-go-on R257 c (checksOf s h) (poly257 σ) (sums n e h) (register-degree c σ register) (register-constant c σ register)
         (start h below) (products h below) j)
       where
         start : (h : ℕ) → h < s .rows → (j : ℕ) → 1 ≤ j → j ≤ c → sums n e h j ≡ 𝟘
@@ -92,8 +90,9 @@ module _ (s : Shape) (shape : isShape s ≡ true) (f : List ℕ) where
             sym (add-zero _) ∙ ap (λ x. conv R257 (poly257 σ) (sums n e h) j ⊕ x) (sym (errors-generated h j below after))
             ∙ sym (conv-add-right R257 (poly257 σ) (sums n e h) (errors h) j)
             ∙ conv-ext R257 (poly257 σ) (poly257 σ) (λ k. sums n e h k ⊕ errors h k) (sums n f h) j (λ _ _. refl) (λ k _. whole h k)
-            ∙ generates-sums s f h below c σ (frame-taps s f shape)
-            (frame-generator s f shape .generates h (let q = length-sequences s f in omega arith)) j after within
+            ∙ generates-products c σ register (getD (sequences s f) h []) (sums n f h) (sequence-sums s f h below)
+            (frame-generator s f shape .generates h (let q = length-sequences s f in omega arith)) j after
+            (let q = sequence-length s f h below in omega arith)
 
     differs-named : Within n (differs s e f) (named s σ)
     differs-named i below differ = pick (by-test (named s σ i))

@@ -1,11 +1,13 @@
 pub mod ColumnRoots
 pub mod CompletedCodeword
-pub mod DamageRegister
+pub mod DamageSums
 pub mod FrameRegister
 pub mod FrameSums
 pub mod NamedColumns
+pub mod PowerSums
 pub mod Recovery
 pub mod Recurrence
+pub mod RegisterPolynomial
 pub mod RepairedFrame
-pub mod SameSums
+pub mod SequenceRegister
 pub mod SoleNearest

@@ -1,10 +1,11 @@
--- The columns that taps name are the roots of their polynomial at the inverses of the locators: never more than the register is long.
+-- The columns of a shape have distinct locators that are not 0. The columns that taps name are the roots of their polynomial at the inverses of the
+-- locators: never more than the register is long.
 -- Assumes nothing.
 use mathlib.Core.Path.{_≡_, sym, ap, _∙_}
 use mathlib.Core.Bool.{Bool, true, false, not, _&&_, and-eq-true-iff, false≢true}
 use mathlib.Core.List.{List}
 use mathlib.Core.Logic.{_↔_}
-use Prim.Native.Nat.{ℕ, suc, _≤_, _<_}
+use Prim.Native.Nat.{ℕ, _≤_, _<_}
 use native.Mathlib.Nat.{mod-lt}
 use native.Mathlib.Decide.{decLt}
 use native.Mathlib.Omega.{arith}
@@ -12,39 +13,45 @@ use lib.Dec.{ltb, eqb, lit<}
 use lib.ListN.{length}
 use borrow.Author.Tests.{ltb-false, lt-ltb, le-ltb, eqb-true, eq-eqb, not-true}
 use Rattle.algebra.specs.Ring.{CRing, Field}
+use Rattle.algebra.specs.Locator.{Distinct, Nonzero}
 use Rattle.algebra.specs.Polynomial.{eval}
 use Rattle.columns.specs.Columns.{has, members}
 use Rattle.columns.specs.Listed.{count}
 use Rattle.columns.proofs.Listing.{count-skip, length-listed}
 use Rattle.columns.proofs.Marks.{has-columnsOf, has-past, columnsOf-sound, members-columnsOf}
 use Rattle.decoding.specs.Locating.{named, namedColumns, namesAll}
-use Rattle.decoding.proofs.FrameSums.{poly257, columns-distinct, columns-nonzero}
 use Rattle.decoding.proofs.ColumnRoots.{Roots, roots-at-most}
+use Rattle.decoding.proofs.RegisterPolynomial.{poly257, register-degree, register-constant}
 use Rattle.field.specs.Coefficients.{value}
 use Rattle.field.specs.Residue.{inverse}
-use Rattle.field.proofs.Bridge.{res-zero, res-one, res-inverse}
-use Rattle.field.proofs.Polynomials.{poly-degree}
+use Rattle.field.proofs.Bridge.{res-zero, res-inverse}
 use Rattle.field.proofs.Prime257.{prime-257}
 use Rattle.frame.specs.Powers.{locatorOf}
 use Rattle.frame.specs.Shape.{isShape}
 use Rattle.frame.specs.declared.Shape.{Shape}
 use Rattle.frame.proofs.Field257.{F257, R257, res257, res-tells-zero}
 use Rattle.frame.proofs.LocatorPolynomial.{res-value}
-use Rattle.frame.proofs.Locators.{locatorAt, res-locator}
+use Rattle.frame.proofs.Locators.{locatorAt, res-locator, locators-distinct, locator-nonzero}
 use Rattle.frame.proofs.Members.{Below}
 use Rattle.frame.proofs.Shapes.{shape-ranges}
 use Rattle.register.specs.Register.{Register}
 open Field F257 using (inv)
 open CRing R257 using (zero as 𝟘)
 
-module _ (s : Shape) (c : ℕ) (σ : List ℕ) (register : Register 257 c σ) where
-  taps : length σ ≡ suc c
-  taps = omega (arith, register .taps)
+module _ (s : Shape) (shape : isShape s ≡ true) where
+  pub columns-distinct : Distinct R257 (s .columns) locatorAt
+  columns-distinct i j hi hj =
+      let few = shape-ranges s shape .columns-most in
+      locators-distinct i j (omega arith) (omega arith)
 
+  pub columns-nonzero : Nonzero R257 (s .columns) locatorAt
+  columns-nonzero i _ = locator-nonzero i
+
+module _ (s : Shape) (c : ℕ) (σ : List ℕ) (register : Register 257 c σ) where
   -- the value of the polynomial at the inverse of a locator
   res-root : (i : ℕ) → res257 (value 257 σ (inverse 257 (locatorOf i))) ≡ eval R257 c (poly257 σ) (inv (locatorAt i))
   res-root i =
-      res-value c σ (inverse 257 (locatorOf i)) taps
+      res-value c σ (inverse 257 (locatorOf i)) (omega (arith, register .taps))
       ∙ ap (eval R257 c (poly257 σ)) (res-inverse 257 prime-257 (locatorOf i) ∙ ap inv (res-locator i))
 
   pub named-roots : Roots F257 (s .columns) locatorAt (named s σ) c (poly257 σ)
@@ -62,7 +69,7 @@ module _ (s : Shape) (c : ℕ) (σ : List ℕ) (register : Register 257 c σ) wh
   pub names-at-most : isShape s ≡ true → count (s .columns) (named s σ) ≤ c
   names-at-most shape =
       roots-at-most F257 (s .columns) locatorAt (columns-distinct s shape) (columns-nonzero s shape) (named s σ) c (poly257 σ)
-      (poly-degree 257 prime-257 c σ taps) (ap res257 (register .first) ∙ res-one 257 prime-257) named-roots
+      (register-degree c σ register) (register-constant c σ register) named-roots
 
   pub names-all : isShape s ≡ true → (namesAll s σ c ≡ true) ↔ (count (s .columns) (named s σ) ≡ c)
   unfolding namesAll

@@ -1,8 +1,8 @@
--- Power sums of a word e on the columns 0 .. n − 1, and the polynomials f of degree at most l whose product with the sums S_1 .. S_N vanishes past l.
--- f does so where it has a root at every column of the word; and where N is at least l plus the number of these columns, only then. A sequence that
--- starts with l zeros and has such a polynomial is 0.
+-- Power sums of a word e on the columns 0 .. n − 1, and the polynomials f of degree at most l whose product with them vanishes past l. f does so where it
+-- has a root at every column of the word; and where it does so up to N, at least l plus the number of these columns, only then. A sequence that starts with
+-- l zeros and has such a polynomial is 0.
 -- Assumes nothing.
-use mathlib.Core.Path.{_≡_, sym, ap, _∙_}
+use mathlib.Core.Path.{_≡_, refl, sym, ap, _∙_}
 use mathlib.Core.Bool.{Bool, true, false}
 use mathlib.Core.Logic.{_⊎_, inl, inr}
 use Prim.Native.Nat.{ℕ, zero, suc, _+_, _-_, _≤_, _<_}
@@ -22,36 +22,36 @@ use Rattle.columns.proofs.Listing.{by-test}
 use Rattle.decoding.proofs.ColumnRoots.{Roots}
 use Rattle.frame.proofs.Words.{Outside, word-zero}
 
+-- the power sum of exponent j of the word e
+abbrev pub powerSum : (R : CRing) (n : ℕ) (X e : ℕ → R .car) (j : ℕ) → R .car
+powerSum R n X e j = sum R n (λ i. R .mul (e i) (pow R (X i) j))
+
 module _ (F : Field) (n : ℕ) (X : ℕ → F .ring .car) (distinct : Distinct (F .ring) n X) (nonzero : Nonzero (F .ring) n X)
-    (P : ℕ → Bool) (e S : ℕ → F .ring .car) (outside : Outside (F .ring) n P e) (N : ℕ)
-    (sums : (j : ℕ) → 1 ≤ j → j ≤ N → S j ≡ sum (F .ring) n (λ i. F .ring .mul (e i) (pow (F .ring) (X i) j)))
-    (l : ℕ) (f : ℕ → F .ring .car) (degree : Degree (F .ring) l f) where
+    (P : ℕ → Bool) (e : ℕ → F .ring .car) (outside : Outside (F .ring) n P e) (l : ℕ) (f : ℕ → F .ring .car) (degree : Degree (F .ring) l f) where
   open Field F using (ring as R, inv, mul-inv)
   open CRing R using (car, zero as 𝟘, mul as _⊗_)
 
   infixl 70 _⊗_
-  product : (j : ℕ) → l < j → j ≤ N → conv R f S j ≡ sum R n (λ i. e i ⊗ eval R l f (inv (X i)) ⊗ pow R (X i) j)
-  product j after within =
-      evaluation R n l e X (λ i. inv (X i)) f S (λ i h. mul-inv (X i) (nonzero i h)) degree j (omega arith)
-      (λ k near below. sums k (omega arith) (omega arith))
+  product : (j : ℕ) → l < j → conv R f (powerSum R n X e) j ≡ sum R n (λ i. e i ⊗ eval R l f (inv (X i)) ⊗ pow R (X i) j)
+  product j after =
+      evaluation R n l e X (λ i. inv (X i)) f (powerSum R n X e) (λ i h. mul-inv (X i) (nonzero i h)) degree j (omega arith) (λ _ _ _. refl)
 
   part-outside : Outside R n P (λ i. e i ⊗ eval R l f (inv (X i)))
   part-outside i h out = ap (λ x. x ⊗ eval R l f (inv (X i))) (outside i h out) ∙ zero-mul R _
 
-  pub roots-generate : Roots F n X P l f → (j : ℕ) → l < j → j ≤ N → conv R f S j ≡ 𝟘
-  roots-generate roots j after within =
-      product j after within
-      ∙ sum-zeros R n _ (λ i h. ap (λ x. x ⊗ pow R (X i) j) (part i h (by-test (P i))) ∙ zero-mul R _)
+  pub roots-generate : Roots F n X P l f → (j : ℕ) → l < j → conv R f (powerSum R n X e) j ≡ 𝟘
+  roots-generate roots j after =
+      product j after ∙ sum-zeros R n _ (λ i h. ap (λ x. x ⊗ pow R (X i) j) (part i h (by-test (P i))) ∙ zero-mul R _)
     where
       part : (i : ℕ) → i < n → (P i ≡ true) ⊎ (P i ≡ false) → e i ⊗ eval R l f (inv (X i)) ≡ 𝟘
       part i h (inl mem) = ap (λ x. e i ⊗ x) (roots i h mem) ∙ mul-zero R (e i)
       part i h (inr out) = part-outside i h out
 
-  pub generates-roots : l + count n P ≤ N → ((j : ℕ) → l < j → j ≤ N → conv R f S j ≡ 𝟘)
+  pub generates-roots : (N : ℕ) → l + count n P ≤ N → ((j : ℕ) → l < j → j ≤ N → conv R f (powerSum R n X e) j ≡ 𝟘)
       → (i : ℕ) → i < n → e i ⊗ eval R l f (inv (X i)) ≡ 𝟘
-  generates-roots long zeros =
+  generates-roots N long zeros =
       word-zero F n X distinct nonzero P (λ i. e i ⊗ eval R l f (inv (X i))) part-outside (suc l)
-      (λ j h. sym (product (suc l + j) (omega arith) (omega arith)) ∙ zeros (suc l + j) (omega arith) (omega arith))
+      (λ j h. sym (product (suc l + j) (omega arith)) ∙ zeros (suc l + j) (omega arith) (omega arith))
 
 module _ (R : CRing) where
   open CRing R using (car, zero as 𝟘, one as 𝟙, add as _⊕_, mul as _⊗_, add-zero)

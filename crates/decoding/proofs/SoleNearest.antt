@@ -1,7 +1,7 @@
 -- Where the register of a frame is alone, a codeword at the distance of its length differs in the columns that it names. So one lies there exactly where as
 -- many columns are named, and where no row has fewer checks it is the repaired frame alone: every other legal frame lies farther.
 -- Assumes nothing.
-use mathlib.Core.Path.{_≡_, sym, ap₂, subst, _∙_}
+use mathlib.Core.Path.{_≡_, sym, _∙_}
 use mathlib.Core.Bool.{true}
 use mathlib.Core.List.{List}
 use mathlib.Core.Logic.{_↔_}
@@ -9,28 +9,21 @@ use Prim.Native.Nat.{ℕ, suc, _≤_, _<_}
 use native.Mathlib.Decide.{decLt}
 use native.Mathlib.Omega.{arith}
 use borrow.Author.Tests.{leb-true}
-use Rattle.algebra.specs.Ring.{Field}
-use Rattle.algebra.specs.Polynomial.{eval}
 use Rattle.columns.specs.Listed.{count}
 use Rattle.columns.specs.declared.Columns.{Columns}
-use Rattle.columns.proofs.Subset.{Within, within-le, within-same}
 use Rattle.decoding.specs.Locating.{sizeOf, tapsOf, aloneOf, rowsReach, named, namedColumns, namesAll, repaired}
 use Rattle.decoding.proofs.CompletedCodeword.{completes-codeword, completes-distance, completes-differing}
-use Rattle.decoding.proofs.DamageRegister.{damage-taps, damage-register, damage-roots, no-nearer}
-use Rattle.decoding.proofs.FrameRegister.{register-of-frame, frame-generator}
-use Rattle.decoding.proofs.FrameSums.{poly257}
-use Rattle.decoding.proofs.NamedColumns.{root-named, names-at-most, names-all, has-named, named-below, size-named}
+use Rattle.decoding.proofs.DamageSums.{damage}
+use Rattle.decoding.proofs.FrameRegister.{sequences-below, some-sequence, frame-generator}
+use Rattle.decoding.proofs.NamedColumns.{names-all, has-named, named-below, size-named}
+use Rattle.decoding.proofs.PowerSums.{names-P, names-enough}
 use Rattle.decoding.proofs.RepairedFrame.{Completes, repaired-completes, repaired-only}
 use Rattle.frame.specs.Frame.{sequences, WellFormed, Codeword, Legal, differs, distance, differing}
 use Rattle.frame.specs.Shape.{isShape, checksOf}
 use Rattle.frame.specs.declared.Shape.{Shape}
 use Rattle.frame.proofs.Distances.{agree}
-use Rattle.frame.proofs.Field257.{F257, R257}
-use Rattle.frame.proofs.Locators.{locatorAt}
 use Rattle.frame.proofs.Shapes.{shape-ranges}
 use Rattle.lists.proofs.Tabulated.{every-at}
-use Rattle.register.specs.Register.{Generator}
-open Field F257 using (inv)
 
 pub reach : (s : Shape) (c : ℕ) → rowsReach s c ≡ true → (h : ℕ) → h < s .rows → c ≤ checksOf s h
 unfolding rowsReach
@@ -38,45 +31,35 @@ reach s c e h below = leb-true c (checksOf s h) (every-at (s .rows) _ e h below)
 
 module _ (s : Shape) (shape : isShape s ≡ true) (f : List ℕ) where
   abbrev c : ℕ
-  c = sizeOf s f
+  c = sizeOf (sequences s f)
 
   abbrev σ : List ℕ
-  σ = tapsOf s f
+  σ = tapsOf (sequences s f)
 
   abbrev J : Columns
   J = namedColumns s σ
 
-  module _ (alone : aloneOf s f ≡ true) (e : List ℕ) (code : Codeword s e) (near : distance s e f ≤ c) where
-    at-c : distance s e f ≡ c
-    at-c = omega (arith, no-nearer s shape e f code)
-
-    same-taps : damage-taps s shape e f ≡ σ
-    same-taps =
-        register-of-frame s f shape .alone alone (damage-taps s shape e f)
-        (subst (λ d. Generator 257 d (sequences s f) (damage-taps s shape e f)) at-c (damage-register s shape e f code))
-
-    nearest-named : Within (s .columns) (differs s e f) (named s σ)
-    nearest-named i below differ = root-named s c σ (frame-generator s f shape .register) i below
-        (ap₂ (λ d τ. eval R257 d (poly257 τ) (inv (locatorAt i))) (sym at-c) (sym same-taps) ∙ damage-roots s shape e f i below differ)
-
-    pub nearest-names-all : count (s .columns) (named s σ) ≡ c
+  module _ (alone : aloneOf (sequences s f) ≡ true) (e : List ℕ) (code : Codeword s e) (near : distance s e f ≤ c) where
+    nearest-enough : namesAll s σ c ≡ true
     unfolding distance
-    nearest-names-all =
-        omega (arith, within-le (s .columns) (differs s e f) (named s σ) nearest-named, names-at-most s c σ (frame-generator s f shape .register) shape, at-c)
+    nearest-enough =
+        names-enough s shape (sequences s f) (some-sequence s f shape) (sequences-below s f) (damage s e f code) alone near
 
     nearest-differs : (i : ℕ) → i < s .columns → differs s e f i ≡ named s σ i
     unfolding distance
-    nearest-differs = within-same (s .columns) (differs s e f) (named s σ) nearest-named (at-c ∙ sym nearest-names-all)
+    nearest-differs =
+        names-P s shape (sequences s f) (some-sequence s f shape) (sequences-below s f) (damage s e f code) alone near
 
-    pub nearest-completes : WellFormed s e → rowsReach s c ≡ true → Completes s J f e
+    nearest-completes : WellFormed s e → rowsReach s c ≡ true → Completes s J f e
     nearest-completes wf reaches =
         record {
           well-formed = wf;
           kept = λ h i below inside out.
               let few = shape-ranges s shape .columns-most in
               agree s e f i (nearest-differs i inside ∙ sym (has-named s σ i (omega arith)) ∙ out) h below;
-          zeros = λ h j below few. code h (suc j) below (omega arith)
-              (omega (arith, reach s c reaches h below, size-named s σ shape, nearest-names-all));
+          zeros = λ h j below few.
+              let all = names-all s c σ (frame-generator s f shape .register) shape .0 nearest-enough in
+              code h (suc j) below (omega arith) (omega (arith, reach s c reaches h below, size-named s σ shape));
         }
 
   -- ---- the repaired frame
@@ -99,13 +82,12 @@ module _ (s : Shape) (shape : isShape s ≡ true) (f : List ℕ) where
       pub mended-differing : differing s (repaired s J f) f ≡ J
       mended-differing = completes-differing s shape f names-count (repaired s J f) completes
 
-    module _ (alone : aloneOf s f ≡ true) where
+    module _ (alone : aloneOf (sequences s f) ≡ true) where
       -- document 01: a legal frame lies at distance c
       pub legal-at-size : (namesAll s σ c ≡ true) ↔ ((g : List ℕ) × Legal s g × (distance s g f ≡ c))
       legal-at-size = (
         λ all. (repaired s J f, mended-legal all, mended-distance all),
-        λ (g, legal, at). names-all s c σ (frame-generator s f shape .register) shape .1
-            (nearest-names-all alone g (legal .codeword) (let d : distance s g f ≤ c = omega arith in d)),
+        λ (g, legal, at). nearest-enough alone g (legal .codeword) (let d : distance s g f ≤ c = omega arith in d),
       )
 
       module _ (reaches : rowsReach s c ≡ true) (e : List ℕ) (legal : Legal s e) where
