@@ -11,20 +11,16 @@ use borrow.Rule.Slice.PartMut.{midOf, putMid, mid-len, same-len-mid}
 use Rattle.lists.specs.Tabulate.{tabulate, joined}
 use Rattle.lists.proofs.Zeros.{zeros, drop-zeros}
 use Rattle.lists.proofs.Joined.{joined-zero, joined-more}
-use Rattle.frame.specs.Frame.{row, checkSums, sequences, heldSums}
+use Rattle.frame.specs.Frame.{row, checkSums, rowSums, sequences, heldSums}
 use Rattle.frame.specs.Shape.{checksOf}
 use Rattle.frame.specs.declared.Shape.{Shape}
-use Rattle.codec.proofs.RowSums.{length-checkSums}
+use Rattle.frame.proofs.HeldSums.{length-rowSums}
 use Rattle.codec.proofs.RowPlace.{RowPlace}
 
 module _ (s : Shape) (f : List ℕ) where
-  -- the check sums of row h
-  abbrev sumsOf : ℕ → List ℕ
-  sumsOf h = checkSums (s .columns) (checksOf s h) (row (s .columns) f h)
-
-  -- those of the rows before h
+  -- the check sums of the rows before h
   abbrev before : ℕ → List ℕ
-  before h = joined (tabulate h sumsOf)
+  before h = joined (tabulate h (rowSums s f))
 
   -- after h rows `at` entries are written, and the rest is 0
   pub record Held (h at : ℕ) (sums : List ℕ) : Type 0 where
@@ -39,8 +35,8 @@ module _ (s : Shape) (f : List ℕ) where
     rows-passed = zero-le;
     room = zero-le;
     size = refl;
-    place = ap length (joined-zero sumsOf);
-    entries = ap (λ (l : List ℕ). l ++ replicate 512 0) (sym (joined-zero sumsOf));
+    place = ap length (joined-zero (rowSums s f));
+    entries = ap (λ (l : List ℕ). l ++ replicate 512 0) (sym (joined-zero (rowSums s f)));
   }
 
   module _ (h at : ℕ) (sums : List ℕ) (a : Held h at sums) (r : RowPlace s (length f) h) where
@@ -69,32 +65,33 @@ module _ (s : Shape) (f : List ℕ) where
         let q = mid-len at to sums (let e = ends in let z = a .size in omega arith) in
         omega arith
 
-    one-row-more : before (h + 1) ≡ before h ++ sumsOf h
-    one-row-more = ap before (add-one h) ∙ joined-more h sumsOf
+    one-row-more : before (h + 1) ≡ before h ++ rowSums s f h
+    one-row-more = ap before (add-one h) ∙ joined-more h (rowSums s f)
+
+    sums-of-row : (y : List ℕ) → y ≡ checkSums (length place-of-row) (length (midOf at (to - at) sums)) place-of-row → y ≡ rowSums s f h
+    unfolding rowSums
+    sums-of-row y e =
+        e ∙ ap₂ (λ (k m : ℕ). checkSums k m place-of-row) length-row length-part
+        ∙ ap (checkSums (s .columns) (checksOf s h)) is-row
 
     pub held-more : (y : List ℕ) → h < s .rows → y ≡ checkSums (length place-of-row) (length (midOf at (to - at) sums)) place-of-row
         → Held (h + 1) to (putMid at (to - at) sums y)
     held-more y l e = record {
       rows-passed = omega arith;
       room = (let q = a .room in let c = r .checks .most in omega arith);
-      size = same-len-mid at (to - at) sums y (ap length is ∙ length-checkSums _ _ _ ∙ sym length-part) ∙ a .size;
+      size = same-len-mid at (to - at) sums y (ap length (sums-of-row y e) ∙ length-rowSums s f h ∙ sym length-part) ∙ a .size;
       place =
-          ap length one-row-more ∙ length-append (before h) (sumsOf h) ∙ ap₂ _+_ (a .place) (length-checkSums _ _ _);
+          ap length one-row-more ∙ length-append (before h) (rowSums s f h) ∙ ap₂ _+_ (a .place) (length-rowSums s f h);
       entries =
           ap₂ (λ (b z : List ℕ). b ++ (y ++ drop (to - at) z)) (ap (take at) (a .entries) ∙ take-at (before h) (zeros (512 - at)) at (a .place))
           (ap (drop at) (a .entries) ∙ drop-at (before h) (zeros (512 - at)) at (a .place))
-          ∙ ap₂ (λ (b z : List ℕ). before h ++ (b ++ z)) is
+          ∙ ap₂ (λ (b z : List ℕ). before h ++ (b ++ z)) (sums-of-row y e)
           (ap₂ (λ (k m : ℕ). drop k (zeros m)) (let q : to - at ≡ checksOf s h = omega arith in q)
           (let g = ends in let q : 512 - at ≡ checksOf s h + (512 - to) = omega arith in q)
           ∙ drop-zeros (checksOf s h) (512 - to))
-          ∙ sym (append-assoc (before h) (sumsOf h) (zeros (512 - to)))
+          ∙ sym (append-assoc (before h) (rowSums s f h) (zeros (512 - to)))
           ∙ ap (λ (b : List ℕ). b ++ zeros (512 - to)) (sym one-row-more);
     }
-      where
-        is : y ≡ sumsOf h
-        is =
-            e ∙ ap₂ (λ (k m : ℕ). checkSums k m place-of-row) length-row length-part
-            ∙ ap (checkSums (s .columns) (checksOf s h)) is-row
 
   pub held-all : (h at : ℕ) (sums : List ℕ) → Held h at sums → s .rows ≤ h → sums ≡ heldSums s f
   unfolding heldSums sequences

@@ -11,6 +11,5 @@ pub mod Multiplication
 pub mod Padding
 pub mod PowerTable
 pub mod RowPlace
-pub mod RowSums
 pub mod ShapeTests
 pub mod Testing

@@ -13,7 +13,8 @@ use lib.ListN.{length, getD, set, take, drop, length-set}
 use borrow.Author.Tests.{eq-eqb, ne-eqb, lt-ltb, le-ltb}
 use borrow.Rule.Slice.PartMut.{midOf, putMid, mid-len, set-mid-at}
 use Rattle.field.specs.Total.{total}
-use Rattle.field.proofs.Totals.{total-ext}
+use Rattle.field.proofs.Totals.{total-ext, total-zero, total-suc}
+use Rattle.frame.specs.Frame.{sumsBefore}
 use Rattle.frame.specs.Shape.{checksOf}
 use Rattle.frame.specs.declared.Shape.{Shape}
 use Rattle.lists.specs.Tabulate.{tabulate}
@@ -21,15 +22,7 @@ use Rattle.lists.proofs.Entries.{getD-part, getD-take-past}
 use Rattle.lists.proofs.Filling.{by-entries, set-tabulate}
 use Rattle.lists.proofs.Tabulated.{getD-tabulate, tabulate-ext}
 use Rattle.codec.proofs.RowPlace.{RowPlace}
-use Rattle.completion.specs.Mending.{mendedColumn, readAt, sumsAt}
-
-pub sumsAt-zero : (s : Shape) → sumsAt s 0 ≡ 0
-unfolding sumsAt
-sumsAt-zero s = refl
-
-pub sumsAt-suc : (s : Shape) (h : ℕ) → sumsAt s (suc h) ≡ sumsAt s h + checksOf s h
-unfolding sumsAt
-sumsAt-suc s h = refl
+use Rattle.completion.specs.Mending.{mendedColumn, readAt}
 
 -- the cell of row h in column i: its column and its row
 pub column-of : (n h i : ℕ) → i < n → (h * n + i) % n ≡ i
@@ -70,7 +63,7 @@ module _ (s : Shape) (coefficients sums : List ℕ) (i : ℕ) (f : List ℕ) whe
 
   -- cell t, mended or not
   abbrev chosen : ℕ → Bool → ℕ
-  chosen t b = cond b ((getD f t 0 + readAt coefficients sums (sumsAt s (t / n))) % 257) (getD f t 0)
+  chosen t b = cond b ((getD f t 0 + readAt coefficients sums (sumsBefore s (t / n))) % 257) (getD f t 0)
 
   -- whether cell t is in the column, in a row before h
   abbrev done : (h t : ℕ) → Bool
@@ -82,7 +75,7 @@ module _ (s : Shape) (coefficients sums : List ℕ) (i : ℕ) (f : List ℕ) whe
   -- h rows are mended, and the sums of row h begin at `at`
   pub record Mended (h at : ℕ) (l : List ℕ) : Type 0 where
     pub rows-passed : h ≤ s .rows
-    pub place : at ≡ sumsAt s h
+    pub place : at ≡ sumsBefore s h
     pub room : at ≤ 64 * h
     pub size : length l ≡ length f
     pub entries : l ≡ tabulate (length f) (λ t. chosen t (done h t))
@@ -90,7 +83,7 @@ module _ (s : Shape) (coefficients sums : List ℕ) (i : ℕ) (f : List ℕ) whe
   pub mended-none : Mended 0 0 f
   mended-none = record {
     rows-passed = zero-le;
-    place = sym (sumsAt-zero s);
+    place = sym (total-zero (checksOf s));
     room = zero-le;
     size = refl;
     entries = by-entries (length f) (λ t. chosen t (done 0 t)) f refl (λ t _. ap (chosen t) (sym (not-done 0 t zero-le)));
@@ -121,14 +114,14 @@ module _ (s : Shape) (coefficients sums : List ℕ) (i : ℕ) (f : List ℕ) whe
         → Mended (h + 1) (at + count) (set l (h * n + i) ((getD l (h * n + i) 0 + symbol) % 257))
     written symbol count next read c = record {
       rows-passed = omega arith;
-      place = ap₂ _+_ (a .place) c ∙ sym (ap (sumsAt s) (add-one h) ∙ sumsAt-suc s h);
+      place = ap₂ _+_ (a .place) c ∙ sym (ap (sumsBefore s) (add-one h) ∙ total-suc h (checksOf s));
       room = (let q = a .room in let b = r .checks .most in omega arith);
       size = length-set l (h * n + i) _ ∙ a .size;
       entries =
           ap (λ (x : List ℕ). set x (h * n + i) ((getD l (h * n + i) 0 + symbol) % 257)) (a .entries)
           ∙ set-tabulate (length f) (λ t. chosen t (done h t)) (λ t. chosen t (done (h + 1) t)) (h * n + i) _ within
           (ap₂ (λ (y z : ℕ). (y + z) % 257) unmended
-          (read ∙ ap (readAt coefficients sums) (a .place ∙ ap (sumsAt s) (sym (row-of n h i inside))))
+          (read ∙ ap (readAt coefficients sums) (a .place ∙ ap (sumsBefore s) (sym (row-of n h i inside))))
           ∙ ap (chosen (h * n + i)) (sym here))
           (λ t _ d. ap (chosen t) (other t d (ℕ-discrete (t % n) i)));
     }

@@ -3,14 +3,13 @@
 use mathlib.Core.Path.{_≡_, refl, sym, ap, ap₂, _∙_}
 use mathlib.Core.Logic.{_⊎_, inl, inr}
 use mathlib.Core.Bool.{Bool, true, false, cond}
-use mathlib.Core.List.{List, [], _∷_, _++_, append-assoc, append-nil}
+use mathlib.Core.List.{List, [], _∷_}
 use Prim.Native.Nat.{ℕ, zero, suc, _+_, _-_, _*_, _/_, _%_, _≤_, _<_}
 use native.Mathlib.Nat.{mod-lt}
-use native.Mathlib.Decide.{decLt, ℕ-discrete}
+use native.Mathlib.Decide.{decLt}
 use native.Mathlib.Omega.{arith}
 use lib.Dec.{lit<}
-use lib.ListN.{length, getD, replicate, length-append, List·getD-append, List·getD-eq-default}
-use lib.Seq.{getD-append-add}
+use lib.ListN.{length, getD, List·getD-eq-default}
 use Rattle.algebra.specs.Ring.{CRing}
 use Rattle.algebra.proofs.Solver.{:0, :1, _:+_, _:-_, :neg, _:=_, _:×_:≡_:⇒_, solve}
 use Rattle.columns.specs.Columns.{has, members}
@@ -22,65 +21,35 @@ use Rattle.field.proofs.Prime257.{prime-257}
 use Rattle.field.proofs.Totals.{total-ext}
 use Rattle.frame.specs.Completion.{completed}
 use Rattle.frame.specs.Encode.{eachRow}
-use Rattle.frame.specs.Frame.{cell, checkSum, checkSums, heldSums, row, sequences}
+use Rattle.frame.specs.Frame.{cell, checkSum, checkSums, heldSums, row, rowSums, sumsBefore}
 use Rattle.frame.specs.Shape.{checksOf, isShape}
 use Rattle.frame.specs.declared.Shape.{Shape}
 use Rattle.frame.proofs.CheckSums.{checkSum-below, res-checkSum, rowSum, rowSum-sub, symbols}
 use Rattle.frame.proofs.ClosedForm.{symbolFor, symbols-sum}
 use Rattle.frame.proofs.CompletedFrames.{completedFrame-only}
 use Rattle.frame.proofs.Field257.{R257, res257, res-tells-zero}
+use Rattle.frame.proofs.HeldSums.{held-row}
 use Rattle.frame.proofs.Members.{Below}
 use Rattle.frame.proofs.Rows.{cell-place, length-row, row-cell, row-end}
 use Rattle.frame.proofs.Shapes.{shape-ranges}
-use Rattle.lists.specs.Tabulate.{joined, tabulate}
-use Rattle.lists.proofs.Joined.{joined-zero, joined-more}
+use Rattle.lists.specs.Tabulate.{tabulate}
+use Rattle.lists.proofs.Entries.{getD-part}
 use Rattle.lists.proofs.Tabulated.{getD-tabulate, length-tabulate}
-use Rattle.codec.proofs.RowSums.{length-checkSums}
-use Rattle.completion.specs.Mending.{readAt, sumsAt}
+use Rattle.completion.specs.Mending.{readAt}
 use Rattle.completion.specs.Weights.{coefficient}
-use Rattle.completion.proofs.ColumnMending.{column-of, row-of, sumsAt-zero, sumsAt-suc}
+use Rattle.completion.proofs.ColumnMending.{column-of, row-of}
 use Rattle.completion.proofs.Mending.{chosen}
 use Rattle.completion.proofs.ReadForm.{symbol-form}
 open CRing R257 using (car, zero as 𝟘, add as _⊕_, neg, add-neg)
 
 infixl 60 _⊕_
--- ---- the sums of a row among those of all rows
-
-module _ (s : Shape) (f : List ℕ) where
-  abbrev sumsOf : ℕ → List ℕ
-  sumsOf h = checkSums (s .columns) (checksOf s h) (row (s .columns) f h)
-
-  abbrev before : ℕ → List ℕ
-  before h = joined (tabulate h sumsOf)
-
-  place-of-sums : (h : ℕ) → length (before h) ≡ sumsAt s h
-  place-of-sums zero = ap length (joined-zero sumsOf) ∙ sym (sumsAt-zero s)
-  place-of-sums (suc h) =
-      ap length (joined-more h sumsOf) ∙ length-append (before h) (sumsOf h) ∙ ap₂ _+_ (place-of-sums h) (length-checkSums _ _ _)
-      ∙ sym (sumsAt-suc s h)
-
-  -- the sums of the rows up to h stand first
-  first : (h r : ℕ) → h < r → (rest : List ℕ) × (before r ≡ before (suc h) ++ rest)
-  first h zero l = absurd (let z : ⊥ = omega arith in z)
-  first h (suc r) l = pick (ℕ-discrete h r) (first h r)
-    where
-      pick : Dec (h ≡ r) → (h < r → (rest : List ℕ) × (before r ≡ before (suc h) ++ rest)) → (rest : List ℕ) × (before (suc r) ≡ before (suc h) ++ rest)
-      pick (yes e) ih = ([], ap (λ (k : ℕ). before (suc k)) (sym e) ∙ sym (append-nil (before (suc h))))
-      pick (no e) ih =
-          let (rest, q) = ih (omega arith) in
-          (rest ++ sumsOf r, joined-more r sumsOf ∙ ap (λ (l : List ℕ). l ++ sumsOf r) q ∙ append-assoc (before (suc h)) rest (sumsOf r))
-
-  held-sum : (h j : ℕ) → h < s .rows → j < checksOf s h → getD (heldSums s f) (sumsAt s h + j) 0 ≡ checkSum (s .columns) (row (s .columns) f h) (suc j)
-  unfolding heldSums sequences checkSums
-  held-sum h j l b =
-      let (rest, q) = first h (s .rows) l in
-      let zeros : List ℕ = replicate (512 - length (before (s .rows))) 0 in
-      ap (λ (x : List ℕ). getD (x ++ zeros) (sumsAt s h + j) 0) (q ∙ ap (λ (x : List ℕ). x ++ rest) (joined-more h sumsOf))
-      ∙ ap (λ (x : List ℕ). getD x (sumsAt s h + j) 0) (append-assoc (before h ++ sumsOf h) rest zeros ∙ append-assoc (before h) (sumsOf h) (rest ++ zeros))
-      ∙ ap (λ (k : ℕ). getD (before h ++ (sumsOf h ++ (rest ++ zeros))) (k + j) 0) (sym (place-of-sums h))
-      ∙ getD-append-add (before h) (sumsOf h ++ (rest ++ zeros)) j 0
-      ∙ List·getD-append (sumsOf h) (rest ++ zeros) 0 j (let e = length-checkSums (s .columns) (checksOf s h) (row (s .columns) f h) in omega arith)
-      ∙ getD-tabulate (checksOf s h) _ j 0 b
+-- sum j of row h among those that are held
+held-sum : (s : Shape) (f : List ℕ) (h j : ℕ) → h < s .rows → j < checksOf s h
+    → getD (heldSums s f) (sumsBefore s h + j) 0 ≡ checkSum (s .columns) (row (s .columns) f h) (suc j)
+unfolding rowSums checkSums
+held-sum s f h j l b =
+    sym (getD-part (sumsBefore s h) (checksOf s h) (heldSums s f) j 0 b) ∙ ap (λ (x : List ℕ). getD x j 0) (held-row s f h l)
+    ∙ getD-tabulate (checksOf s h) _ j 0 b
 
 -- ---- the frame
 
@@ -108,10 +77,10 @@ module _ (J : Columns) (s : Shape) (f : List ℕ) (shape : isShape s ≡ true) (
     abbrev symbol : ℕ → ℕ
     symbol i = symbolFor J (checkSum n x) m i
 
-    read : (i : ℕ) → readAt (tabulate m (coefficient J i)) (heldSums s f) (sumsAt s h) ≡ symbol i
+    read : (i : ℕ) → readAt (tabulate m (coefficient J i)) (heldSums s f) (sumsBefore s h) ≡ symbol i
     unfolding readAt
     read i =
-        ap (λ (k : ℕ). total k (λ t. getD (tabulate m (coefficient J i)) t 0 * getD (heldSums s f) (sumsAt s h + (k - suc t)) 0) % 257) (length-tabulate m (coefficient J i))
+        ap (λ (k : ℕ). total k (λ t. getD (tabulate m (coefficient J i)) t 0 * getD (heldSums s f) (sumsBefore s h + (k - suc t)) 0) % 257) (length-tabulate m (coefficient J i))
         ∙ ap (λ (t : ℕ). t % 257) (total-ext m _ _ (λ t l.
         ap₂ _*_ (getD-tabulate m (coefficient J i) t 0 l)
         (held-sum s f h (m - suc t) r (let b = reach h r in omega arith) ∙ ap (checkSum n x) (let q : suc (m - suc t) ≡ m - t = omega arith in q))))
@@ -120,7 +89,7 @@ module _ (J : Columns) (s : Shape) (f : List ℕ) (shape : isShape s ≡ true) (
     cell-mended : (i : ℕ) → i < n → cell n mended h i ≡ cond (has J i) ((cell n f h i + symbol i) % 257) (cell n f h i)
     cell-mended i l =
         getD-tabulate (length f) (λ t. chosen J s (heldSums s f) f t (has J (t % n))) (h * n + i) 0 (let p = cell-place n (s .rows) h i r l in omega arith)
-        ∙ ap₂ (λ (c k : ℕ). cond (has J c) ((cell n f h i + readAt (tabulate m (coefficient J c)) (heldSums s f) (sumsAt s k)) % 257) (cell n f h i))
+        ∙ ap₂ (λ (c k : ℕ). cond (has J c) ((cell n f h i + readAt (tabulate m (coefficient J c)) (heldSums s f) (sumsBefore s k)) % 257) (cell n f h i))
         (column-of n h i l) (row-of n h i l)
         ∙ ap (λ (y : ℕ). cond (has J i) ((cell n f h i + y) % 257) (cell n f h i)) (read i)
 

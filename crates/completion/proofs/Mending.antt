@@ -12,11 +12,12 @@ use borrow.Author.Tests.{eq-eqb, ne-eqb}
 use Rattle.columns.specs.Columns.{has, members}
 use Rattle.columns.specs.declared.Columns.{Columns}
 use Rattle.columns.proofs.Walk.{Walk, nextAt, walk-start, walk-next}
+use Rattle.frame.specs.Frame.{sumsBefore}
 use Rattle.frame.specs.declared.Shape.{Shape}
 use Rattle.lists.specs.Tabulate.{tabulate}
 use Rattle.lists.proofs.Filling.{by-entries}
 use Rattle.lists.proofs.Tabulated.{getD-tabulate, length-tabulate, tabulate-ext}
-use Rattle.completion.specs.Mending.{mendedColumn, readAt, sumsAt}
+use Rattle.completion.specs.Mending.{mendedColumn, readAt}
 use Rattle.completion.specs.Weights.{coefficient}
 use Rattle.completion.proofs.Passing.{passed, passed-none, not-yet, passed-here, passed-other, passed-all}
 
@@ -29,7 +30,7 @@ module _ (J : Columns) (s : Shape) (sums f : List ℕ) where
 
   -- cell t, mended or not
   abbrev pub chosen : ℕ → Bool → ℕ
-  chosen t b = cond b ((getD f t 0 + readAt (coefficientsOf (t % n)) sums (sumsAt s (t / n))) % 257) (getD f t 0)
+  chosen t b = cond b ((getD f t 0 + readAt (coefficientsOf (t % n)) sums (sumsBefore s (t / n))) % 257) (getD f t 0)
 
   -- the first d columns of the set are mended, and the walk stands at i
   pub record Mending (d i : ℕ) (l : List ℕ) : Type 0 where
@@ -58,12 +59,12 @@ module _ (J : Columns) (s : Shape) (sums f : List ℕ) where
         entry t h = ap (λ (x : List ℕ). getD x t 0) (w .entries) ∙ getD-tabulate (length f) (λ t. chosen t (passed J i (t % n))) t 0 h
 
         new : (t : ℕ) → Bool → ℕ
-        new t b = cond b ((getD l t 0 + readAt coefficients sums (sumsAt s (t / n))) % 257) (getD l t 0)
+        new t b = cond b ((getD l t 0 + readAt coefficients sums (sumsBefore s (t / n))) % 257) (getD l t 0)
 
         at : (t : ℕ) → t < length f → Dec (t % n ≡ i) → new t (eqb (t % n) i) ≡ chosen t (passed J j (t % n))
         at t h (yes q) =
             ap (new t) (eq-eqb (t % n) i q)
-            ∙ ap₂ (λ (x : ℕ) (z : List ℕ). (x + readAt z sums (sumsAt s (t / n))) % 257)
+            ∙ ap₂ (λ (x : ℕ) (z : List ℕ). (x + readAt z sums (sumsBefore s (t / n))) % 257)
             (entry t h ∙ ap (chosen t) (ap (passed J i) q ∙ not-yet J d i (w .walk) j inside next)) (c ∙ ap coefficientsOf (sym q))
             ∙ ap (chosen t) (sym (ap (passed J j) q ∙ passed-here J d i (w .walk) j inside next))
         at t h (no q) =

@@ -1,18 +1,13 @@
 -- Mending a column of a frame: what is read off the check sums of each row is added to the cell that the column has in the row.
 use mathlib.Core.Bool.{cond}
 use mathlib.Core.List.{List}
-use Prim.Native.Nat.{ℕ, zero, suc, _+_, _-_, _*_, _/_, _%_}
+use Prim.Native.Nat.{ℕ, suc, _+_, _-_, _*_, _/_, _%_}
 use lib.Dec.{eqb}
 use lib.ListN.{length, getD}
 use Rattle.field.specs.Total.{total}
-use Rattle.frame.specs.Shape.{checksOf}
+use Rattle.frame.specs.Frame.{sumsBefore}
 use Rattle.frame.specs.declared.Shape.{Shape}
 use Rattle.lists.specs.Tabulate.{tabulate}
-
--- where the check sums of row h begin among those of all rows
-unfoldable pub sumsAt : Shape → (h : ℕ) → ℕ
-sumsAt s zero = 0
-sumsAt s (suc h) = sumsAt s h + checksOf s h
 
 -- what is read off the sums from place a on: coefficient k times the sum that stands k places before the last
 unfoldable pub readAt : (coefficients sums : List ℕ) (a : ℕ) → ℕ
@@ -21,4 +16,4 @@ readAt coefficients sums a =
 
 unfoldable pub mendedColumn : Shape → (coefficients sums : List ℕ) (i : ℕ) (f : List ℕ) → List ℕ
 mendedColumn s coefficients sums i f =
-    tabulate (length f) (λ t. cond (eqb (t % s .columns) i) ((getD f t 0 + readAt coefficients sums (sumsAt s (t / s .columns))) % 257) (getD f t 0))
+    tabulate (length f) (λ t. cond (eqb (t % s .columns) i) ((getD f t 0 + readAt coefficients sums (sumsBefore s (t / s .columns))) % 257) (getD f t 0))
