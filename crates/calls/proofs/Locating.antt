@@ -16,16 +16,26 @@ use Rattle.decoding.proofs.SequenceRegister.{generator-of, length-taps}
 use Rattle.decoding.proofs.NamedColumns.{size-named}
 use Rattle.field.specs.Total.{total}
 use Rattle.finder.specs.Finder.{Answer, answer, tapsLeft, register, refused}
-use Rattle.frame.specs.Frame.{heldSequences}
+use Rattle.frame.specs.Frame.{heldSums, heldSequences}
 use Rattle.frame.specs.Shape.{checksOf, isShape}
 use Rattle.frame.specs.declared.Shape.{Shape}
 use Rattle.job.specs.Answers.{answeredOutcome}
 use Rattle.job.specs.Calls.{Outcome, refusing, registerTests}
-use Rattle.job.specs.Job.{Arrays, withFound, shapedJob}
+use Rattle.job.specs.Job.{Arrays, beside, withSums, withTaps, withFound, shapedJob}
 use Rattle.job.specs.declared.Answered.{Answered}
+use Rattle.job.specs.declared.Head.{Head}
+use Rattle.job.specs.declared.Reply.the-variants.{Count, Refused}
+use Rattle.refusal.specs.Number.{number}
+use Rattle.refusal.specs.declared.Refusal.{Refusal}
 use Rattle.calls.specs.Answered as answer-of
 use Rattle.calls.specs.FromSums.{fromSums, sumsLeft}
 use Rattle.calls.proofs.Lending.{held-some, held-below, lent-answer, lent-taps, size-most}
+
+-- a refusal leaves the sums and the taps
+pub refusal-left : (a : Arrays) (new taps f : List ℕ) {r : Answered} {i j : Head} (why : Refusal) → r ≡ answer-of.refusal i why → i ≡ j
+    → answeredOutcome r (withFound a (sumsLeft (r .reply) (a .sums) new) taps) f ≡ refusing (beside j (withTaps a taps)) f (number why)
+refusal-left a new taps f why e g =
+    ap (λ x. answeredOutcome x (withFound a (sumsLeft (x .reply) (a .sums) new) taps) f) (e ∙ ap (λ k. answer-of.refusal k why) g)
 
 -- what the finder has answered and left in the buffer
 pub record Seen (ss : List (List ℕ)) (l : ℕ) (a : Bool) (buffer : List ℕ) : Type 0 where
@@ -101,3 +111,17 @@ module _ (s : Shape) (sums : List ℕ) (shape : isShape s ≡ true) (small : (k 
           gives-columns e enough =
               rw (sym (see .alone) ∙ alone, ap (rowsReach s) (sym (see .size)) ∙ reach, names ∙ ap not (le-ltb _ l enough))
               (let n = see .size in let b = see .taps in let m = marked in rw (e, n, b, m) refl)
+
+-- ---- from the sums of a frame
+
+module _ (s : Shape) (f old new taps left : List ℕ) (r : Answered)
+    (located : (a : Arrays) (g : List ℕ) → answeredOutcome r (withFound a (sumsLeft (r .reply) (a .sums) new) left) g ≡ fromSums s (withTaps a taps) new g)
+    (held : new ≡ heldSums s f) (a : Arrays) where
+  from-frame : answeredOutcome r (withFound a (sumsLeft (r .reply) old new) left) f ≡ fromSums s (withFound a old taps) (heldSums s f) f
+  from-frame = located (withSums a old) f ∙ ap (λ sums. fromSums s (withFound a old taps) sums f) held
+
+  pub sums-kept : (why : Refusal) → r .reply ≡ Refused why → answeredOutcome r (withFound a old left) f ≡ fromSums s (withFound a old taps) (heldSums s f) f
+  sums-kept why e = ap (λ x. answeredOutcome r (withFound a (sumsLeft x old new) left) f) (sym e) ∙ from-frame
+
+  pub sums-written : (c : ℕ) → r .reply ≡ Count c → answeredOutcome r (withFound a new left) f ≡ fromSums s (withFound a old taps) (heldSums s f) f
+  sums-written c e = ap (λ x. answeredOutcome r (withFound a (sumsLeft x old new) left) f) (sym e) ∙ from-frame

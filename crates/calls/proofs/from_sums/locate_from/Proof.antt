@@ -1,45 +1,60 @@
 -- `calls::from_sums::locate_from` meets its contract. Assumes nothing.
 use mathlib.Core.Path.{_≡_, sym, ap, _∙_}
+use mathlib.Core.Bool.{true}
+use Prim.Native.Nat.{ℕ, _<_}
 use native.Mathlib.Omega.{arith}
-use lib.ListN.{length}
+use lib.ListN.{length, getD}
 use denote.Ref.{now}
 use borrow.Author.Tests.{not-true, not-false}
+use Rattle.decoding.specs.Locating.{rowsReach}
 use Rattle.finder.specs.Finder.{answerOf}
+use Rattle.frame.specs.Frame.{heldSequences}
 use Rattle.frame.proofs.Shapes.{shape-ranges}
-use Rattle.calls.proofs.Steps.{refusal-outcome}
-use Rattle.calls.proofs.Locating.{Seen, passes, never-refused, seen, length-most, front-short, first-tap, gives-24, gives-25, gives-26, gives-columns}
+use Rattle.calls.proofs.Lending.{lent-passed}
+use Rattle.calls.proofs.Locating.{refusal-left, Seen, never-refused, seen, length-most, front-short, first-tap, gives-24, gives-25, gives-26, gives-columns}
 use borrow.Author.Needs.{needs}
 use Rattle.calls.proofs.from_sums.locate_from.Statement.{statement}
 use Rattle.calls.proofs.from_sums.locate_from.Tie as tie
 
-frame-sums-requires : tie.Need-frame-sums-requires
-frame-sums-requires c κs = search needs
+-- ---- the ways back
+
+abbrev start-of : tie.After-shortest → tie.Start
+start-of c = c .before .before .before
+
+abbrev searched : tie.After-found → tie.After-shortest
+searched c = c .before .before .before
+
+abbrev found-before : tie.Else2 → tie.After-found
+found-before c = c .before .before .before .before
+
+-- ---- the finder
+
+eight : (c : tie.Start) → length (c .args .s .checks) ≡ 8
+eight c = search needs
+
+sized : (c : tie.After-shortest-arg) → length (now (c .before .args .sums)) ≡ 512
+sized c = search needs
 
 slice-aggregate-shortest : tie.Need-slice-aggregate-shortest
 slice-aggregate-shortest c = search needs
 
-slice-aggregate-shortest-2 : tie.Need-slice-aggregate-shortest-2
-slice-aggregate-shortest-2 c = search needs
-
 shortest-requires : tie.Need-shortest-requires
 shortest-requires c κs =
-    let summed = c .before .before in
-    let start = summed .before .before in
-    let sized : length (summed .frame-sums .result) ≡ 512 = search needs in
-    (start .pre .0, sized, passes (start .args .s) (now (start .args .frame)) (start .pre .0) (search needs) _ (summed .frame-sums .ensures))
+    let start = c .before .before in
+    (start .pre .0, sized (c .before), lent-passed (start .args .s) (now (start .args .sums)) (start .pre .0) (start .pre .1) (eight start) (sized (c .before)))
 
 enum-known-found : tie.Need-enum-known-found
 enum-known-found c = search needs
 
 -- what is seen where the finder has not refused
 see : (c : tie.After-found) →
-    Seen (c .before .before .before .before .before .before .before .before .args .s) (now (c .before .before .before .before .before .before .before .before .args .frame))
-    (c .found .given .0 .0) (c .found .given .0 .1 .0) (c .before .before .before .shortest .last .1 .1 .0)
+    let start = start-of (searched c) in
+    Seen (heldSequences (start .args .s) (now (start .args .sums))) (c .found .given .0 .0) (c .found .given .0 .1 .0) (searched c .shortest .last .1 .1 .0)
 see c =
-    let start = c .before .before .before .before .before .before .before .before in
-    let finds = c .before .before .before .shortest .ensures in
-    seen (start .args .s) (now (start .args .frame)) (start .pre .0) (search needs) _ (c .before .before .before .before .before .before .frame-sums .ensures)
-    _ _ _ (sym (ap answerOf (c .found .given .1)) ∙ finds .answers) (finds .leaves)
+    let start = start-of (searched c) in
+    let finds = searched c .shortest .ensures in
+    seen (start .args .s) (now (start .args .sums)) (start .pre .0) (start .pre .1) (eight start) (sized (searched c .before .before)) _ _ _
+    (sym (ap answerOf (c .found .given .1)) ∙ finds .answers) (finds .leaves)
 
 enum-told : tie.Need-enum-told
 enum-told c = search needs
@@ -50,11 +65,16 @@ shaped-requires c κs = search needs
 refuse-requires : tie.Need-refuse-requires
 refuse-requires c κs = search needs
 
+-- the finder never refuses
 returns : tie.Need-returns
 returns c =
-    let start = c .before .before .before .before .before .before .before .before .before .before in
-    λ a. absurd (never-refused (start .args .s) (now (start .args .frame)) (start .pre .0) (search needs) _ (c .before .before .before .before .before .before .before .before .frame-sums .ensures) _
-    (sym (ap answerOf (c .before .before .enum-told .given .1)) ∙ c .before .before .before .before .before .shortest .ensures .answers))
+    let told = c .before .before in
+    let searched = told .before .before .before in
+    let start = start-of searched in
+    λ a f. absurd (never-refused (start .args .s) (now (start .args .sums)) (start .pre .0) (start .pre .1) (eight start) (sized (searched .before .before)) _
+    (sym (ap answerOf (told .enum-told .given .1)) ∙ searched .shortest .ensures .answers))
+
+-- ---- the register is not alone
 
 shaped-requires-2 : tie.Need-shaped-requires-2
 shaped-requires-2 c κs = search needs
@@ -64,8 +84,12 @@ refuse-requires-2 c κs = search needs
 
 returns-2 : tie.Need-returns-2
 returns-2 c =
-    λ a. refusal-outcome _ _ _ (c .refuse2 .ensures) (c .before .shaped2 .ensures)
-    ∙ gives-24 _ _ (c .before .before .before .before .before .before .before .before .before .before .before .before .pre .0) (see (c .before .before .before .before)) _ (not-true _ (c .before .before .if1 .taken))
+    let found = c .before .before .before .before in
+    let start = start-of (searched found) in
+    λ a f. refusal-left a _ _ f _ (c .refuse2 .ensures) (c .before .shaped2 .ensures)
+    ∙ gives-24 _ _ (start .pre .0) (start .pre .1) (see found) _ f (not-true _ (c .before .before .if1 .taken))
+
+-- ---- a row has fewer checks
 
 rows-reach-requires : tie.Need-rows-reach-requires
 rows-reach-requires c κs = search needs
@@ -78,13 +102,27 @@ refuse-requires-3 c κs = search needs
 
 returns-3 : tie.Need-returns-3
 returns-3 c =
-    let reach = c .before .before in
-    λ a. refusal-outcome _ _ _ (c .refuse3 .ensures) (c .before .shaped3 .ensures)
-    ∙ gives-25 _ _ (c .before .before .before .before .before .before .before .before .before .before .before .before .before .before .pre .0) (see (c .before .before .before .before .before .before)) _ (not-false _ (reach .before .before .if1 .left))
-    (sym (reach .before .rows-reach .ensures) ∙ not-true _ (reach .if2 .taken))
+    let short = c .before .before in
+    let found = short .before .before .before .before in
+    let start = start-of (searched found) in
+    λ a f. refusal-left a _ _ f _ (c .refuse3 .ensures) (c .before .shaped3 .ensures)
+    ∙ gives-25 _ _ (start .pre .0) (start .pre .1) (see found) _ f (not-false _ (short .before .before .if1 .left))
+    (sym (short .before .rows-reach .ensures) ∙ not-true _ (short .if2 .taken))
+
+-- ---- the columns that it names
+
+-- alone, and no row has fewer checks
+alone : (c : tie.Else2) → found-before c .found .given .0 .1 .0 ≡ true
+alone c = not-false _ (c .before .before .if1 .left)
+
+reach : (c : tie.Else2) → rowsReach (start-of (searched (found-before c)) .args .s) (found-before c .found .given .0 .0) ≡ true
+reach c = sym (c .before .rows-reach .ensures) ∙ not-false _ (c .if2 .left)
 
 add-end : tie.Need-add-end
-add-end c = let m = length-most _ _ (c .before .before .before .before .before .before .before .before .before .before .before .before .pre .0) (see (c .before .before .before .before)) in omega arith
+add-end c =
+    let start = start-of (searched (found-before c)) in
+    let m = length-most _ _ (start .pre .0) (start .pre .1) (see (found-before c)) in
+    omega arith
 
 sub-named-columns : tie.Need-sub-named-columns
 sub-named-columns c = search needs
@@ -94,16 +132,18 @@ part-named-columns-start c = search needs
 
 part-named-columns-end : tie.Need-part-named-columns-end
 part-named-columns-end c =
-    let m = length-most _ _ (c .before .before .before .before .before .before .before .before .before .before .before .before .before .pre .0) (see (c .before .before .before .before .before)) in
-    let room : length (c .before .before .before .before .before .before .before .before .shortest .last .1 .1 .0) ≡ 65 = search needs in
+    let found = found-before (c .before) in
+    let start = start-of (searched found) in
+    let m = length-most _ _ (start .pre .0) (start .pre .1) (see found) in
+    let room : length (searched found .shortest .last .1 .1 .0) ≡ 65 = search needs in
     omega arith
 
 named-columns-requires : tie.Need-named-columns-requires
 named-columns-requires c κs =
-    let shape = c .before .before .before .before .before .before .before .before .before .before .before .before .before .before .pre .0 in
-    let saw = see (c .before .before .before .before .before .before) in
-    let few = shape-ranges _ shape .columns-most in
-    (omega arith, front-short _ _ shape saw, first-tap _ _ shape saw)
+    let found = found-before (c .before .before) in
+    let start = start-of (searched found) in
+    let few = shape-ranges _ (start .pre .0) .columns-most in
+    (omega arith, front-short _ _ (start .pre .0) (start .pre .1) (see found), first-tap _ _ (start .pre .0) (start .pre .1) (see found))
 
 size-requires : tie.Need-size-requires
 size-requires c κs = search needs
@@ -116,32 +156,31 @@ refuse-requires-4 c κs = search needs
 
 returns-4 : tie.Need-returns-4
 returns-4 c =
-    let size = c .before .before in
-    let reach = size .before .before .before .before .before in
-    λ a. refusal-outcome _ _ _ (c .refuse4 .ensures) (c .before .shaped4 .ensures)
-    ∙ gives-26 _ _ (c .before .before .before .before .before .before .before .before .before .before .before .before .before .before .before .before .before .before .before .pre .0) (see (c .before .before .before .before .before .before .before .before .before .before .before)) _ (not-false _ (reach .before .before .if1 .left))
-    (sym (reach .before .rows-reach .ensures) ∙ not-false _ (reach .if2 .left)) (size .before .before .named-columns .ensures)
-    (let n = size .before .size .ensures in let t = size .if3 .taken in omega arith)
+    let few = c .before .before in
+    let sought = few .before .before in
+    let reached = sought .before .before .before in
+    let start = start-of (searched (found-before reached)) in
+    λ a f. refusal-left a _ _ f _ (c .refuse4 .ensures) (c .before .shaped4 .ensures)
+    ∙ gives-26 _ _ (start .pre .0) (start .pre .1) (see (found-before reached)) _ f (alone reached) (reach reached) (sought .named-columns .ensures)
+    (let n = few .before .size .ensures in let t = few .if3 .taken in omega arith)
 
 located-requires : tie.Need-located-requires
 located-requires c κs = search needs
 
 returns-5 : tie.Need-returns-5
 returns-5 c =
-    let size = c .before in
-    let reach = size .before .before .before .before .before in
-    λ a. gives-columns _ _ (c .before .before .before .before .before .before .before .before .before .before .before .before .before .before .before .before .before .before .pre .0) (see (c .before .before .before .before .before .before .before .before .before .before)) _ (not-false _ (reach .before .before .if1 .left))
-    (sym (reach .before .rows-reach .ensures) ∙ not-false _ (reach .if2 .left)) (size .before .before .named-columns .ensures)
-    _ (c .located .ensures) (c .before .before .before .before .before .before .before .before .before .before .before .before .before .before .before .before .frame-sums .ensures)
-    (let n = size .before .size .ensures in let t = size .if3 .left in omega arith)
+    let enough = c .before in
+    let sought = enough .before .before in
+    let reached = sought .before .before .before in
+    let start = start-of (searched (found-before reached)) in
+    λ a f. gives-columns _ _ (start .pre .0) (start .pre .1) (see (found-before reached)) _ f (alone reached) (reach reached) (sought .named-columns .ensures)
+    (c .located .ensures) (let n = enough .before .size .ensures in let t = enough .if3 .left in omega arith)
 
-pub locate-in-spec : {M : Type 1} → statement M
-locate-in-spec =
+pub locate-from-spec : {M : Type 1} → statement M
+locate-from-spec =
     tie.close
     (tie.spec
-    frame-sums-requires
     slice-aggregate-shortest
-    slice-aggregate-shortest-2
     shortest-requires
     enum-known-found
     enum-told
