@@ -19,6 +19,7 @@ use Rattle.finder.specs.Finder.{Answer, answer, tapsLeft, register, refused}
 use Rattle.frame.specs.Frame.{heldSums, heldSequences}
 use Rattle.frame.specs.Shape.{checksOf, isShape}
 use Rattle.frame.specs.declared.Shape.{Shape}
+use Rattle.frame.proofs.Shapes.{shape-ranges}
 use Rattle.job.specs.Answers.{answeredOutcome}
 use Rattle.job.specs.Calls.{Outcome, refusing, registerTests}
 use Rattle.job.specs.Job.{Arrays, beside, withSums, withTaps, withFound, shapedJob}
@@ -37,80 +38,84 @@ pub refusal-left : (a : Arrays) (new taps f : List ℕ) {r : Answered} {i j : He
 refusal-left a new taps f why e g =
     ap (λ x. answeredOutcome x (withFound a (sumsLeft (x .reply) (a .sums) new) taps) f) (e ∙ ap (λ k. answer-of.refusal k why) g)
 
--- what the finder has answered and left in the buffer
-pub record Seen (ss : List (List ℕ)) (l : ℕ) (a : Bool) (buffer : List ℕ) : Type 0 where
-  pub size : l ≡ sizeOf ss
-  pub alone : a ≡ aloneOf ss
-  pub taps : buffer ≡ tapsOf ss ++ replicate (65 - length (tapsOf ss)) 0
+-- what the finder has answered for the sums and left in the buffer
+pub record Seen (s : Shape) (sums : List ℕ) (l : ℕ) (a : Bool) (buffer : List ℕ) : Type 0 where
+  pub shape : isShape s ≡ true
+  pub small : (k : ℕ) → getD sums k 0 < 257
+  pub size : l ≡ sizeOf (heldSequences s sums)
+  pub alone : a ≡ aloneOf (heldSequences s sums)
+  pub taps : buffer ≡ tapsOf (heldSequences s sums) ++ replicate (65 - length (tapsOf (heldSequences s sums))) 0
 
-module _ (s : Shape) (sums : List ℕ) (shape : isShape s ≡ true) (small : (k : ℕ) → getD sums k 0 < 257) where
+module _ (s : Shape) (sums : List ℕ) (shape : isShape s ≡ true) (small : (k : ℕ) → getD sums k 0 < 257) (eight : length (s .checks) ≡ 8)
+    (sized : length sums ≡ 512) where
+  abbrev said : Answer
+  said = answer 257 (take (s .rows) (s .checks)) (take (total (s .rows) (checksOf s)) sums) 65
+
+  pub never-refused : (k : ℕ) → refused k ≡ said → ⊥
+  never-refused k e = let w = e ∙ lent-answer s sums shape small eight sized in let z : _≡_ {A = ℕ} 0 1 = cc in omega arith
+
+  pub seen : (l : ℕ) (a : Bool) (buffer : List ℕ) → register l a ≡ said
+      → buffer ≡ tapsLeft 257 (take (s .rows) (s .checks)) (take (total (s .rows) (checksOf s)) sums) (replicate 65 0) → Seen s sums l a buffer
+  seen l a buffer e t =
+      let w = e ∙ lent-answer s sums shape small eight sized in
+      record { shape = shape; small = small; size = cc; alone = cc; taps = t ∙ lent-taps s sums shape small eight sized }
+
+module _ {s : Shape} {sums : List ℕ} {l : ℕ} {a : Bool} {buffer : List ℕ} (see : Seen s sums l a buffer) where
   abbrev ss : List (List ℕ)
   ss = heldSequences s sums
 
-  module _ (eight : length (s .checks) ≡ 8) (sized : length sums ≡ 512) where
-    abbrev said : Answer
-    said = answer 257 (take (s .rows) (s .checks)) (take (total (s .rows) (checksOf s)) sums) 65
+  pub length-most : l ≤ 64
+  length-most = omega (arith, see .size, size-most s sums (see .shape))
 
-    pub never-refused : (k : ℕ) → refused k ≡ said → ⊥
-    never-refused k e = let w = e ∙ lent-answer s sums shape small eight sized in let z : _≡_ {A = ℕ} 0 1 = cc in omega arith
+  taps-length : length (tapsOf ss) ≡ suc (sizeOf ss)
+  taps-length = length-taps ss (held-some s sums (see .shape)) (held-below s sums (see .shape) (see .small))
 
-    pub seen : (l : ℕ) (a : Bool) (buffer : List ℕ) → register l a ≡ said
-        → buffer ≡ tapsLeft 257 (take (s .rows) (s .checks)) (take (total (s .rows) (checksOf s)) sums) (replicate 65 0) → Seen ss l a buffer
-    seen l a buffer e t =
-        let w = e ∙ lent-answer s sums shape small eight sized in
-        record { size = cc; alone = cc; taps = t ∙ lent-taps s sums shape small eight sized }
+  front : take (l + 1 - 0) buffer ≡ tapsOf ss
+  front =
+      ap₂ take (let e = see .size in let t = taps-length in let n : l + 1 - 0 ≡ length (tapsOf ss) = omega arith in n) (see .taps)
+      ∙ take-at (tapsOf ss) _ _ refl
 
-  module _ {l : ℕ} {a : Bool} {buffer : List ℕ} (see : Seen (heldSequences s sums) l a buffer) where
-    pub length-most : l ≤ 64
-    length-most = omega (arith, see .size, size-most s sums shape)
+  -- what the search for columns asks
+  pub searchable : (s .columns ≤ 256) × (length (take (l + 1 - 0) buffer) ≤ 256) × (getD (take (l + 1 - 0) buffer) 0 0 ≡ 1)
+  searchable = (
+    shape-ranges s (see .shape) .columns-most,
+    omega (arith, ap length front, taps-length, size-most s sums (see .shape)),
+    ap (λ x. getD x 0 0) front ∙ generator-of ss (held-some s sums (see .shape)) (held-below s sums (see .shape) (see .small)) .register .first,
+  )
 
-    taps-length : length (tapsOf ss) ≡ suc (sizeOf ss)
-    taps-length = length-taps ss (held-some s sums shape) (held-below s sums shape small)
+  module _ (before : Arrays) (f : List ℕ) where
+    -- what is given for the register that was seen
+    abbrev given : Outcome
+    given = fromSums s before sums f
 
-    front : take (l + 1 - 0) buffer ≡ tapsOf ss
-    front =
-        ap₂ take (let e = see .size in let t = taps-length in let n : l + 1 - 0 ≡ length (tapsOf ss) = omega arith in n) (see .taps)
-        ∙ take-at (tapsOf ss) _ _ refl
+    pub gives-24 : a ≡ false → refusing (shapedJob s before) f 24 ≡ given
+    unfolding registerTests
+    gives-24 e = rw (sym (see .alone) ∙ e) refl
 
-    pub front-short : length (take (l + 1 - 0) buffer) ≤ 256
-    front-short = omega (arith, ap length front, taps-length, size-most s sums shape)
-
-    pub first-tap : getD (take (l + 1 - 0) buffer) 0 0 ≡ 1
-    first-tap = ap (λ x. getD x 0 0) front ∙ generator-of ss (held-some s sums shape) (held-below s sums shape small) .register .first
-
-    module _ (before : Arrays) (f : List ℕ) where
-      -- what is given for the register that was seen
-      abbrev given : Outcome
-      given = fromSums s before sums f
-
-      pub gives-24 : a ≡ false → refusing (shapedJob s before) f 24 ≡ given
+    module _ (alone : a ≡ true) where
+      pub gives-25 : rowsReach s l ≡ false → refusing (shapedJob s before) f 25 ≡ given
       unfolding registerTests
-      gives-24 e = rw (sym (see .alone) ∙ e) refl
+      gives-25 e = rw (sym (see .alone) ∙ alone, ap (rowsReach s) (sym (see .size)) ∙ e) refl
 
-      module _ (alone : a ≡ true) where
-        pub gives-25 : rowsReach s l ≡ false → refusing (shapedJob s before) f 25 ≡ given
+      module _ (reach : rowsReach s l ≡ true) {J : Columns} (found : J ≡ namedColumns s (take (l + 1 - 0) buffer)) where
+        marked : J ≡ namedColumns s (tapsOf ss)
+        marked = found ∙ ap (namedColumns s) front
+
+        names : namesAll s (tapsOf ss) (sizeOf ss) ≡ not (ltb (length (members J)) l)
+        unfolding namesAll
+        names =
+            ap₂ (λ m n. not (ltb m n)) (sym (size-named s (tapsOf ss) (see .shape)) ∙ ap (λ K. length (members K)) (sym marked)) (sym (see .size))
+
+        pub gives-26 : length (members J) < l → refusing (shapedJob s before) f 26 ≡ given
         unfolding registerTests
-        gives-25 e = rw (sym (see .alone) ∙ alone, ap (rowsReach s) (sym (see .size)) ∙ e) refl
+        gives-26 fewer = rw (sym (see .alone) ∙ alone, ap (rowsReach s) (sym (see .size)) ∙ reach, names ∙ ap not (lt-ltb _ l fewer)) refl
 
-        module _ (reach : rowsReach s l ≡ true) {J : Columns} (found : J ≡ namedColumns s (take (l + 1 - 0) buffer)) where
-          marked : J ≡ namedColumns s (tapsOf ss)
-          marked = found ∙ ap (namedColumns s) front
-
-          names : namesAll s (tapsOf ss) (sizeOf ss) ≡ not (ltb (length (members J)) l)
-          unfolding namesAll
-          names =
-              ap₂ (λ m n. not (ltb m n)) (sym (size-named s (tapsOf ss) shape) ∙ ap (λ K. length (members K)) (sym marked)) (sym (see .size))
-
-          pub gives-26 : length (members J) < l → refusing (shapedJob s before) f 26 ≡ given
-          unfolding registerTests
-          gives-26 fewer = rw (sym (see .alone) ∙ alone, ap (rowsReach s) (sym (see .size)) ∙ reach, names ∙ ap not (lt-ltb _ l fewer)) refl
-
-          pub gives-columns : {r : Answered} → r ≡ answer-of.found s l J → l ≤ length (members J)
-              → answeredOutcome r (withFound before (sumsLeft (r .reply) (before .sums) sums) buffer) f ≡ given
-          unfolding registerTests
-          gives-columns e enough =
-              rw (sym (see .alone) ∙ alone, ap (rowsReach s) (sym (see .size)) ∙ reach, names ∙ ap not (le-ltb _ l enough))
-              (let n = see .size in let b = see .taps in let m = marked in rw (e, n, b, m) refl)
+        pub gives-columns : {r : Answered} → r ≡ answer-of.found s l J → l ≤ length (members J)
+            → answeredOutcome r (withFound before (sumsLeft (r .reply) (before .sums) sums) buffer) f ≡ given
+        unfolding registerTests
+        gives-columns e enough =
+            rw (sym (see .alone) ∙ alone, ap (rowsReach s) (sym (see .size)) ∙ reach, names ∙ ap not (le-ltb _ l enough))
+            (let n = see .size in let b = see .taps in let m = marked in rw (e, n, b, m) refl)
 
 -- ---- from the sums of a frame
 

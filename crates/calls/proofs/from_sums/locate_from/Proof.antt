@@ -1,17 +1,14 @@
 -- `calls::from_sums::locate_from` meets its contract. Assumes nothing.
 use mathlib.Core.Path.{_≡_, sym, ap, _∙_}
 use mathlib.Core.Bool.{true}
-use Prim.Native.Nat.{ℕ, _<_}
 use native.Mathlib.Omega.{arith}
-use lib.ListN.{length, getD}
+use lib.ListN.{length}
 use denote.Ref.{now}
 use borrow.Author.Tests.{not-true, not-false}
 use Rattle.decoding.specs.Locating.{rowsReach}
 use Rattle.finder.specs.Finder.{answerOf}
-use Rattle.frame.specs.Frame.{heldSequences}
-use Rattle.frame.proofs.Shapes.{shape-ranges}
 use Rattle.calls.proofs.Lending.{lent-passed}
-use Rattle.calls.proofs.Locating.{refusal-left, Seen, never-refused, seen, length-most, front-short, first-tap, gives-24, gives-25, gives-26, gives-columns}
+use Rattle.calls.proofs.Locating.{refusal-left, Seen, never-refused, seen, length-most, searchable, gives-24, gives-25, gives-26, gives-columns}
 use borrow.Author.Needs.{needs}
 use Rattle.calls.proofs.from_sums.locate_from.Statement.{statement}
 use Rattle.calls.proofs.from_sums.locate_from.Tie as tie
@@ -49,7 +46,7 @@ enum-known-found c = search needs
 -- what is seen where the finder has not refused
 see : (c : tie.After-found) →
     let start = start-of (searched c) in
-    Seen (heldSequences (start .args .s) (now (start .args .sums))) (c .found .given .0 .0) (c .found .given .0 .1 .0) (searched c .shortest .last .1 .1 .0)
+    Seen (start .args .s) (now (start .args .sums)) (c .found .given .0 .0) (c .found .given .0 .1 .0) (searched c .shortest .last .1 .1 .0)
 see c =
     let start = start-of (searched c) in
     let finds = searched c .shortest .ensures in
@@ -74,7 +71,7 @@ returns c =
     λ a f. absurd (never-refused (start .args .s) (now (start .args .sums)) (start .pre .0) (start .pre .1) (eight start) (sized (searched .before .before)) _
     (sym (ap answerOf (told .enum-told .given .1)) ∙ searched .shortest .ensures .answers))
 
--- ---- the register is not alone
+-- ---- what is given after each test
 
 shaped-requires-2 : tie.Need-shaped-requires-2
 shaped-requires-2 c κs = search needs
@@ -84,12 +81,8 @@ refuse-requires-2 c κs = search needs
 
 returns-2 : tie.Need-returns-2
 returns-2 c =
-    let found = c .before .before .before .before in
-    let start = start-of (searched found) in
-    λ a f. refusal-left a _ _ f _ (c .refuse2 .ensures) (c .before .shaped2 .ensures)
-    ∙ gives-24 _ _ (start .pre .0) (start .pre .1) (see found) _ f (not-true _ (c .before .before .if1 .taken))
-
--- ---- a row has fewer checks
+    let other = c .before .before in
+    λ a f. refusal-left a _ _ f _ (c .refuse2 .ensures) (c .before .shaped2 .ensures) ∙ gives-24 (see (other .before .before)) _ f (not-true _ (other .if1 .taken))
 
 rows-reach-requires : tie.Need-rows-reach-requires
 rows-reach-requires c κs = search needs
@@ -103,15 +96,10 @@ refuse-requires-3 c κs = search needs
 returns-3 : tie.Need-returns-3
 returns-3 c =
     let short = c .before .before in
-    let found = short .before .before .before .before in
-    let start = start-of (searched found) in
+    let alone = short .before .before in
     λ a f. refusal-left a _ _ f _ (c .refuse3 .ensures) (c .before .shaped3 .ensures)
-    ∙ gives-25 _ _ (start .pre .0) (start .pre .1) (see found) _ f (not-false _ (short .before .before .if1 .left))
-    (sym (short .before .rows-reach .ensures) ∙ not-true _ (short .if2 .taken))
+    ∙ gives-25 (see (alone .before .before)) _ f (not-false _ (alone .if1 .left)) (sym (short .before .rows-reach .ensures) ∙ not-true _ (short .if2 .taken))
 
--- ---- the columns that it names
-
--- alone, and no row has fewer checks
 alone : (c : tie.Else2) → found-before c .found .given .0 .1 .0 ≡ true
 alone c = not-false _ (c .before .before .if1 .left)
 
@@ -119,10 +107,7 @@ reach : (c : tie.Else2) → rowsReach (start-of (searched (found-before c)) .arg
 reach c = sym (c .before .rows-reach .ensures) ∙ not-false _ (c .if2 .left)
 
 add-end : tie.Need-add-end
-add-end c =
-    let start = start-of (searched (found-before c)) in
-    let m = length-most _ _ (start .pre .0) (start .pre .1) (see (found-before c)) in
-    omega arith
+add-end c = let m = length-most (see (found-before c)) in omega arith
 
 sub-named-columns : tie.Need-sub-named-columns
 sub-named-columns c = search needs
@@ -133,17 +118,12 @@ part-named-columns-start c = search needs
 part-named-columns-end : tie.Need-part-named-columns-end
 part-named-columns-end c =
     let found = found-before (c .before) in
-    let start = start-of (searched found) in
-    let m = length-most _ _ (start .pre .0) (start .pre .1) (see found) in
+    let m = length-most (see found) in
     let room : length (searched found .shortest .last .1 .1 .0) ≡ 65 = search needs in
     omega arith
 
 named-columns-requires : tie.Need-named-columns-requires
-named-columns-requires c κs =
-    let found = found-before (c .before .before) in
-    let start = start-of (searched found) in
-    let few = shape-ranges _ (start .pre .0) .columns-most in
-    (omega arith, front-short _ _ (start .pre .0) (start .pre .1) (see found), first-tap _ _ (start .pre .0) (start .pre .1) (see found))
+named-columns-requires c κs = searchable (see (found-before (c .before .before)))
 
 size-requires : tie.Need-size-requires
 size-requires c κs = search needs
@@ -157,11 +137,10 @@ refuse-requires-4 c κs = search needs
 returns-4 : tie.Need-returns-4
 returns-4 c =
     let few = c .before .before in
-    let sought = few .before .before in
-    let reached = sought .before .before .before in
-    let start = start-of (searched (found-before reached)) in
+    let named = few .before .before in
+    let reached = named .before .before .before in
     λ a f. refusal-left a _ _ f _ (c .refuse4 .ensures) (c .before .shaped4 .ensures)
-    ∙ gives-26 _ _ (start .pre .0) (start .pre .1) (see (found-before reached)) _ f (alone reached) (reach reached) (sought .named-columns .ensures)
+    ∙ gives-26 (see (found-before reached)) _ f (alone reached) (reach reached) (named .named-columns .ensures)
     (let n = few .before .size .ensures in let t = few .if3 .taken in omega arith)
 
 located-requires : tie.Need-located-requires
@@ -170,11 +149,10 @@ located-requires c κs = search needs
 returns-5 : tie.Need-returns-5
 returns-5 c =
     let enough = c .before in
-    let sought = enough .before .before in
-    let reached = sought .before .before .before in
-    let start = start-of (searched (found-before reached)) in
-    λ a f. gives-columns _ _ (start .pre .0) (start .pre .1) (see (found-before reached)) _ f (alone reached) (reach reached) (sought .named-columns .ensures)
-    (c .located .ensures) (let n = enough .before .size .ensures in let t = enough .if3 .left in omega arith)
+    let named = enough .before .before in
+    let reached = named .before .before .before in
+    λ a f. gives-columns (see (found-before reached)) _ f (alone reached) (reach reached) (named .named-columns .ensures) (c .located .ensures)
+    (let n = enough .before .size .ensures in let t = enough .if3 .left in omega arith)
 
 pub locate-from-spec : {M : Type 1} → statement M
 locate-from-spec =
