@@ -10,10 +10,10 @@ use Rattle.field.specs.Total.{total}
 use Rattle.finder.specs.Finder.{tests, answer, tapsLeft}
 use Rattle.frame.specs.Completion.{without, locatorPolynomial, cleared, completion, completed}
 use Rattle.frame.specs.Encode.{eachRow, encoded, dataBelow, encodeTests}
-use Rattle.frame.specs.Frame.{checkSum, checkSums, sequences, heldSums, frameTests}
+use Rattle.frame.specs.Frame.{checkSum, checkSums, rowSums, sequences, heldSums, heldSequences, frameTests}
 use Rattle.frame.specs.Powers.{weight}
 use Rattle.frame.specs.Shape.{shapeOf, rowsInRange, columnsInRange, checksInRange, isShape, shapeTests}
-use Rattle.job.specs.Calls.{shapeCall, encodeCall, registerTests, locateCall, step}
+use Rattle.job.specs.Calls.{registerTests, step}
 use Rattle.job.specs.Job.{noColumns, phaseSound, headSound, countsEmpty}
 use Rattle.lists.specs.Tabulate.{tabulate, every, joined}
 use Rattle.register.specs.Algorithm4.{start, replaced, changed, turn, rounds, isAlone, found, foundAlone}
@@ -24,5 +24,5 @@ use Rattle.examples.specs.Enumeration.{residueLists, doesGenerate, kept,
 use Rattle.examples.specs.Examples.{lengthOf, computed, table}
 
 pub examples : map computed table ≡ table
-unfolding table computed lengthOf registers kept doesGenerate residueLists split ordered placed largest discrepancy stepAt start replaced changed turn rounds isAlone found foundAlone tabulate every joined noColumns phaseSound headSound countsEmpty step shapeCall encodeCall registerTests locateCall shapeOf rowsInRange columnsInRange checksInRange isShape shapeTests weight checkSum checkSums sequences heldSums frameTests eachRow encoded dataBelow encodeTests without locatorPolynomial cleared completion completed tests answer tapsLeft total noDivisor isPrime isModulus shifted reduced value sizeOf tapsOf aloneOf rowsReach named namedColumns namesAll count listed columnsOf has number
+unfolding table computed lengthOf registers kept doesGenerate residueLists split ordered placed largest discrepancy stepAt start replaced changed turn rounds isAlone found foundAlone tabulate every joined noColumns phaseSound headSound countsEmpty step registerTests shapeOf rowsInRange columnsInRange checksInRange isShape shapeTests weight checkSum checkSums rowSums sequences heldSums heldSequences frameTests eachRow encoded dataBelow encodeTests without locatorPolynomial cleared completion completed tests answer tapsLeft total noDivisor isPrime isModulus shifted reduced value sizeOf tapsOf aloneOf rowsReach named namedColumns namesAll count listed columnsOf has number
 examples = refl

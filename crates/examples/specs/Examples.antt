@@ -11,7 +11,6 @@ use Rattle.finder.specs.Finder as Finder
 use Rattle.finder.specs.Finder.{answer, tapsLeft}
 use Rattle.frame.specs.Frame.{sequences}
 use Rattle.frame.specs.Shape.{shapeOf}
-use Rattle.frame.specs.declared.Shape.{Shape}
 use Rattle.job.specs.Calls as Calls
 use Rattle.job.specs.Calls.{Outcome, step}
 use Rattle.job.specs.Job.{emptyJob, noArrays}
@@ -37,9 +36,9 @@ computed (register p ss found taps all) =
     register p ss said (take (suc (lengthOf said)) (tapsLeft p lengths (joined ss) (replicate (suc (longest ss)) 0)))
     (tabulate (suc (lengthOf said)) (λ l. registers p l ss))
 computed (frame n checks f sums c taps alone said marked) =
-    let s : Shape = shapeOf n checks in
+    let ss : List (List ℕ) = sequences (shapeOf n checks) f in
     let o : Outcome = step (step (emptyJob noArrays) (Calls.shape n checks) .job) (Calls.locate f) in
-    frame n checks f (sequences s f) (sizeOf s f) (tapsOf s f) (aloneOf s f) (o .answer) (members (o .marks))
+    frame n checks f ss (sizeOf ss) (tapsOf ss) (aloneOf ss) (o .answer) (members (o .marks))
 computed (encoded n checks f left) =
     encoded n checks f (step (step (emptyJob noArrays) (Calls.shape n checks) .job) (Calls.encode f) .frame)
 

@@ -1,5 +1,5 @@
 -- The line of a record of a frame, by what the calls on a job return; a located frame has 64 marked columns at most. Assumes nothing.
-use mathlib.Core.Path.{_≡_, refl, sym, ap, _∙_, subst}
+use mathlib.Core.Path.{_≡_, refl, sym, ap, _∙_, subst, subst⁻¹}
 use mathlib.Core.Bool.{true}
 use mathlib.Core.List.{List}
 use Prim.Native.Nat.{ℕ, _≤_, _<_}
@@ -8,22 +8,24 @@ use lib.ListN.{length}
 use Rattle.columns.specs.Columns.{number as bits, has, columnsOf, members}
 use Rattle.columns.specs.Listed.{listed}
 use Rattle.columns.specs.declared.Columns.{Columns}
+use Rattle.frame.specs.Frame.{sequences, heldSums}
 use Rattle.frame.specs.Shape.{isShape}
 use Rattle.frame.specs.declared.Shape.{Shape}
+use Rattle.frame.proofs.HeldSums.{held-sequences}
 use Rattle.frame.proofs.Reasons.{frame-passes}
 use Rattle.frame.proofs.Shapes.{shape-ranges}
 use Rattle.decoding.specs.Locating.{sizeOf, rowsReach}
 use Rattle.decoding.proofs.SoleNearest.{reach}
 use Rattle.job.specs.Answers.{replyAnswer, checkedAnswer, shapeOutcome, answeredOutcome}
 use Rattle.job.specs.Calls as Calls
-use Rattle.job.specs.Calls.{Answer, Outcome, step, shape, locate}
-use Rattle.job.specs.Job.{Job, jobOf, emptyHead, noArrays, noColumns}
+use Rattle.job.specs.Calls.{Answer, Outcome, locates, step, shape, locate}
+use Rattle.job.specs.Job.{Arrays, Job, beside, emptyHead, noArrays, noColumns}
 use Rattle.job.specs.declared.Answered.{Answered}
 use Rattle.job.specs.declared.Head.{Head}
 use Rattle.job.specs.declared.Reply.{Reply}
 use Rattle.job.specs.declared.Reply.the-variants.{Count, Refused}
 use Rattle.job.specs.declared.Reshaped.{Reshaped}
-use Rattle.job.proofs.Cases.{by-locate}
+use Rattle.job.proofs.Cases.{by-call}
 use Rattle.job.proofs.Forms.{Locates, has-shape, register-passes}
 use Rattle.job.proofs.Soundness.{marked-number}
 use Rattle.refusal.specs.Number.{number}
@@ -51,12 +53,12 @@ none-marked = refl
 few-located : (j : Job) (f : List ℕ) → Few (step j (locate f))
 few-located j f =
     let none = none-marked in
-    by-locate Few j f (λ k a. (omega arith, omega arith)) (λ k p a. (omega arith, omega arith)) (λ (e, p) q.
+    by-call j (locate f) Few (λ k a. (omega arith, omega arith)) (λ k p a. (omega arith, omega arith)) (λ (e, p) q.
     let s = j .head .shape in
-    let t : isShape s ≡ true = has-shape (j .head) _ e in
+    let t : isShape s ≡ true = has-shape (j .head) e in
     let l : Locates s f = register-passes s f (frame-passes s f p) q in
-    let few : sizeOf s f ≤ 64 = at-most s (sizeOf s f) t (l .reach) in
-    (few, omega (arith, marked-number s f t l)))
+    let few : sizeOf (sequences s f) ≤ 64 = at-most s (sizeOf (sequences s f)) t (l .reach) in
+    subst⁻¹ (λ ss. Few (locates s (j .arrays) ss (heldSums s f) f)) (held-sequences s f) (few, omega (arith, marked-number s f t l)))
   where
     at-most : (s : Shape) (c : ℕ) → isShape s ≡ true → rowsReach s c ≡ true → c ≤ 64
     at-most s c t r =
@@ -68,10 +70,10 @@ reply-count : (r : Reply) → counted (replyAnswer r) ≡ columnCount r
 reply-count (Count c) = refl
 reply-count (Refused k) = refl
 
-pub few-marks : (j : Job) (sums taps f : List ℕ) (a : Answered) → answeredOutcome a sums taps f ≡ step j (locate f)
+pub few-marks : (j : Job) (b : Arrays) (f : List ℕ) (a : Answered) → answeredOutcome a b f ≡ step j (locate f)
     → (columnCount (a .reply) ≤ 64) × (length (members (a .columns)) ≤ 64)
-few-marks j sums taps f a e =
-    let few : Few (answeredOutcome a sums taps f) = subst Few (sym e) (few-located j f) in
+few-marks j b f a e =
+    let few : Few (answeredOutcome a b f) = subst Few (sym e) (few-located j f) in
     (omega (arith, few .0, reply-count (a .reply)), few .1)
 
 -- ---- the line, by what is returned
@@ -89,25 +91,25 @@ module _ (reply : Reply) (marks : Columns) where
     count-replied n h = subst (λ (x : Reply). columnCount x ≤ n) e h
 
 module _ (n : ℕ) (checks symbols : List ℕ) (h : Head) (start : h ≡ emptyHead) (shaped : Reshaped)
-    (given : (sums taps : List ℕ) → shapeOutcome shaped sums taps ≡ step (jobOf h sums taps) (shape n checks)) where
+    (given : (a : Arrays) → shapeOutcome shaped a ≡ step (beside h a) (shape n checks)) where
   -- beside zeros
   abbrev after : Outcome
-  after = shapeOutcome shaped (noArrays .sums) (noArrays .taps)
+  after = shapeOutcome shaped noArrays
 
   by-outcome : frameLine (checkedAnswer (shaped .checked)) after (step (after .job) (locate symbols)) ≡ outputOf (frame n checks symbols)
   unfolding outputOf
   by-outcome =
       ap (λ (o : Outcome). frameLine (o .answer) o (step (o .job) (locate symbols)))
-      (given (noArrays .sums) (noArrays .taps) ∙ ap (λ (i : Head). step (jobOf i (noArrays .sums) (noArrays .taps)) (shape n checks)) start)
+      (given noArrays ∙ ap (λ (i : Head). step (beside i noArrays) (shape n checks)) start)
 
   pub frame-refused : (k : Refusal) → shaped .checked ≡ Refuse k → refusalLine (number k) ≡ outputOf (frame n checks symbols)
   unfolding frameLine
   frame-refused k e =
       ap (λ (v : Checked). frameLine (checkedAnswer v) after (step (after .job) (locate symbols))) (sym e) ∙ by-outcome
 
-  pub frame-located : (a : Answered) (sums taps : List ℕ) → shaped .checked ≡ Pass → answeredOutcome a sums taps symbols ≡ step (after .job) (locate symbols)
+  pub frame-located : (a : Answered) (b : Arrays) → shaped .checked ≡ Pass → answeredOutcome a b symbols ≡ step (after .job) (locate symbols)
       → columnsLine (replyAnswer (a .reply)) (a .columns) ≡ outputOf (frame n checks symbols)
   unfolding frameLine
-  frame-located a sums taps e l =
+  frame-located a b e l =
       ap (λ (o : Outcome). columnsLine (o .answer) (o .marks)) l ∙
       ap (λ (v : Checked). frameLine (checkedAnswer v) after (step (after .job) (locate symbols))) (sym e) ∙ by-outcome

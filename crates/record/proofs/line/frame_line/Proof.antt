@@ -1,5 +1,6 @@
 -- `record::line::frame_line` meets its contract. Assumes nothing.
 use borrow.Author.Needs.{needs}
+use Rattle.job.specs.Job.{noArrays}
 use Rattle.record.proofs.Frames.{few-marks, frame-refused, frame-located}
 use Rattle.record.proofs.Writing.{written-as}
 use Rattle.record.proofs.line.frame_line.Statement.{statement}
@@ -23,7 +24,9 @@ same-length c = search needs
 returns : tie.Need-returns
 returns c =
     let line = c .before .before .refusal-line .ensures in
-    let refused = frame-refused _ _ _ _ (c .before .before .before .before .before .before .before .before .empty .ensures) (c .before .before .before .before .before .before .before .shape .result) (c .before .before .before .before .before .before .before .shape .ensures) _ (c .before .before .before .before .before .checked .given .1) in
+    let checked = c .before .before .before .before .before in
+    let shaped = checked .before .before in
+    let refused = frame-refused _ _ _ _ (shaped .before .empty .ensures) (shaped .shape .result) (shaped .shape .ensures) _ (checked .checked .given .1) in
     (written-as _ _ _ _ _ _ refused (line .0), line .1)
 
 enum-told : tie.Need-enum-told
@@ -34,7 +37,7 @@ locate-requires c κs = search needs
 
 reply-line-requires : tie.Need-reply-line-requires
 reply-line-requires c κs =
-    let few = few-marks _ _ _ _ (c .before .locate .result) (c .before .locate .ensures) in
+    let few = few-marks _ _ _ (c .before .locate .result) (c .before .locate .ensures noArrays) in
     (search needs, few .0, few .1)
 
 same-length-2 : tie.Need-same-length-2
@@ -43,10 +46,13 @@ same-length-2 c = search needs
 returns-2 : tie.Need-returns-2
 returns-2 c =
     let line = c .before .before .reply-line .ensures in
-    let located =
-    frame-located _ _ _ _ (c .before .before .before .before .before .before .before .before .before .before .empty .ensures) (c .before .before .before .before .before .before .before .before .before .shape .result) (c .before .before .before .before .before .before .before .before .before .shape .ensures) (c .before .before .before .before .locate .result) _ _
-    (c .before .before .before .before .before .before .before .enum-told .given .1) (c .before .before .before .before .locate .ensures) in
-    (written-as _ _ _ _ _ _ located (line .0), line .1)
+    let located = c .before .before .before .before in
+    let passed = located .before .before .before in
+    let shaped = passed .before .before in
+    let same =
+    frame-located _ _ _ _ (shaped .before .empty .ensures) (shaped .shape .result) (shaped .shape .ensures) (located .locate .result) _ (passed .enum-told .given .1)
+    (located .locate .ensures noArrays) in
+    (written-as _ _ _ _ _ _ same (line .0), line .1)
 
 pub frame-line-spec : {M : Type 1} → statement M
 frame-line-spec =
