@@ -11,5 +11,6 @@ pub mod Multiplication
 pub mod Padding
 pub mod PowerTable
 pub mod RowPlace
+pub mod RowsChanged
 pub mod ShapeTests
 pub mod Testing

@@ -1,22 +1,58 @@
--- The coefficients of one column, from what the code computes for them. Assumes nothing.
+-- The coefficients of one column, from what the code computes for them, and the part of the array that holds them. Assumes nothing.
 use mathlib.Core.Path.{_≡_, ap, _∙_}
 use mathlib.Core.List.{List}
-use Prim.Native.Nat.{ℕ, suc, _<_}
+use Prim.Native.Nat.{ℕ, suc, _-_, _≤_, _<_}
+use native.Mathlib.Omega.{arith}
 use lib.ListN.{length, getD}
+use borrow.Rule.Slice.PartMut.{midOf, putMid, mid-len}
 use Rattle.columns.specs.Columns.{members}
 use Rattle.columns.specs.declared.Columns.{Columns}
+use Rattle.columns.proofs.Walk.{Walk, walk-member}
 use Rattle.frame.specs.Completion.{locatorPolynomial}
 use Rattle.frame.specs.Powers.{locatorOf}
 use Rattle.lists.specs.Tabulate.{tabulate}
+use Rattle.lists.proofs.Put.{length-put, part-put}
+use Rattle.lists.proofs.Tabulated.{length-tabulate}
 use Rattle.completion.specs.Weights.{carried, coefficient, readOff}
 use Rattle.completion.proofs.Quotient.{quotient-others}
 
--- column i is the a-th of the set, whose locator polynomial is f
-module _ (J : Columns) (a i : ℕ) (f : List ℕ) (h : a < length (members J)) (here : getD (members J) a 0 ≡ i)
+abbrev pub coefficientsOf : Columns → (i : ℕ) → List ℕ
+coefficientsOf J i = tabulate (length (members J)) (coefficient J i)
+
+-- y, written over the first k of the 64 places of l, holds the coefficients of column i; they are lent on from there
+pub record Weighed (J : Columns) (i k : ℕ) (l y : List ℕ) : Type 0 where
+  pub long : length (putMid 0 (k - 0) l y) ≡ 64
+  pub lent : midOf 0 (k - 0) (putMid 0 (k - 0) l y) ≡ coefficientsOf J i
+  pub count : length (midOf 0 (k - 0) (putMid 0 (k - 0) l y)) ≡ length (members J)
+
+-- a walk over the set, whose locator polynomial is f, stands at column i
+module _ (J : Columns) (d i : ℕ) (walk : Walk J d i) (inside : i < 256) (f : List ℕ)
     (locator : (k : ℕ) → getD f k 0 ≡ getD (locatorPolynomial (members J)) k 0) where
-  pub weighed-column : (k : ℕ) (y : List ℕ) → k ≡ length (members J)
-      → y ≡ tabulate k (readOff k i (tabulate k (λ t. carried f (locatorOf i) (suc t)))) → y ≡ tabulate (length (members J)) (coefficient J i)
+  abbrev computed : ℕ → List ℕ
+  computed m = tabulate m (readOff m i (tabulate m (λ t. carried f (locatorOf i) (suc t))))
+
+  computed-coefficients : computed (length (members J)) ≡ coefficientsOf J i
   unfolding coefficient
-  weighed-column k y sized e =
-      e ∙ ap (λ (n : ℕ). tabulate n (readOff n i (tabulate n (λ t. carried f (locatorOf i) (suc t))))) sized
-      ∙ ap (λ (l : List ℕ). tabulate (length (members J)) (readOff (length (members J)) i l)) (quotient-others J a i h here f locator)
+  computed-coefficients =
+      let (less, here) = walk-member J d i walk inside in
+      ap (λ (z : List ℕ). tabulate (length (members J)) (readOff (length (members J)) i z)) (quotient-others J d i less here f locator)
+
+  pub weighed-column : (k : ℕ) (l y : List ℕ) → k ≡ length (members J) → k ≤ 64 → length l ≡ 64 → y ≡ computed (length (midOf 0 (k - 0) l))
+      → Weighed J i k l y
+  weighed-column k l y sized few room e = record {
+    long = length-put 0 (k - 0) y l size (omega arith) ∙ room;
+    lent = lent;
+    count = ap length lent ∙ length-tabulate (length (members J)) (coefficient J i);
+  }
+    where
+      part : length (midOf 0 (k - 0) l) ≡ length (members J)
+      part = let q = mid-len 0 k l (omega arith) in omega arith
+
+      is : y ≡ coefficientsOf J i
+      is = e ∙ ap computed part ∙ computed-coefficients
+
+      size : length y ≡ k - 0
+      size = let q = ap length is ∙ length-tabulate (length (members J)) (coefficient J i) in omega arith
+
+      lent : midOf 0 (k - 0) (putMid 0 (k - 0) l y) ≡ coefficientsOf J i
+      lent = part-put 0 (k - 0) y l size (omega arith) ∙ is

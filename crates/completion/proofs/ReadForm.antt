@@ -1,6 +1,6 @@
 -- What is read off check sums with the coefficients of a column is the symbol in closed form. Assumes nothing.
 use mathlib.Core.Path.{_≡_, sym, ap, ap₂, _∙_}
-use mathlib.Core.List.{List, [], _∷_}
+use mathlib.Core.List.{[], _∷_}
 use Prim.Native.Nat.{ℕ, _-_, _*_, _%_, _≤_}
 use native.Mathlib.Nat.{le-of-lt, mod-lt, mul-assoc, mul-comm}
 use lib.Dec.{lit<}

@@ -10,6 +10,7 @@ use mir.Val.{Fits}
 use lib.ListN.{length, getD}
 use Rattle.field.specs.Total.{total}
 use Rattle.field.proofs.Totals.{total-zero, total-suc, total-bound}
+use Rattle.completion.specs.Mending.{symbolRead}
 
 module _ (coefficients sums : List ℕ) where
   abbrev m : ℕ
@@ -44,5 +45,6 @@ module _ (coefficients sums : List ℕ) where
             mul-le-mul (let l : getD coefficients j 0 ≤ 65535 = omega (arith, known j) in l)
             (let l : getD sums (m - suc j) 0 ≤ 256 = omega (arith, small (m - suc j)) in l)
 
-    pub read-all : m ≤ k → t % 257 ≡ total m term % 257
+    pub read-all : m ≤ k → t % 257 ≡ symbolRead coefficients sums
+    unfolding symbolRead
     read-all le = ap (λ (j : ℕ). j % 257) (a .terms ∙ ap (λ (j : ℕ). total j term) (le-antisymm (a .within) le))

@@ -1,19 +1,27 @@
--- Mending a column of a frame: what is read off the check sums of each row is added to the cell that the column has in the row.
+-- Mending: what is read off the check sums of a row is added to a cell of the row; a column of a frame is mended in each row.
 use mathlib.Core.Bool.{cond}
 use mathlib.Core.List.{List}
-use Prim.Native.Nat.{ℕ, suc, _+_, _-_, _*_, _/_, _%_}
+use Prim.Native.Nat.{ℕ, suc, _+_, _-_, _*_, _%_}
 use lib.Dec.{eqb}
-use lib.ListN.{length, getD}
+use lib.ListN.{length, getD, take, drop}
 use Rattle.field.specs.Total.{total}
+use Rattle.frame.specs.Encode.{eachRow}
 use Rattle.frame.specs.Frame.{sumsBefore}
+use Rattle.frame.specs.Shape.{checksOf}
 use Rattle.frame.specs.declared.Shape.{Shape}
 use Rattle.lists.specs.Tabulate.{tabulate}
 
--- what is read off the sums from place a on: coefficient k times the sum that stands k places before the last
-unfoldable pub readAt : (coefficients sums : List ℕ) (a : ℕ) → ℕ
-readAt coefficients sums a =
-    let m : ℕ = length coefficients in total m (λ k. getD coefficients k 0 * getD sums (a + (m - suc k)) 0) % 257
+-- what m coefficients read off check sums: coefficient k times S_(m − k)
+unfoldable pub symbolRead : (coefficients sums : List ℕ) → ℕ
+symbolRead coefficients sums =
+    let m : ℕ = length coefficients in total m (λ k. getD coefficients k 0 * getD sums (m - suc k) 0) % 257
 
+-- a row of n columns with its cell in column i mended
+unfoldable pub mendedCell : (n : ℕ) (coefficients sums : List ℕ) (i : ℕ) (x : List ℕ) → List ℕ
+mendedCell n coefficients sums i x =
+    tabulate n (λ k. cond (eqb k i) ((getD x k 0 + symbolRead coefficients sums) % 257) (getD x k 0))
+
+-- a frame with column i mended, each row by its own sums among those that are held
 unfoldable pub mendedColumn : Shape → (coefficients sums : List ℕ) (i : ℕ) (f : List ℕ) → List ℕ
 mendedColumn s coefficients sums i f =
-    tabulate (length f) (λ t. cond (eqb (t % s .columns) i) ((getD f t 0 + readAt coefficients sums (sumsBefore s (t / s .columns))) % 257) (getD f t 0))
+    eachRow (s .columns) (λ h. mendedCell (s .columns) coefficients (take (checksOf s h) (drop (sumsBefore s h) sums)) i) (s .rows) f

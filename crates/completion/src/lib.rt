@@ -1,4 +1,5 @@
-// Mending a frame at a set of columns, over the field of 257.
+// Mending a frame, or a row, at a set of columns, over the field of 257.
 pub mod inverses;
 pub mod mend;
+pub mod row;
 pub mod weights;

@@ -1,35 +1,83 @@
 -- `completion::mend::mend` meets its contract. Assumes nothing.
 use mathlib.Core.Path.{_≡_, ap, subst⁻¹, _∙_}
 use mathlib.Core.List.{List}
-use Prim.Native.Nat.{ℕ, _+_, _-_, _%_, _≤_, _<_}
+use Prim.Native.Nat.{ℕ, _+_, _-_, _≤_, _<_}
 use native.Mathlib.Omega.{arith}
 use lib.ListN.{length, getD}
-use borrow.Rule.Slice.PartMut.{midOf, putMid, mid-len}
-use Rattle.columns.specs.Columns.{has, members}
-use Rattle.columns.proofs.Walk.{walk-member, walk-rises}
+use borrow.Rule.Slice.PartMut.{mid-len}
+use Rattle.columns.proofs.Walk.{walk-rises}
 use Rattle.frame.proofs.HeldSums.{held-length, held-below}
 use Rattle.frame.proofs.Shapes.{shape-ranges}
-use Rattle.lists.specs.Tabulate.{tabulate}
-use Rattle.lists.proofs.Put.{length-put, part-put}
-use Rattle.lists.proofs.Tabulated.{length-tabulate}
-use Rattle.completion.specs.Weights.{coefficient}
-use Rattle.completion.proofs.ColumnWeights.{weighed-column}
-use Rattle.completion.proofs.MendedFrame.{mended-completed}
-use Rattle.completion.proofs.Mending.{Mending, chosen, mending-none, mending-more, mending-all}
+use Rattle.completion.proofs.ColumnWeights.{Weighed, weighed-column}
+use Rattle.completion.proofs.MendedFrame.{FrameMending, mending-none, mending-more, mending-all}
+use Rattle.completion.proofs.RowAlone.{row-alone, alone-completed}
 use borrow.Author.Needs.{needs}
 use Rattle.completion.proofs.mend.mend.Statement.{statement}
 use Rattle.completion.proofs.mend.mend.Tie as tie
 
 abbrev Inv-loop : tie.InvT-loop
-Inv-loop s set sums frame₀ powers m f coefficients₀ i₀ frame coefficients i = (d : ℕ) × (length coefficients ≡ 64) × Mending set s sums frame₀ d i frame
+Inv-loop set sums frame₀ s powers m f coefficients₀ i₀ frame coefficients i = (d : ℕ) × (length coefficients ≡ 64) × FrameMending set s sums frame₀ d i frame
 
 abbrev μ-loop : tie.MeasureT-loop
-μ-loop s set sums frame₀ powers m f coefficients₀ i₀ frame coefficients i = 256 - i
+μ-loop set sums frame₀ s powers m f coefficients₀ i₀ frame coefficients i = 256 - i
+
+-- ---- a row alone
+
+element-copy-out-wide : tie.Need-element-copy-out-wide Inv-loop μ-loop
+element-copy-out-wide c = search needs
+
+wide-requires : tie.Need-wide-requires Inv-loop μ-loop
+wide-requires c κs = search needs
+
+cast-checks : tie.Need-cast-checks Inv-loop μ-loop
+cast-checks c = omega arith
+
+sub-mend-row : tie.Need-sub-mend-row Inv-loop μ-loop
+sub-mend-row c = omega arith
+
+part-mend-row-start : tie.Need-part-mend-row-start Inv-loop μ-loop
+part-mend-row-start c = omega arith
+
+part-mend-row-end : tie.Need-part-mend-row-end Inv-loop μ-loop
+part-mend-row-end c =
+    let start = c .before .before .before .before .before in
+    let (shape, whole, small, held, below, reach) = start .pre in
+    let r = shape-ranges _ shape in
+    let most = r .checks 0 (r .rows-least) .most in
+    let long = ap length held ∙ held-length _ _ shape in
+    let count = c .wide .ensures .0 in
+    omega arith
+
+mend-row-requires : tie.Need-mend-row-requires Inv-loop μ-loop
+mend-row-requires c κs =
+    let chosen = c .before .before .before .before in
+    let start = chosen .before .before .before in
+    let (shape, whole, small, held, below, reach) = start .pre in
+    let read = c .before .before .wide in
+    let r = shape-ranges _ shape in
+    let narrow = r .columns-most in
+    let most = r .checks 0 (r .rows-least) .most in
+    let enough = reach 0 (r .rows-least) in
+    let a = row-alone (start .args .t1) (start .args .frame .now) whole (chosen .if1 .taken) _ held (read .result) (read .ensures .0) in
+    let size = a .size in
+    let count = a .count in
+    (omega arith, small, omega arith, a .check-sums, (λ i e. let b = below i e in omega arith), omega arith)
+
+same-length : tie.Need-same-length Inv-loop μ-loop
+same-length c = search needs
+
+returns : tie.Need-returns Inv-loop μ-loop
+returns c =
+    let chosen = c .before .before .before .before .before .before .before in
+    let start = chosen .before .before .before in
+    alone-completed (start .args .t1) (start .args .frame .now) (start .pre .1) (chosen .if1 .taken) _ _ (c .before .before .mend-row .ensures)
+
+-- ---- rows that share the coefficients
 
 few : (c : tie.After-size Inv-loop μ-loop) → c .size .result ≤ 64
 few c =
-    let start = c .before .before .before .before in
-    let r = shape-ranges (start .args .s) (start .pre .0) in
+    let start = c .before .before .before .before .before in
+    let r = shape-ranges _ (start .pre .0) in
     omega (arith, c .size .ensures, start .pre .5 0 (r .rows-least), r .checks 0 (r .rows-least) .most)
 
 powers-requires : tie.Need-powers-requires Inv-loop μ-loop
@@ -45,7 +93,8 @@ next-requires : tie.Need-next-requires Inv-loop μ-loop
 next-requires c κs = search needs
 
 loop-holds : tie.Need-loop-holds Inv-loop μ-loop
-loop-holds c = (0, omega arith, mending-none _ _ _ _ _ (c .next .ensures))
+loop-holds c =
+    (0, omega arith, mending-none _ _ _ _ (c .before .before .before .before .before .before .before .before .pre .1) _ (c .next .ensures))
 
 sub-weigh : tie.Need-sub-weigh Inv-loop μ-loop
 sub-weigh c = omega arith
@@ -65,30 +114,19 @@ weigh-requires c κs =
     let part = mid-len 0 (sized .size .result) (at .loop .coefficients) (let s = at .loop .inv .1 in omega arith) in
     (sized .before .powers .ensures, inside .loop-test .taken, omega arith)
 
--- the coefficients that are lent on are those of the column
-lent : (c : tie.After-weigh Inv-loop μ-loop) →
+-- the coefficients that are lent on
+weighed : (c : tie.After-weigh Inv-loop μ-loop) →
     let at = c .before .before .before .before .before in
     let sized = at .before .before .before .before in
-    let m = sized .size .result in
-    let set = sized .before .before .before .before .args .set in
-    let held = putMid 0 (m - 0) (at .loop .coefficients) (c .weigh .last .1 .1 .1 .0) in
-    (length held ≡ 64) × (midOf 0 (m - 0) held ≡ tabulate (length (members set)) (coefficient set (at .loop .i)))
-lent c =
+    Weighed (sized .before .before .before .before .before .args .set) (at .loop .i) (sized .size .result) (at .loop .coefficients) (c .weigh .last .1 .1 .1 .0)
+weighed c =
     let inside = c .before .before .before .before in
     let at = inside .before in
     let sized = at .before .before .before .before in
-    let m = sized .size .result in
-    let set = sized .before .before .before .before .args .set in
-    let small = few sized in
+    let named = at .before .before .locator-polynomial in
     let (d, size, mending) = at .loop .inv in
-    let (less, here) = walk-member set d (at .loop .i) (mending .walk) (inside .loop-test .taken) in
-    let columns = sized .size .ensures in
-    let y = c .weigh .last .1 .1 .1 .0 in
-    let l = at .loop .coefficients in
-    let part = mid-len 0 m l (omega arith) in
-    let is = weighed-column set d (at .loop .i) (at .before .before .locator-polynomial .result) less here (at .before .before .locator-polynomial .ensures) _ y (omega arith) (c .weigh .ensures) in
-    let long = ap length is ∙ length-tabulate (length (members set)) (coefficient set (at .loop .i)) in
-    (length-put 0 (m - 0) y l (omega arith) (omega arith) ∙ size, part-put 0 (m - 0) y l (omega arith) (omega arith) ∙ is)
+    weighed-column _ d (at .loop .i) (mending .walk) (inside .loop-test .taken) (named .result) (named .ensures) (sized .size .result)
+    (at .loop .coefficients) _ (sized .size .ensures) (few sized) size (c .weigh .ensures)
 
 sub-mend-column : tie.Need-sub-mend-column Inv-loop μ-loop
 sub-mend-column c = omega arith
@@ -98,21 +136,19 @@ part-mend-column-start c = omega arith
 
 part-mend-column-end : tie.Need-part-mend-column-end Inv-loop μ-loop
 part-mend-column-end c =
-    let weighed = c .before .before .before in
-    let small = few (weighed .before .before .before .before .before .before .before .before .before) in
-    let l = lent weighed .0 in
-    omega arith
+    let written = c .before .before .before in
+    let l = weighed written .long in
+    omega (arith, few (written .before .before .before .before .before .before .before .before .before))
 
 mend-column-requires : tie.Need-mend-column-requires Inv-loop μ-loop
 mend-column-requires c κs =
-    let weighed = c .before .before .before .before in
-    let inside = weighed .before .before .before .before in
+    let written = c .before .before .before .before in
+    let inside = written .before .before .before .before in
     let at = inside .before in
-    let start = at .before .before .before .before .before .before .before .before in
+    let start = at .before .before .before .before .before .before .before .before .before in
     let (shape, whole, small, held, below, reach) = start .pre in
-    let set = start .args .set in
     let mending = at .loop .inv .2 in
-    let m = ap length (lent weighed .1) ∙ length-tabulate (length (members set)) (coefficient set (at .loop .i)) in (
+    let m = weighed written .count in (
       shape,
       mending .size ∙ whole,
       below (at .loop .i) (mending .walk .marked (inside .loop-test .taken)),
@@ -136,28 +172,26 @@ loop-less c =
 
 loop-again : tie.Need-loop-again Inv-loop μ-loop
 loop-again c =
-    let weighed = c .before .before .before .before .before .before .before .before in
-    let inside = weighed .before .before .before .before in
+    let written = c .before .before .before .before .before .before .before .before in
+    let inside = written .before .before .before .before in
     let at = inside .before in
+    let start = at .before .before .before .before .before .before .before .before .before in
     let (d, size, mending) = at .loop .inv in
-    let (long, is) = lent weighed in
-    (d + 1, long, mending-more _ _ _ _ d (at .loop .i) (at .loop .frame) mending (c .next2 .result) _ _ (inside .loop-test .taken) (c .next2 .ensures) is (c .before .before .before .mend-column .ensures))
+    let w = weighed written in (
+      d + 1,
+      w .long,
+      mending-more _ _ _ _ (start .pre .1) d (at .loop .i) (at .loop .frame) mending (c .next2 .result) _ _ (inside .loop-test .taken) (c .next2 .ensures)
+          (w .lent) (c .before .before .before .mend-column .ensures),
+    )
 
-same-length : tie.Need-same-length Inv-loop μ-loop
-same-length c = c .before .loop .inv .2 .size
+same-length-2 : tie.Need-same-length-2 Inv-loop μ-loop
+same-length-2 c = c .before .loop .inv .2 .size
 
-returns : tie.Need-returns Inv-loop μ-loop
-returns c =
+returns-2 : tie.Need-returns-2 Inv-loop μ-loop
+returns-2 c =
     let at = c .before in
-    let start = at .before .before .before .before .before .before .before .before in
-    let (shape, whole, small, held, below, reach) = start .pre in
-    let s = start .args .s in
-    let set = start .args .set in
-    let frame = start .args .frame .now in
-    let r = shape-ranges s shape in
-    mending-all set s _ frame _ _ (at .loop .frame) (at .loop .inv .2) (let l = r .columns-least in omega arith) (r .columns-most) (c .loop-test .left)
-    ∙ ap (λ (z : List ℕ). tabulate (length frame) (λ t. chosen set s z frame t (has set (t % s .columns)))) held
-    ∙ mended-completed set s frame shape whole small below reach
+    let (shape, whole, small, held, below, reach) = at .before .before .before .before .before .before .before .before .before .pre in
+    mending-all _ _ _ _ whole shape small held below reach _ _ _ (at .loop .inv .2) (c .loop-test .left)
 
 pub mend-spec : {M : Type 1} → statement M
 mend-spec =
@@ -165,6 +199,15 @@ mend-spec =
     (tie.spec
     Inv-loop
     μ-loop
+    element-copy-out-wide
+    wide-requires
+    cast-checks
+    sub-mend-row
+    part-mend-row-start
+    part-mend-row-end
+    mend-row-requires
+    same-length
+    returns
     powers-requires
     size-requires
     locator-polynomial-requires
@@ -182,5 +225,5 @@ mend-spec =
     next-requires-2
     loop-less
     loop-again
-    same-length
-    returns)
+    same-length-2
+    returns-2)

@@ -1,11 +1,11 @@
--- `completion::mend::mend_cell` meets its contract. Assumes nothing.
-use mathlib.Core.Path.{ap}
-use Prim.Native.Nat.{ℕ}
-use native.Mathlib.Omega.{arith}
-use lib.ListN.{set}
+-- `completion::row::mend_cell` meets its contract. Assumes nothing.
 use borrow.Author.Needs.{needs}
-use Rattle.completion.proofs.mend.mend_cell.Statement.{statement}
-use Rattle.completion.proofs.mend.mend_cell.Tie as tie
+use Rattle.completion.proofs.RowMending.{cell-written}
+use Rattle.completion.proofs.row.mend_cell.Statement.{statement}
+use Rattle.completion.proofs.row.mend_cell.Tie as tie
+
+read-off-requires : tie.Need-read-off-requires
+read-off-requires c κs = search needs
 
 mul-plus : tie.Need-mul-plus
 mul-plus c = search needs
@@ -27,13 +27,15 @@ same-length c = search needs
 
 returns : tie.Need-returns
 returns c =
-    let args = c .before .before .before .args in
-    ap (λ (v : ℕ). set (args .row .now) (args .i) v) (c .plus .ensures)
+    let read = c .before .before in
+    let start = read .before .before .before .before in
+    cell-written _ _ _ (start .args .row .now) (read .read-off .result) (c .plus .result) (start .pre .0) (read .read-off .ensures) (c .plus .ensures)
 
 pub mend-cell-spec : {M : Type 1} → statement M
 mend-cell-spec =
     tie.close
     (tie.spec
+    read-off-requires
     mul-plus
     slice-read-plus
     plus-requires

@@ -1,10 +1,10 @@
--- `completion::mend::read_off` meets its contract. Assumes nothing.
+-- `completion::row::read_off` meets its contract. Assumes nothing.
 use Prim.Native.Nat.{_+_, _-_}
 use native.Mathlib.Omega.{arith}
 use Rattle.completion.proofs.Reading.{Read, read-none, read-more, read-fits, read-all}
 use borrow.Author.Needs.{needs}
-use Rattle.completion.proofs.mend.read_off.Statement.{statement}
-use Rattle.completion.proofs.mend.read_off.Tie as tie
+use Rattle.completion.proofs.row.read_off.Statement.{statement}
+use Rattle.completion.proofs.row.read_off.Tie as tie
 
 abbrev Inv-loop : tie.InvT-loop
 Inv-loop coefficients sums m total₀ k₀ total k = Read coefficients sums k total

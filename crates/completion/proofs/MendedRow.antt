@@ -1,0 +1,121 @@
+-- A row mended at a set of columns is completed there: what is added takes its first check sums away, and no other row with the same cells outside the set
+-- has them 0. Assumes nothing.
+use mathlib.Core.Path.{_≡_, refl, sym, ap, ap₂, _∙_}
+use mathlib.Core.Logic.{_⊎_, inl, inr}
+use mathlib.Core.Bool.{Bool, true, false, cond}
+use mathlib.Core.List.{List, [], _∷_}
+use Prim.Native.Nat.{ℕ, zero, suc, _+_, _-_, _*_, _%_, _≤_, _<_}
+use native.Mathlib.Nat.{mod-lt}
+use native.Mathlib.Decide.{decLt}
+use native.Mathlib.Omega.{arith}
+use lib.Dec.{lit<}
+use lib.ListN.{length, getD, List·getD-eq-default}
+use Rattle.algebra.specs.Ring.{CRing}
+use Rattle.algebra.proofs.Solver.{:0, :1, _:+_, _:-_, :neg, _:=_, _:×_:≡_:⇒_, solve}
+use Rattle.columns.specs.Columns.{has, members}
+use Rattle.columns.specs.declared.Columns.{Columns}
+use Rattle.columns.proofs.Listing.{by-test}
+use Rattle.field.specs.Total.{total}
+use Rattle.field.proofs.Bridge.{res-add, res-mod}
+use Rattle.field.proofs.Prime257.{prime-257}
+use Rattle.field.proofs.Totals.{total-ext}
+use Rattle.frame.specs.Completion.{completed}
+use Rattle.frame.specs.Frame.{checkSum, checkSums}
+use Rattle.frame.proofs.CheckSums.{checkSum-below, res-checkSum, rowSum, rowSum-sub, symbols}
+use Rattle.frame.proofs.ClosedForm.{symbolFor, symbols-sum}
+use Rattle.frame.proofs.CompletionLaws.{completed-only}
+use Rattle.frame.proofs.Field257.{R257, res257, res-tells-zero}
+use Rattle.frame.proofs.Members.{Below}
+use Rattle.lists.proofs.Joined.{tabulate-each}
+use Rattle.lists.proofs.Tabulated.{getD-tabulate, getD-tabulate-past, length-tabulate}
+use Rattle.completion.specs.Mending.{symbolRead}
+use Rattle.completion.specs.Weights.{coefficient}
+use Rattle.completion.proofs.ColumnWeights.{coefficientsOf}
+use Rattle.completion.proofs.ReadForm.{symbol-form}
+use Rattle.completion.proofs.RowMending.{mendedRow}
+open CRing R257 using (car, zero as 𝟘, add as _⊕_, neg, add-neg)
+
+infixl 60 _⊕_
+pub sums-below : (n N : ℕ) (sums x : List ℕ) → sums ≡ checkSums n N x → (k : ℕ) → getD sums k 0 < 257
+unfolding checkSums
+sums-below n N sums x e k = rw e (tabulate-each (λ v. v < 257) 0 (lit< tt) N _ (λ j. checkSum-below n x (suc j)) k)
+
+-- a row x of n columns with its first N check sums, at least as many as the set has columns
+module _ (J : Columns) (n N : ℕ) (sums x : List ℕ) (narrow : n ≤ 256) (whole : length x ≡ n) (small : (k : ℕ) → k < n → getD x k 0 < 257)
+    (held : sums ≡ checkSums n N x) (below : Below n J) (reach : length (members J) ≤ N) where
+  abbrev m : ℕ
+  m = length (members J)
+
+  -- what is added in column i
+  abbrev symbol : ℕ → ℕ
+  symbol i = symbolFor J (checkSum n x) m i
+
+  sum-held : (j : ℕ) → j < N → getD sums j 0 ≡ checkSum n x (suc j)
+  unfolding checkSums
+  sum-held j l = ap (λ (z : List ℕ). getD z j 0) held ∙ getD-tabulate N _ j 0 l
+
+  read : (i : ℕ) → symbolRead (coefficientsOf J i) sums ≡ symbol i
+  unfolding symbolRead
+  read i =
+      ap (λ (k : ℕ). total k (λ t. getD (coefficientsOf J i) t 0 * getD sums (k - suc t) 0) % 257) (length-tabulate m (coefficient J i))
+      ∙ ap (λ (t : ℕ). t % 257) (total-ext m _ _ (λ t l.
+      ap₂ _*_ (getD-tabulate m (coefficient J i) t 0 l)
+      (sum-held (m - suc t) (omega arith) ∙ ap (checkSum n x) (let q : suc (m - suc t) ≡ m - t = omega arith in q))))
+      ∙ symbol-form J (checkSum n x) i
+
+  abbrev y : List ℕ
+  y = mendedRow J n sums x
+
+  -- cell i, mended or not
+  abbrev chosen : ℕ → Bool → ℕ
+  chosen i b = cond b ((getD x i 0 + symbol i) % 257) (getD x i 0)
+
+  cell-mended : (i : ℕ) → i < n → getD y i 0 ≡ chosen i (has J i)
+  cell-mended i l = getD-tabulate n _ i 0 l ∙ ap (λ (v : ℕ). cond (has J i) ((getD x i 0 + v) % 257) (getD x i 0)) (read i)
+
+  mended-kept : (i : ℕ) → i < n → has J i ≡ false → getD y i 0 ≡ getD x i 0
+  mended-kept i l t = cell-mended i l ∙ ap (chosen i) t
+
+  mended-below : (i : ℕ) → i < n → getD y i 0 < 257
+  mended-below i l = pick (by-test (has J i))
+    where
+      pick : (has J i ≡ true) ⊎ (has J i ≡ false) → getD y i 0 < 257
+      pick (inl t) = rw (cell-mended i l ∙ ap (chosen i) t) (mod-lt _ (lit< tt))
+      pick (inr t) = rw (mended-kept i l t) (small i l)
+
+  -- ---- in the field
+
+  put : ℕ → car
+  put i = symbols y i ⊕ neg (symbols x i)
+
+  put-outside : (i : ℕ) → has J i ≡ false → put i ≡ 𝟘
+  unfolding put
+  put-outside i t = ap (λ (c : ℕ). res257 c ⊕ neg (symbols x i)) (same (decLt i n)) ∙ add-neg (symbols x i)
+    where
+      same : Dec (i < n) → getD y i 0 ≡ getD x i 0
+      same (yes l) = mended-kept i l t
+      same (no l) = getD-tabulate-past n _ i 0 (omega arith) ∙ sym (List·getD-eq-default x 0 {n = i} (omega arith))
+
+  put-inside : (i : ℕ) → has J i ≡ true → put i ≡ res257 (symbol i)
+  unfolding put
+  put-inside i t =
+      ap (λ (c : ℕ). res257 c ⊕ neg (symbols x i)) (cell-mended i (below i t) ∙ ap (chosen i) t)
+      ∙ ap (λ c. c ⊕ neg (symbols x i)) (res-mod 257 prime-257 _ ∙ res-add 257 prime-257 (getD x i 0) (symbol i))
+      ∙ solve R257 (symbols x i ∷ res257 (symbol i) ∷ []) (λ a b. a :+ b :- a := b) tt
+
+  sums-gone : (j : ℕ) → j < m → checkSum n y (suc j) ≡ 0
+  unfolding put
+  sums-gone j l = pick m refl l
+    where
+      pick : (k : ℕ) → m ≡ k → j < k → checkSum n y (suc j) ≡ 0
+      pick zero e b = absurd (let z : ⊥ = omega arith in z)
+      pick (suc d) e b =
+          res-tells-zero _ (checkSum-below n y (suc j))
+          (res-checkSum n y j
+          ∙ solve R257 (rowSum n (symbols y) j ∷ rowSum n (symbols x) j ∷ rowSum n put j ∷ [])
+          (λ c a p. :neg :1 :× p :≡ c :- a :⇒ :1 :× p :≡ :neg a :⇒ c := :0) tt
+          (rowSum-sub n (symbols y) (symbols x) j)
+          (symbols-sum J (checkSum n x) d e n narrow below put put-outside put-inside j b ∙ ap neg (res-checkSum n x j)))
+
+  pub mended-completed : mendedRow J n sums x ≡ completed n J x
+  mended-completed = completed-only n J x narrow below y (length-tabulate n _) mended-below mended-kept sums-gone

@@ -1,0 +1,78 @@
+// Mending a row at a set of columns: the row is completed there. The symbols are read off the check sums that it has as it
+// was received, which are at hand, and added to its cells; so no row is summed again. Column after column, so that the
+// coefficients of one column alone are kept.
+use crate::weights::weigh;
+use codec::locator::locator_polynomial;
+use codec::powers::powers;
+use codec::powers::wide;
+use codec::values::times;
+use columns::Columns;
+use columns::next;
+use columns::size;
+ghost use mathlib.Core.Path.{_≡_};
+ghost use mathlib.Core.Bool.{true};
+ghost use Prim.Native.Nat.{ℕ, _+_, _%_, _≤_, _<_};
+ghost use lib.ListN.{length, getD};
+ghost use Rattle.columns.specs.Columns.{has, members};
+ghost use Rattle.completion.specs.Mending.{mendedCell, symbolRead};
+ghost use Rattle.frame.specs.Completion.{completed};
+ghost use Rattle.frame.specs.Frame.{checkSums};
+
+// The coefficients times the sums, the last sum first. 64 products of 65535 and 256 fit the sum, so that it is reduced once.
+fn read_off(coefficients: &[u16], sums: &[u16]) -> u16
+    requires { ⌜
+        (length (now coefficients) ≤ 64) × (length (now coefficients) ≤ length (now sums)) × ((k : ℕ) → getD (now sums) k 0 < 257)
+        ⌝ }
+    ensures { λ r. ⌜ r ≡ symbolRead (now (coefficients .entry)) (now (sums .entry)) ⌝ }
+{
+    let m = coefficients.len();
+    let mut total: u32 = 0;
+    let mut k = 0;
+    while k < m {
+        total += times(coefficients[k], sums[m - 1 - k]);
+        k += 1;
+    }
+    (total % 257) as u16
+}
+
+// A cell with what was read off added.
+fn plus(cell: u16, symbol: u16) -> u16
+    ensures { λ r. ⌜ r ≡ (cell + symbol) % 257 ⌝ }
+{
+    ((wide(cell) + wide(symbol)) % 257) as u16
+}
+
+// The row with its symbol at column i mended.
+pub fn mend_cell(row: &mut [u16], i: usize, coefficients: &[u16], sums: &[u16])
+    requires { ⌜
+        (i < length (now row)) × (length (now coefficients) ≤ 64) × (length (now coefficients) ≤ length (now sums))
+        × ((k : ℕ) → getD (now sums) k 0 < 257)
+        ⌝ }
+    ensures { λ r. ⌜
+        now (row .exit) ≡ mendedCell (length (now (row .entry))) (now (coefficients .entry)) (now (sums .entry)) i (now (row .entry))
+        ⌝ }
+{
+    let symbol = read_off(coefficients, sums);
+    row[i] = plus(row[i], symbol);
+}
+
+// The row completed at the set, given the check sums that it has.
+pub fn mend_row(set: Columns, sums: &[u16], row: &mut [u16])
+    requires { ⌜
+        (length (now row) ≤ 256) × ((k : ℕ) → k < length (now row) → getD (now row) k 0 < 257) × (length (now sums) ≤ 64)
+        × (now sums ≡ checkSums (length (now row)) (length (now sums)) (now row))
+        × ((i : ℕ) → has set i ≡ true → i < length (now row)) × (length (members set) ≤ length (now sums))
+        ⌝ }
+    ensures { λ r. ⌜ now (row .exit) ≡ completed (length (now (row .entry))) set (now (row .entry)) ⌝ }
+{
+    let powers = powers();
+    let m = size(set);
+    let f = locator_polynomial(&powers, set);
+    let mut coefficients = [0u16; 64];
+    let mut i = next(set, 0);
+    while i < 256 {
+        weigh(&powers, &f, i, &mut coefficients[0..m]);
+        mend_cell(row, i, &coefficients[0..m], sums);
+        i = next(set, i + 1);
+    }
+}
