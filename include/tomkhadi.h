@@ -63,10 +63,10 @@ typedef struct {
   uint16_t checks[8];
 } tomkhadi_head;
 
-/* A job. Treat it as opaque: make it empty, then hand it from call to call. One of zeros is empty. Any other value is safe too: it counts as empty
- * unless its head is one that a call can leave (a shape that is not refused; where it is located, alone is 1, `length` columns are marked, all below
- * `columns`, and no row has fewer checks than `length`). The arrays hold what the last locate found that was not refused, and play a part only where
- * the job is located. */
+/* A job. Treat it as opaque: make it empty, then hand it from call to call. One of zeros is empty. Any other value is safe too: it counts as empty, and
+ * may be left as another that does, unless the numbers of its head are in their ranges (a shape that is not refused; where it is located, alone is 1,
+ * `length` columns are marked, all below `columns`, and no row has fewer checks than `length`). The arrays hold what the last locate found that was
+ * not refused, and play a part only where the job is located. */
 typedef struct {
   tomkhadi_head head;
   uint16_t sums[512];
