@@ -1,9 +1,16 @@
 /* Tomkhadi: register synthesis and column repair for frames over the field of 257.
  *
  * Link with target/staticlib/libcapi.a, which 'rt staticlib capi' builds. Every call is total: it answers for every argument, and a refusal is the number
- * that the documentation gives it; 0 means that nothing is refused. Nothing here allocates, blocks or keeps state: a job is a value that goes in and
- * comes back. A refused call writes nothing through the pointers. A pointer must be valid for the count of 16-bit numbers that follows it, and two
- * lent ranges must not overlap where one of them is written.
+ * that the documentation gives it; 0 means that nothing is refused. Nothing here allocates, blocks or keeps state: what a call knows stands in the job
+ * and in what is lent. A refused call writes nothing to what is lent and leaves the job as it was, but that locate refused by 24, 25 or 26 leaves it
+ * shaped. A pointer must be valid for the count of 16-bit numbers that follows it, and what is written must not overlap the job or anything else lent.
+ *
+ * The calls on a job, which is empty, shaped or located
+ *   tomkhadi_empty    makes it empty, whatever it was
+ *   tomkhadi_shape    gives it a shape: it is shaped
+ *   tomkhadi_encode   makes a frame legal; the job is left
+ *   tomkhadi_locate   finds the damaged columns of a frame: the job is located
+ *   tomkhadi_repair   wants a located job and the frame that was located, and mends it: the job is shaped
  *
  * Refusals because of the input
  *    1  p is below 2, above 65521 or not prime
@@ -27,6 +34,7 @@
 
 #include <stddef.h>
 #include <stdint.h>
+#include <string.h>
 
 #ifdef __cplusplus
 extern "C" {
@@ -44,9 +52,7 @@ typedef struct {
 tomkhadi_register tomkhadi_find(uint32_t p, const uint16_t *lengths, size_t count, const uint16_t *symbols, size_t symbol_count, uint16_t *taps,
                                 size_t tap_count);
 
-/* A job. Treat it as opaque: take it from one call and hand it to the next. phase: 0 empty, 1 shaped, 2 located; any other number counts as empty. A
- * value that no call returned is safe too: it counts as empty unless its numbers are in their ranges (a shape that is not refused; where it is
- * located, alone is 1, `length` columns are marked, all below `columns`, no row has fewer checks than `length`, and the sums are below 257). */
+/* The head of a job. phase: 0 empty, 1 shaped, 2 located; any other number counts as empty. */
 typedef struct {
   uint32_t phase;
   uint32_t alone;
@@ -55,39 +61,74 @@ typedef struct {
   uint64_t columns;
   uint64_t marks[4];
   uint16_t checks[8];
+} tomkhadi_head;
+
+/* A job. Treat it as opaque: make it empty, then hand it from call to call. One of zeros is empty. Any other value is safe too: it counts as empty, and
+ * may be left as another that does, unless the numbers of its head are in their ranges (a shape that is not refused; where it is located, alone is 1,
+ * `length` columns are marked, all below `columns`, and no row has fewer checks than `length`). The arrays hold what the last locate found that was
+ * not refused, and play a part only where the job is located. */
+typedef struct {
+  tomkhadi_head head;
   uint16_t sums[512];
   uint16_t taps[65];
 } tomkhadi_job;
 
-/* What shape returns: the refusal or 0, and the job. */
-typedef struct {
-  uint32_t refusal;
-  tomkhadi_job job;
-} tomkhadi_shaped;
-
-/* What locate and repair return: the refusal or 0, the number of columns, the columns as 256 marks (column i is bit i mod 64 of word i / 64), and the
- * job. Where it is refused the count is 0 and no column is marked. */
+/* What locate and repair answer: the refusal or 0, the number of columns, and the columns as 256 marks (column i is bit i mod 64 of word i / 64).
+ * Where it is refused the count is 0 and no column is marked. */
 typedef struct {
   uint32_t refusal;
   uint64_t count;
   uint64_t marks[4];
-  tomkhadi_job job;
 } tomkhadi_answer;
 
-/* The empty job. */
-tomkhadi_job tomkhadi_empty(void);
+/* The archive's functions take the head of a job by value and return it, and are lent the arrays. The calls below are made of them. */
+typedef struct {
+  uint32_t refusal;
+  tomkhadi_head head;
+} tomkhadi_head_shaped;
 
-/* Gives a job its shape: `columns` columns and one row for each of the check counts. Refusals: 2, 5, 6. */
-tomkhadi_shaped tomkhadi_shape(tomkhadi_job job, size_t columns, const uint16_t *checks, size_t rows);
+typedef struct {
+  tomkhadi_answer answer;
+  tomkhadi_head head;
+} tomkhadi_head_answered;
 
-/* Fills the check cells of a frame from its data cells; the job is kept. Answers the refusal or 0. Refusals: 21, 7, 4. */
-uint32_t tomkhadi_encode(tomkhadi_job job, uint16_t *frame, size_t size);
+tomkhadi_head tomkhadi_head_empty(void);
+tomkhadi_head_shaped tomkhadi_head_shape(tomkhadi_head head, size_t columns, const uint16_t *checks, size_t rows);
+uint32_t tomkhadi_head_encode(tomkhadi_head head, uint16_t *frame, size_t size);
+tomkhadi_head_answered tomkhadi_head_locate(tomkhadi_head head, uint16_t sums[512], uint16_t taps[65], const uint16_t *frame, size_t size);
+tomkhadi_head_answered tomkhadi_head_repair(tomkhadi_head head, const uint16_t sums[512], uint16_t *frame, size_t size);
 
-/* Finds the damaged columns of a frame, which it only reads. Refusals: 21, 7, 4, 24, 25, 26. After 24, 25, 26 the job is shaped. */
-tomkhadi_answer tomkhadi_locate(tomkhadi_job job, const uint16_t *frame, size_t size);
+/* Makes the job empty, and its arrays zeros. */
+static inline void tomkhadi_empty(tomkhadi_job *job) {
+  memset(job, 0, sizeof *job);
+  job->head = tomkhadi_head_empty();
+}
 
-/* Mends the located columns of a frame. Refusals: 21, 22, 7, 4, 23. */
-tomkhadi_answer tomkhadi_repair(tomkhadi_job job, uint16_t *frame, size_t size);
+/* Gives the job its shape: `columns` columns and one row for each of the check counts. Answers the refusal or 0. Refusals: 2, 5, 6. */
+static inline uint32_t tomkhadi_shape(tomkhadi_job *job, size_t columns, const uint16_t *checks, size_t rows) {
+  tomkhadi_head_shaped shaped = tomkhadi_head_shape(job->head, columns, checks, rows);
+  job->head = shaped.head;
+  return shaped.refusal;
+}
+
+/* Fills the check cells of a frame from its data cells. Answers the refusal or 0. Refusals: 21, 7, 4. */
+static inline uint32_t tomkhadi_encode(const tomkhadi_job *job, uint16_t *frame, size_t size) {
+  return tomkhadi_head_encode(job->head, frame, size);
+}
+
+/* Finds the damaged columns of a frame, which it only reads. Refusals: 21, 7, 4, 24, 25, 26. */
+static inline tomkhadi_answer tomkhadi_locate(tomkhadi_job *job, const uint16_t *frame, size_t size) {
+  tomkhadi_head_answered located = tomkhadi_head_locate(job->head, job->sums, job->taps, frame, size);
+  job->head = located.head;
+  return located.answer;
+}
+
+/* Mends the located columns of a frame, which must have the check sums of the frame located. Refusals: 21, 22, 7, 4, 23. */
+static inline tomkhadi_answer tomkhadi_repair(tomkhadi_job *job, uint16_t *frame, size_t size) {
+  tomkhadi_head_answered repaired = tomkhadi_head_repair(job->head, job->sums, frame, size);
+  job->head = repaired.head;
+  return repaired.answer;
+}
 
 #ifdef __cplusplus
 }

@@ -8,7 +8,7 @@ mod flint;
 use std::hint::black_box;
 use std::time::{Duration, Instant};
 
-use common::interface::{Calls, Job, Marks};
+use common::interface::{Calls, Head, Job, Marks};
 use common::random::Random;
 use plain::Plain;
 
@@ -17,34 +17,38 @@ use plain::Plain;
 const SAMPLES: usize = 201;
 const SAMPLE_TIME: Duration = Duration::from_micros(100);
 
-/// One call, with what is lent to it.
+/// One call, with what it reads. The head is that of the job before the call.
 enum Call {
     Find {
         p: u32,
         lengths: Vec<u16>,
         symbols: Vec<u16>,
     },
-    Encode {
-        job: Job,
-    },
+    Encode,
     Locate {
-        job: Job,
+        head: Head,
         frame: Vec<u16>,
     },
     Repair {
-        job: Job,
+        head: Head,
         frame: Vec<u16>,
     },
+}
+
+/// What a call writes: the job, and the taps or the frame.
+#[derive(Clone, Debug, PartialEq)]
+struct Lent {
+    job: Job,
+    buffer: Vec<u16>,
 }
 
 struct Case {
     name: String,
     call: Call,
-    /// What is lent to be written: the taps or the frame.
-    lent: Vec<u16>,
+    lent: Lent,
 }
 
-/// What a call answers, but for the job.
+/// What a call answers.
 #[derive(Clone, Copy, Debug, PartialEq)]
 struct Outcome {
     refusal: u32,
@@ -53,25 +57,29 @@ struct Outcome {
 }
 
 impl Call {
-    /// Makes the call. A frame to repair is copied first, since repair mends it.
-    fn make(&self, calls: &dyn Calls, lent: &mut [u16]) -> Outcome {
+    /// Makes the call. Locate and repair alter the head, so it is set first; repair mends the frame,
+    /// so that is copied first.
+    fn make(&self, calls: &dyn Calls, lent: &mut Lent) -> Outcome {
+        let Lent { job, buffer } = lent;
         let (refusal, count, marks) = match self {
             Call::Find {
                 p,
                 lengths,
                 symbols,
             } => {
-                let register = calls.find(*p, lengths, symbols, lent);
+                let register = calls.find(*p, lengths, symbols, buffer);
                 (register.refusal, register.length, [0; 4])
             }
-            Call::Encode { job } => (calls.encode(*job, lent), 0, [0; 4]),
-            Call::Locate { job, frame } => {
-                let answer = calls.locate(*job, frame);
+            Call::Encode => (calls.encode(job, buffer), 0, [0; 4]),
+            Call::Locate { head, frame } => {
+                job.head = *head;
+                let answer = calls.locate(job, frame);
                 (answer.refusal, answer.count, answer.marks)
             }
-            Call::Repair { job, frame } => {
-                lent.copy_from_slice(frame);
-                let answer = calls.repair(*job, lent);
+            Call::Repair { head, frame } => {
+                job.head = *head;
+                buffer.copy_from_slice(frame);
+                let answer = calls.repair(job, buffer);
                 (answer.refusal, answer.count, answer.marks)
             }
         };
@@ -105,7 +113,10 @@ fn find_cases(random: &mut Random) -> Vec<Case> {
             cases.push(Case {
                 name,
                 call,
-                lent: vec![0; 129],
+                lent: Lent {
+                    job: Job::EMPTY,
+                    buffer: vec![0; 129],
+                },
             });
         }
     }
@@ -120,37 +131,44 @@ fn frame_cases(
     damages: &[usize],
 ) -> Vec<Case> {
     let size = format!("{rows} x {columns}, {checks} checks");
-    let job = Plain.shape(Plain.empty(), columns, &vec![checks; rows]).job;
+    let mut job = Job::EMPTY;
+    Plain.shape(&mut job, columns, &vec![checks; rows]);
     let data = random.symbols(257, rows * columns);
     let mut sent = data.clone();
-    Plain.encode(job, &mut sent);
-    let name = format!("encode {size}");
+    Plain.encode(&job, &mut sent);
     let mut cases = vec![Case {
-        name,
-        call: Call::Encode { job },
-        lent: data,
+        name: format!("encode {size}"),
+        call: Call::Encode,
+        lent: Lent { job, buffer: data },
     }];
     let mut repairs = Vec::new();
     for &damage in damages {
         let mut frame = sent.clone();
         let hit = random.subset(columns, damage);
         random.damage(&mut frame, columns, &hit);
-        let located = Plain.locate(job, &frame).job;
-        let lent = frame.clone();
-        let call = Call::Repair {
-            job: located,
-            frame: frame.clone(),
-        };
+        let mut located = job;
+        Plain.locate(&mut located, &frame);
         repairs.push(Case {
             name: format!("repair {size}, {damage} damaged"),
-            call,
-            lent,
+            call: Call::Repair {
+                head: located.head,
+                frame: frame.clone(),
+            },
+            lent: Lent {
+                job: located,
+                buffer: frame.clone(),
+            },
         });
-        let call = Call::Locate { job, frame };
         cases.push(Case {
             name: format!("locate {size}, {damage} damaged"),
-            call,
-            lent: Vec::new(),
+            call: Call::Locate {
+                head: job.head,
+                frame,
+            },
+            lent: Lent {
+                job,
+                buffer: Vec::new(),
+            },
         });
     }
     cases.extend(repairs);

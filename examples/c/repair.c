@@ -40,16 +40,17 @@ static int refused(const char *call, uint32_t number) {
 }
 
 int main(void) {
-  /* A job is a value: each call takes it and hands it back. */
-  tomkhadi_shaped shaped = tomkhadi_shape(tomkhadi_empty(), COLUMNS, checks, ROWS);
-  if (refused("shape", shaped.refusal)) return 1;
+  /* The job keeps what the calls know of each other. */
+  tomkhadi_job job;
+  tomkhadi_empty(&job);
+  if (refused("shape", tomkhadi_shape(&job, COLUMNS, checks, ROWS))) return 1;
 
   /* The sender's side: data in the columns after the checks, whose cells may hold anything. */
   uint16_t frame[SIZE] = {
       0, 0, 0, 0, 10, 20, 30, 40, /* row 1: four checks, four data cells */
       0, 0, 1, 2, 3,  4,  5,  6,  /* row 2: two checks, six data cells */
   };
-  if (refused("encode", tomkhadi_encode(shaped.job, frame, SIZE))) return 1;
+  if (refused("encode", tomkhadi_encode(&job, frame, SIZE))) return 1;
   print_frame("sent", frame);
 
   /* The link: column 5 is hit in both rows. */
@@ -57,15 +58,14 @@ int main(void) {
   frame[COLUMNS + 5] = 0;
   print_frame("received", frame);
 
-  /* A job that has not located has nothing to mend by, and a refusal leaves the frame alone. */
-  if (!refused("repair before locate", tomkhadi_repair(shaped.job, frame, SIZE).refusal)) return 1;
+  /* A job that has not located has nothing to mend by, and a refusal leaves job and frame alone. */
+  if (!refused("repair before locate", tomkhadi_repair(&job, frame, SIZE).refusal)) return 1;
 
   /* The receiver's side: locate names the column, and repair of the same frame mends it. */
-  tomkhadi_answer located = tomkhadi_locate(shaped.job, frame, SIZE);
+  tomkhadi_answer located = tomkhadi_locate(&job, frame, SIZE);
   if (refused("locate", located.refusal)) return 1;
   print_columns(&located);
-  tomkhadi_answer repaired = tomkhadi_repair(located.job, frame, SIZE);
-  if (refused("repair", repaired.refusal)) return 1;
+  if (refused("repair", tomkhadi_repair(&job, frame, SIZE).refusal)) return 1;
   print_frame("mended", frame);
   return 0;
 }

@@ -18,6 +18,7 @@ with_library() {
   echo "proving the library and writing its archive .."
   quietly rt staticlib capi
   flags+=(--cfg library)
+  compile_c tests/common/header.c
   linked+=(-C link-arg=target/staticlib/libcapi.a)
 }
 

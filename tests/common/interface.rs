@@ -19,7 +19,7 @@ pub struct Register {
 
 #[repr(C)]
 #[derive(Clone, Copy, Debug, PartialEq, Eq)]
-pub struct Job {
+pub struct Head {
     pub phase: u32,
     pub alone: u32,
     pub length: u64,
@@ -27,15 +27,14 @@ pub struct Job {
     pub columns: u64,
     pub marks: Marks,
     pub checks: [u16; 8],
-    pub sums: [u16; 512],
-    pub taps: [u16; 65],
 }
 
 #[repr(C)]
 #[derive(Clone, Copy, Debug, PartialEq, Eq)]
-pub struct Shaped {
-    pub refusal: u32,
-    pub job: Job,
+pub struct Job {
+    pub head: Head,
+    pub sums: [u16; 512],
+    pub taps: [u16; 65],
 }
 
 #[repr(C)]
@@ -44,7 +43,6 @@ pub struct Answer {
     pub refusal: u32,
     pub count: u64,
     pub marks: Marks,
-    pub job: Job,
 }
 
 impl Register {
@@ -57,8 +55,8 @@ impl Register {
     }
 }
 
-impl Job {
-    pub const EMPTY: Job = Job {
+impl Head {
+    pub const EMPTY: Head = Head {
         phase: EMPTY,
         alone: 0,
         length: 0,
@@ -66,29 +64,46 @@ impl Job {
         columns: 0,
         marks: [0; 4],
         checks: [0; 8],
-        sums: [0; 512],
-        taps: [0; 65],
     };
 
-    /// The shaped job of the same shape, which holds no findings.
-    pub fn reshaped(&self) -> Job {
-        Job {
+    /// The head of the shape given, which is not refused.
+    pub fn shaped(columns: usize, checks: &[u16]) -> Head {
+        let mut head = Head {
+            phase: SHAPED,
+            rows: checks.len() as u64,
+            columns: columns as u64,
+            ..Head::EMPTY
+        };
+        head.checks[..checks.len()].copy_from_slice(checks);
+        head
+    }
+
+    /// The shaped head of the same shape.
+    pub fn reshaped(&self) -> Head {
+        Head {
             phase: SHAPED,
             rows: self.rows,
             columns: self.columns,
             checks: self.checks,
-            ..Job::EMPTY
+            ..Head::EMPTY
         }
     }
 }
 
+impl Job {
+    pub const EMPTY: Job = Job {
+        head: Head::EMPTY,
+        sums: [0; 512],
+        taps: [0; 65],
+    };
+}
+
 impl Answer {
-    pub fn refused(refusal: u32, job: Job) -> Answer {
+    pub fn refused(refusal: u32) -> Answer {
         Answer {
             refusal,
             count: 0,
             marks: [0; 4],
-            job,
         }
     }
 }
@@ -96,11 +111,11 @@ impl Answer {
 /// The calls of the header, with a slice for each pointer and count.
 pub trait Calls {
     fn find(&self, p: u32, lengths: &[u16], symbols: &[u16], taps: &mut [u16]) -> Register;
-    fn empty(&self) -> Job;
-    fn shape(&self, job: Job, columns: usize, checks: &[u16]) -> Shaped;
-    fn encode(&self, job: Job, frame: &mut [u16]) -> u32;
-    fn locate(&self, job: Job, frame: &[u16]) -> Answer;
-    fn repair(&self, job: Job, frame: &mut [u16]) -> Answer;
+    fn empty(&self, job: &mut Job);
+    fn shape(&self, job: &mut Job, columns: usize, checks: &[u16]) -> u32;
+    fn encode(&self, job: &Job, frame: &mut [u16]) -> u32;
+    fn locate(&self, job: &mut Job, frame: &[u16]) -> Answer;
+    fn repair(&self, job: &mut Job, frame: &mut [u16]) -> Answer;
 }
 
 /// The proved library, in the archive that `rt staticlib capi` writes.
@@ -109,7 +124,7 @@ pub struct Library;
 
 #[cfg(library)]
 mod library {
-    use super::{Answer, Calls, Job, Library, Register, Shaped};
+    use super::{Answer, Calls, Job, Library, Register};
 
     unsafe extern "C" {
         fn tomkhadi_find(
@@ -121,15 +136,16 @@ mod library {
             taps: *mut u16,
             tap_count: usize,
         ) -> Register;
-        fn tomkhadi_empty() -> Job;
-        fn tomkhadi_shape(job: Job, columns: usize, checks: *const u16, rows: usize) -> Shaped;
-        fn tomkhadi_encode(job: Job, frame: *mut u16, size: usize) -> u32;
-        fn tomkhadi_locate(job: Job, frame: *const u16, size: usize) -> Answer;
-        fn tomkhadi_repair(job: Job, frame: *mut u16, size: usize) -> Answer;
+        // Those of `header.c`.
+        fn header_empty(job: *mut Job);
+        fn header_shape(job: *mut Job, columns: usize, checks: *const u16, rows: usize) -> u32;
+        fn header_encode(job: *const Job, frame: *mut u16, size: usize) -> u32;
+        fn header_locate(job: *mut Job, frame: *const u16, size: usize) -> Answer;
+        fn header_repair(job: *mut Job, frame: *mut u16, size: usize) -> Answer;
     }
 
-    // SAFETY, of every call: each pointer is that of a slice and is followed by the slice's length,
-    // a mutable slice overlaps no other, and the header's functions keep nothing that they are lent.
+    // SAFETY, of every call: a pointer is that of a job, or of a slice and followed by its length;
+    // what is lent mutably overlaps nothing else, and the header's functions keep nothing of it.
     impl Calls for Library {
         fn find(&self, p: u32, lengths: &[u16], symbols: &[u16], taps: &mut [u16]) -> Register {
             unsafe {
@@ -145,24 +161,24 @@ mod library {
             }
         }
 
-        fn empty(&self) -> Job {
-            unsafe { tomkhadi_empty() }
+        fn empty(&self, job: &mut Job) {
+            unsafe { header_empty(job) }
         }
 
-        fn shape(&self, job: Job, columns: usize, checks: &[u16]) -> Shaped {
-            unsafe { tomkhadi_shape(job, columns, checks.as_ptr(), checks.len()) }
+        fn shape(&self, job: &mut Job, columns: usize, checks: &[u16]) -> u32 {
+            unsafe { header_shape(job, columns, checks.as_ptr(), checks.len()) }
         }
 
-        fn encode(&self, job: Job, frame: &mut [u16]) -> u32 {
-            unsafe { tomkhadi_encode(job, frame.as_mut_ptr(), frame.len()) }
+        fn encode(&self, job: &Job, frame: &mut [u16]) -> u32 {
+            unsafe { header_encode(job, frame.as_mut_ptr(), frame.len()) }
         }
 
-        fn locate(&self, job: Job, frame: &[u16]) -> Answer {
-            unsafe { tomkhadi_locate(job, frame.as_ptr(), frame.len()) }
+        fn locate(&self, job: &mut Job, frame: &[u16]) -> Answer {
+            unsafe { header_locate(job, frame.as_ptr(), frame.len()) }
         }
 
-        fn repair(&self, job: Job, frame: &mut [u16]) -> Answer {
-            unsafe { tomkhadi_repair(job, frame.as_mut_ptr(), frame.len()) }
+        fn repair(&self, job: &mut Job, frame: &mut [u16]) -> Answer {
+            unsafe { header_repair(job, frame.as_mut_ptr(), frame.len()) }
         }
     }
 }

@@ -4,7 +4,7 @@
 use std::collections::BTreeMap;
 use std::fmt::Debug;
 
-use common::interface::{Answer, Calls, EMPTY, Job, Register, SHAPED};
+use common::interface::{Answer, Calls, EMPTY, Head, Job, Register, SHAPED};
 
 use crate::independent::{Independent, shape_of};
 
@@ -25,6 +25,13 @@ pub struct Judge<'a> {
     disagreements: u64,
 }
 
+/// An empty job whose arrays hold what no call leaves.
+pub const FILLED: Job = Job {
+    head: Head::EMPTY,
+    sums: [0xa5a5; 512],
+    taps: [0xa5a5; 65],
+};
+
 /// A lent buffer, between two margins that no call may touch.
 #[derive(Clone, Debug, PartialEq)]
 struct Lent(Vec<u16>);
@@ -43,22 +50,43 @@ impl Lent {
     }
 }
 
-/// The job without the differences that nobody can see between values that count as the same: the
+/// A job and a frame, as lent to a call, each between two margins.
+#[repr(C)]
+#[derive(Clone, Debug, PartialEq)]
+struct Held {
+    before: u64,
+    job: Job,
+    after: u64,
+    frame: Lent,
+}
+
+impl Held {
+    fn new(job: &Job, frame: &[u16]) -> Held {
+        Held {
+            before: u64::MAX,
+            job: *job,
+            after: u64::MAX,
+            frame: Lent::new(frame),
+        }
+    }
+}
+
+/// The head without the differences that nobody can see between values that count as the same: the
 /// phase of one that counts as empty, and the length and alone mark of one that is not located.
-fn settled(job: &Job) -> Job {
-    match shape_of(job) {
-        None => Job {
+fn settled(head: &Head) -> Head {
+    match shape_of(head) {
+        None => Head {
             phase: EMPTY,
             alone: 0,
             length: 0,
-            ..*job
+            ..*head
         },
-        Some(_) if job.phase == SHAPED => Job {
+        Some(_) if head.phase == SHAPED => Head {
             alone: 0,
             length: 0,
-            ..*job
+            ..*head
         },
-        Some(_) => *job,
+        Some(_) => *head,
     }
 }
 
@@ -101,13 +129,36 @@ impl<'a> Judge<'a> {
         *self.answers.entry((call, refusal)).or_default() += 1;
     }
 
-    /// Compares the jobs that two calls on `job` returned, to the letter where a call can return it.
-    fn compare_jobs(&mut self, call: &str, inputs: &dyn Debug, job: &Job, expected: Job, got: Job) {
-        if *job == settled(job) {
-            self.compare(call, inputs, expected, got);
-        } else {
-            self.compare(call, inputs, settled(&expected), settled(&got));
+    /// Makes a call on a job and a frame with both implementations, and compares what they answer,
+    /// the frame, and the whole job: to the letter where a call can leave the one given. Answers
+    /// what the call answers and the frame.
+    fn both<T: Debug + PartialEq>(
+        &mut self,
+        call: &str,
+        inputs: &dyn Debug,
+        job: &mut Job,
+        frame: &[u16],
+        make: &dyn Fn(&dyn Calls, &mut Job, &mut [u16]) -> T,
+    ) -> (T, Vec<u16>) {
+        let inputs = (inputs, ("frame", frame), *job);
+        let is_settled = job.head == settled(&job.head);
+        let (mut expected, mut got) = (Held::new(job, frame), Held::new(job, frame));
+        let wanted = make(&Independent, &mut expected.job, expected.frame.contents());
+        let answer = make(self.subject, &mut got.job, got.frame.contents());
+        self.compare(&format!("{call}: the answer"), &inputs, &wanted, &answer);
+        *job = got.job;
+        if !is_settled {
+            expected.job.head = settled(&expected.job.head);
+            got.job.head = settled(&got.job.head);
         }
+        let left = got.frame.contents().to_vec();
+        self.compare(
+            &format!("{call}: the job and the frame"),
+            &inputs,
+            expected,
+            got,
+        );
+        (answer, left)
     }
 
     /// Answers the register and the tap buffer.
@@ -138,82 +189,53 @@ impl<'a> Judge<'a> {
         (found, taps)
     }
 
+    /// The job that was shaped, with arrays of anything, and is made empty.
     pub fn empty(&mut self) -> Job {
-        let job = self.subject.empty();
-        self.compare("empty", &(), Independent.empty(), job);
+        let mut job = Job {
+            head: Head::shaped(7, &[3]),
+            ..FILLED
+        };
+        self.both("empty", &(), &mut job, &[], &|calls, job, _| {
+            calls.empty(job)
+        });
         job
     }
 
-    /// Answers the refusal and the job.
-    pub fn shape(&mut self, job: Job, columns: usize, checks: &[u16]) -> (u32, Job) {
-        let wanted = Independent.shape(job, columns, checks);
-        let got = self.subject.shape(job, columns, checks);
-        let inputs = (("columns", columns), ("checks", checks), job);
-        self.compare("shape: the refusal", &inputs, wanted.refusal, got.refusal);
-        self.compare_jobs("shape: the job", &inputs, &job, wanted.job, got.job);
-        self.answered("shape", got.refusal);
-        (got.refusal, got.job)
+    /// Answers the refusal.
+    pub fn shape(&mut self, job: &mut Job, columns: usize, checks: &[u16]) -> u32 {
+        let inputs = (("columns", columns), ("checks", checks));
+        let (refusal, _) = self.both("shape", &inputs, job, &[], &|calls, job, _| {
+            calls.shape(job, columns, checks)
+        });
+        self.answered("shape", refusal);
+        refusal
     }
 
     /// Answers the refusal and the frame.
-    pub fn encode(&mut self, job: Job, frame: &[u16]) -> (u32, Vec<u16>) {
-        let (mut expected, mut lent) = (Lent::new(frame), Lent::new(frame));
-        let wanted = Independent.encode(job, expected.contents());
-        let got = self.subject.encode(job, lent.contents());
-        let inputs = (("frame", frame), job);
-        self.compare("encode: the refusal", &inputs, wanted, got);
-        let left = lent.contents().to_vec();
-        self.compare("encode: the frame", &inputs, expected, lent);
-        self.answered("encode", got);
-        (got, left)
+    pub fn encode(&mut self, job: &Job, frame: &[u16]) -> (u32, Vec<u16>) {
+        let (refusal, left) =
+            self.both("encode", &(), &mut { *job }, frame, &|calls, job, frame| {
+                calls.encode(job, frame)
+            });
+        self.answered("encode", refusal);
+        (refusal, left)
     }
 
-    fn compare_answers(
-        &mut self,
-        call: &str,
-        inputs: &dyn Debug,
-        job: &Job,
-        wanted: Answer,
-        got: Answer,
-    ) {
-        let seen = |answer: Answer| (answer.refusal, answer.count, answer.marks);
-        self.compare(
-            &format!("{call}: the answer"),
-            inputs,
-            seen(wanted),
-            seen(got),
-        );
-        self.compare_jobs(
-            &format!("{call}: the job"),
-            inputs,
-            job,
-            wanted.job,
-            got.job,
-        );
-    }
-
-    pub fn locate(&mut self, job: Job, frame: &[u16]) -> Answer {
-        let mut lent = Lent::new(frame);
-        let wanted = Independent.locate(job, frame);
-        let got = self.subject.locate(job, lent.contents());
-        let inputs = (("frame", frame), job);
-        self.compare_answers("locate", &inputs, &job, wanted, got);
-        self.compare("locate: the frame", &inputs, Lent::new(frame), lent);
-        self.answered("locate", got.refusal);
-        got
+    pub fn locate(&mut self, job: &mut Job, frame: &[u16]) -> Answer {
+        let (answer, _) = self.both("locate", &(), job, frame, &|calls, job, frame| {
+            calls.locate(job, frame)
+        });
+        self.answered("locate", answer.refusal);
+        answer
     }
 
     /// Answers the answer and the frame.
-    pub fn repair(&mut self, job: Job, frame: &[u16]) -> (Answer, Vec<u16>) {
-        let (mut expected, mut lent) = (Lent::new(frame), Lent::new(frame));
-        let wanted = Independent.repair(job, expected.contents());
-        let got = self.subject.repair(job, lent.contents());
-        let inputs = (("frame", frame), job);
-        self.compare_answers("repair", &inputs, &job, wanted, got);
-        let left = lent.contents().to_vec();
-        self.compare("repair: the frame", &inputs, expected, lent);
-        self.answered("repair", got.refusal);
-        (got, left)
+    pub fn repair(&mut self, job: &mut Job, frame: &[u16]) -> (Answer, Vec<u16>) {
+        let (answer, left) = self.both("repair", &(), job, frame, &|calls, job, frame| {
+            calls.repair(job, frame)
+        });
+        self.answered("repair", answer.refusal);
+        (answer, left)
     }
 
     /// Prints how often each answer came, and the verdict. True if all is well.

@@ -34,12 +34,12 @@ fn register_line(judge: &mut Judge, body: &[u16]) -> Option<String> {
 fn frame_line(judge: &mut Judge, body: &[u16]) -> Option<String> {
     let (&[rows, columns], rest) = body.split_first_chunk()?;
     let (checks, frame) = rest.split_at_checked(usize::from(rows))?;
-    let empty = judge.empty();
-    let (refusal, job) = judge.shape(empty, usize::from(columns), checks);
+    let mut job = judge.empty();
+    let refusal = judge.shape(&mut job, usize::from(columns), checks);
     if refusal != 0 {
         return Some(format!("E {refusal}"));
     }
-    let answer = judge.locate(job, frame);
+    let answer = judge.locate(&mut job, frame);
     if answer.refusal != 0 {
         return Some(format!("E {}", answer.refusal));
     }

@@ -1,37 +1,41 @@
--- What the exported functions do: what they return, and the lent buffer that they leave, by the definitions of the finder and of the calls on a job.
+-- What the exported functions do, by the definitions of the finder and of the calls on a job: what they return, and what they leave in the lent arrays and
+-- buffers. What is not lent is kept: shape and encode keep both arrays, and repair, which only reads the sums, the taps.
 use mathlib.Core.Path.{_≡_}
 use mathlib.Core.List.{List}
 use Prim.Native.Nat.{ℕ}
 use lib.ListN.{length}
 use Rattle.finder.specs.Finder.{answer, tapsLeft}
 use Rattle.job.specs.Calls.{Outcome}
+use Rattle.job.specs.Job.{Arrays, Job}
 use Rattle.capi.specs.Mirror.{registerOf, refusalOf, shapedOf, answeredOf}
-use Rattle.capi.specs.declared.CAnswer.{CAnswer}
+use Rattle.capi.specs.declared.CAnswered.{CAnswered}
 use Rattle.capi.specs.declared.CRegister.{CRegister}
 use Rattle.capi.specs.declared.CShaped.{CShaped}
-use Rattle.job.specs.Job.{Arrays}
 
+-- find: the register, and the buffer of the taps
 pub record CFinds (p : ℕ) (lengths symbols buffer left : List ℕ) (r : CRegister) : Type 0 where
   pub answers : r ≡ registerOf (answer p lengths symbols (length buffer))
   pub leaves : left ≡ tapsLeft p lengths symbols buffer
 
--- of shape: what is returned; whatever stands in the arrays is left
-pub record CShapes (o : Outcome) (r : CShaped) (a : Arrays) : Type 0 where
+-- In the others o is the outcome of the call on the job that head and arrays make.
+-- shape: the refusal or 0 and the head; the arrays a are those of the outcome
+pub record CShapes (a : Arrays) (o : Outcome) (r : CShaped) : Type 0 where
   pub answers : r ≡ shapedOf o
   pub arrays : o .job .arrays ≡ a
 
--- of encode: the refusal or 0, and the frame
-pub record CEncodes (o : Outcome) (r : ℕ) (left : List ℕ) : Type 0 where
+-- encode: the refusal or 0, and the frame; the job j is that of the outcome
+pub record CEncodes (j : Job) (o : Outcome) (r : ℕ) (left : List ℕ) : Type 0 where
   pub answers : r ≡ refusalOf (o .answer)
+  pub job : o .job ≡ j
   pub leaves : left ≡ o .frame
 
--- of locate, which writes the arrays
-pub record CLocates (o : Outcome) (r : CAnswer) (a : Arrays) : Type 0 where
+-- locate: the answer and the head, and the arrays a as it leaves them
+pub record CLocates (o : Outcome) (r : CAnswered) (a : Arrays) : Type 0 where
   pub answers : r ≡ answeredOf o
   pub arrays : a ≡ o .job .arrays
 
--- of repair, which writes the frame
-pub record CRepairs (o : Outcome) (r : CAnswer) (a : Arrays) (left : List ℕ) : Type 0 where
+-- repair: the answer and the head, and the frame; the arrays a are those of the outcome
+pub record CRepairs (a : Arrays) (o : Outcome) (r : CAnswered) (left : List ℕ) : Type 0 where
   pub answers : r ≡ answeredOf o
-  pub arrays : a ≡ o .job .arrays
+  pub arrays : o .job .arrays ≡ a
   pub leaves : left ≡ o .frame

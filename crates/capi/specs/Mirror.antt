@@ -1,4 +1,4 @@
--- How jobs and answers cross the C interface: as structs of numbers and arrays. An exported function can return no enum, so the phase is a number.
+-- How heads of jobs and answers cross the C interface: as structs of numbers and arrays. An exported function can return no enum, so the phase is a number.
 use mathlib.Core.Bool.{Bool, true, false, cond}
 use Prim.Native.Nat.{ℕ}
 use lib.Dec.{eqb}
@@ -8,7 +8,7 @@ use Rattle.job.specs.Calls.{Outcome}
 use Rattle.job.specs.declared.Head.{Head}
 use Rattle.job.specs.declared.Phase.{Phase}
 use Rattle.job.specs.declared.Phase.the-variants.{Empty, Shaped, Located}
-use Rattle.capi.specs.declared.CAnswer.{CAnswer}
+use Rattle.capi.specs.declared.CAnswered.{CAnswered}
 use Rattle.capi.specs.declared.CHead.{CHead}
 use Rattle.capi.specs.declared.CRegister.{CRegister}
 use Rattle.capi.specs.declared.CShaped.{CShaped}
@@ -17,6 +17,7 @@ use Rattle.capi.specs.declared.CShaped.{CShaped}
 abbrev pub phaseOf : (phase length alone : ℕ) → Phase
 phaseOf k c a = cond (eqb k 1) Shaped (cond (eqb k 2) (Located c (eqb a 1)) Empty)
 
+-- the head that a struct of C stands for, whatever its numbers are
 abbrev pub headOf : CHead → Head
 headOf m =
     record {
@@ -25,10 +26,12 @@ headOf m =
       columns = record { words = m .marks };
     }
 
+-- 1 for true
 abbrev pub markOf : Bool → ℕ
 markOf true = 1
 markOf false = 0
 
+-- a phase in three numbers; those of what only a located job has are 0 elsewhere
 abbrev pub phaseNumber : Phase → ℕ
 phaseNumber Empty = 0
 phaseNumber Shaped = 1
@@ -44,6 +47,7 @@ phaseAlone Empty = 0
 phaseAlone Shaped = 0
 phaseAlone (Located c a) = markOf a
 
+-- the struct of C that stands for a head; `headOf` gives the head back (proofs/RoundTrip.antt)
 abbrev pub mirrorOf : Head → CHead
 mirrorOf j =
     record {
@@ -62,19 +66,25 @@ refusalOf Calls.done = 0
 refusalOf (Calls.columns c) = 0
 refusalOf (Calls.refused k) = k
 
+-- the number of columns, and 0 where none are answered
 abbrev pub countOf : Calls.Answer → ℕ
 countOf Calls.done = 0
 countOf (Calls.columns c) = c
 countOf (Calls.refused k) = 0
 
+-- what the finder returns
 abbrev pub registerOf : Finder.Answer → CRegister
 registerOf (Finder.register l a) = record { refusal = 0; alone = markOf a; length = l }
 registerOf (Finder.refused k) = record { refusal = k; alone = 0; length = 0 }
 
+-- what shape returns
 abbrev pub shapedOf : Outcome → CShaped
 shapedOf o = record { refusal = refusalOf (o .answer); head = mirrorOf (o .job .head) }
 
-abbrev pub answeredOf : Outcome → CAnswer
+-- what locate and repair return
+abbrev pub answeredOf : Outcome → CAnswered
 answeredOf o =
-    record
-    { refusal = refusalOf (o .answer); count = countOf (o .answer); marks = o .marks .words; head = mirrorOf (o .job .head) }
+    record {
+      answer = record { refusal = refusalOf (o .answer); count = countOf (o .answer); marks = o .marks .words };
+      head = mirrorOf (o .job .head);
+    }

@@ -1,5 +1,6 @@
-// The calls on a job for C.
+// The calls on a job for C: the head by value, the arrays by pointer. The header makes of each a call on a job by pointer.
 use crate::CAnswer;
+use crate::CAnswered;
 use crate::CHead;
 use crate::CShaped;
 use crate::mirror::head_of;
@@ -49,31 +50,31 @@ fn reply_count(reply: Reply) -> usize
     }
 }
 
-fn answer_of(a: Answered) -> CAnswer
+fn answered_of(a: Answered) -> CAnswered
     ensures { λ r. ⌜ ((b : Arrays) (f : List ℕ) → r ≡ answeredOf (answeredOutcome a b f)) ⌝ }
 {
     let columns = a.columns;
     let marks = columns.words;
     let reply = a.reply;
-    let head = mirror_of(a.head);
-    CAnswer {
+    let answer = CAnswer {
         refusal: reply_refusal(reply),
         count: reply_count(reply),
         marks,
-        head,
-    }
+    };
+    let head = mirror_of(a.head);
+    CAnswered { answer, head }
 }
 
 #[no_mangle]
-pub extern "C" fn tomkhadi_empty() -> CHead
+pub extern "C" fn tomkhadi_head_empty() -> CHead
     ensures { λ r. ⌜ r ≡ mirrorOf emptyHead ⌝ }
 {
     mirror_of(empty())
 }
 
 #[no_mangle]
-pub extern "C" fn tomkhadi_shape(head: CHead, columns: usize, checks: &[u16]) -> CShaped
-    ensures { λ r. ⌜ ((a : Arrays) → CShapes (step (beside (headOf head) a) (shape columns (now (checks .entry)))) r a) ⌝ }
+pub extern "C" fn tomkhadi_head_shape(head: CHead, columns: usize, checks: &[u16]) -> CShaped
+    ensures { λ r. ⌜ ((a : Arrays) → CShapes a (step (beside (headOf head) a) (shape columns (now (checks .entry)))) r) ⌝ }
 {
     let made = shape(head_of(head), columns, checks);
     let checked = made.checked;
@@ -85,27 +86,33 @@ pub extern "C" fn tomkhadi_shape(head: CHead, columns: usize, checks: &[u16]) ->
 }
 
 #[no_mangle]
-pub extern "C" fn tomkhadi_encode(head: CHead, frame: &mut [u16]) -> u32
-    ensures { λ r. ⌜ ((a : Arrays) → CEncodes (step (beside (headOf head) a) (encode (now (frame .entry)))) r (now (frame .exit))) ⌝ }
+pub extern "C" fn tomkhadi_head_encode(head: CHead, frame: &mut [u16]) -> u32
+    ensures { λ r. ⌜ ((a : Arrays) → CEncodes (beside (headOf head) a) (step (beside (headOf head) a) (encode (now (frame .entry)))) r (now (frame .exit))) ⌝ }
 {
     refusal_of(encode(head_of(head), frame))
 }
 
 #[no_mangle]
-pub extern "C" fn tomkhadi_locate(
+pub extern "C" fn tomkhadi_head_locate(
     head: CHead,
     sums: &mut [u16; 512],
     taps: &mut [u16; 65],
     frame: &[u16],
-) -> CAnswer
-    ensures { λ r. ⌜ ((a : Arrays) → CLocates (step (beside (headOf head) (withFound a (now (sums .entry)) (now (taps .entry)))) (locate (now (frame .entry)))) r (withFound a (now (sums .exit)) (now (taps .exit)))) ⌝ }
+) -> CAnswered
+    ensures { λ r. ⌜ ((a : Arrays) → CLocates (step (beside (headOf head) (withFound a (now (sums .entry)) (now (taps .entry)))) (locate (now (frame .entry)))) r
+        (withFound a (now (sums .exit)) (now (taps .exit)))) ⌝ }
 {
-    answer_of(locate(head_of(head), sums, taps, frame))
+    answered_of(locate(head_of(head), sums, taps, frame))
 }
 
 #[no_mangle]
-pub extern "C" fn tomkhadi_repair(head: CHead, sums: &[u16; 512], frame: &mut [u16]) -> CAnswer
-    ensures { λ r. ⌜ ((a : Arrays) → CRepairs (step (beside (headOf head) (withSums a (now (sums .entry)))) (repair (now (frame .entry)))) r (withSums a (now (sums .entry))) (now (frame .exit))) ⌝ }
+pub extern "C" fn tomkhadi_head_repair(
+    head: CHead,
+    sums: &[u16; 512],
+    frame: &mut [u16],
+) -> CAnswered
+    ensures { λ r. ⌜ ((a : Arrays) → CRepairs (withSums a (now (sums .entry)))
+        (step (beside (headOf head) (withSums a (now (sums .entry)))) (repair (now (frame .entry)))) r (now (frame .exit))) ⌝ }
 {
-    answer_of(repair(head_of(head), sums, frame))
+    answered_of(repair(head_of(head), sums, frame))
 }

@@ -10,7 +10,7 @@ pub struct CRegister {
     pub length: usize,
 }
 
-// The head of a job. Its arrays, sums and taps, stand beside it in the struct of the header, which lends them.
+// The head of a job. The header's struct of a job has the arrays beside it, and lends them.
 #[repr(C)]
 pub struct CHead {
     pub phase: u32,
@@ -33,5 +33,10 @@ pub struct CAnswer {
     pub refusal: u32,
     pub count: usize,
     pub marks: [u64; 4],
+}
+
+#[repr(C)]
+pub struct CAnswered {
+    pub answer: CAnswer,
     pub head: CHead,
 }

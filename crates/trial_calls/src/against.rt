@@ -19,8 +19,8 @@ use brute::values::copy;
 use brute::values::part;
 use columns::Columns;
 use job::Phase;
-use whole::Answered;
-use whole::Job;
+use whole_job::Answered;
+use whole_job::Job;
 
 // A job and its model. They agree until a call answers or leaves what the model does not; whether the last call was refused.
 pub(crate) struct Pair {
@@ -31,7 +31,7 @@ pub(crate) struct Pair {
 }
 
 pub(crate) fn start() -> Pair {
-    let job = whole::empty();
+    let job = whole_job::empty();
     let model = model::empty();
     Pair {
         agree: true,
@@ -111,7 +111,7 @@ fn tally(number: u32, kind: usize, counts: &mut [u64]) {
 
 pub(crate) fn shape(pair: Pair, columns: u16, checks: &[u16], counts: &mut [u64]) -> Pair {
     let due = model::shape(pair.model, columns, checks);
-    let answer = whole::shape(pair.job, columns as usize, checks);
+    let answer = whole_job::shape(pair.job, columns as usize, checks);
     let checked = answer.checked;
     let number = of_checked(checked);
     tally(number, RESHAPED, counts);
@@ -149,7 +149,7 @@ pub(crate) fn encode(pair: Pair, frame: &mut [u16], counts: &mut [u64]) -> Pair 
     let due = model::encode_reason(model, frame);
     let mut room = [0u16; 512];
     copy(frame, &mut room, 0);
-    let number = of_checked(whole::encode(job, frame));
+    let number = of_checked(whole_job::encode(job, frame));
     tally(number, ENCODED, counts);
     let left = left_by_encode(model, number, part(&room, 0, frame.len()), frame);
     Pair {
@@ -176,7 +176,7 @@ fn answers(answer: Answered, number: u32, model: Model, found: Model) -> bool {
 pub(crate) fn locate(pair: Pair, frame: &[u16], counts: &mut [u64]) -> Pair {
     let due = model::located(pair.model, frame);
     let model = due.model;
-    let answer = whole::locate(pair.job, frame);
+    let answer = whole_job::locate(pair.job, frame);
     let reply = answer.reply;
     let job = answer.job;
     tally(of_reply(reply), FOUND, counts);
@@ -213,7 +213,7 @@ pub(crate) fn repair(pair: Pair, frame: &mut [u16], counts: &mut [u64]) -> Pair 
     let model = due.model;
     let mut room = [0u16; 512];
     copy(frame, &mut room, 0);
-    let answer = whole::repair(pair.job, frame);
+    let answer = whole_job::repair(pair.job, frame);
     let reply = answer.reply;
     tally(of_reply(reply), MENDED, counts);
     let right = answers(answer, due.number, model, held);

@@ -11,14 +11,14 @@ use brute::values::minus;
 use brute::values::part;
 use brute::values::put;
 use brute::values::set;
-use whole::Job;
+use whole_job::Job;
 
 // What shape answers for rows of `checks` checks, but for the last row.
 fn shapes(rows: usize, columns: usize, checks: u16, last: u16) -> u32 {
     let mut room = [0u16; 9];
     set(&mut room, 9, checks);
     put(&mut room, minus(rows, 1), last);
-    let shaped = whole::shape(whole::empty(), columns, part(&room, 0, rows));
+    let shaped = whole_job::shape(whole_job::empty(), columns, part(&room, 0, rows));
     let checked = shaped.checked;
     of_checked(checked)
 }
@@ -49,17 +49,17 @@ fn shape_edge(i: usize) -> bool {
 
 fn shape(job: Job, columns: usize, upper: u16, lower: u16) -> Job {
     let checks = [upper, lower];
-    whole::shape(job, columns, &checks).job
+    whole_job::shape(job, columns, &checks).job
 }
 
 fn shaped() -> Job {
-    shape(whole::empty(), 4, 3, 2)
+    shape(whole_job::empty(), 4, 3, 2)
 }
 
 fn locate(job: Job, n: usize, v: u16, k: usize) -> Job {
     let mut room = [0u16; 16];
     set(&mut room, k, v);
-    whole::locate(job, part(&room, 0, n)).job
+    whole_job::locate(job, part(&room, 0, n)).job
 }
 
 fn located() -> Job {
@@ -69,13 +69,13 @@ fn located() -> Job {
 fn mend(job: Job, n: usize, v: u16, k: usize) -> Job {
     let mut room = [0u16; 16];
     set(&mut room, k, v);
-    whole::repair(job, first(&mut room, n)).job
+    whole_job::repair(job, first(&mut room, n)).job
 }
 
 fn locates(job: Job, n: usize, v: u16, k: usize) -> u32 {
     let mut room = [0u16; 16];
     set(&mut room, k, v);
-    let answer = whole::locate(job, part(&room, 0, n));
+    let answer = whole_job::locate(job, part(&room, 0, n));
     let reply = answer.reply;
     of_reply(reply)
 }
@@ -85,7 +85,7 @@ fn encodes(job: Job, n: usize, v: u16, k: usize) -> u32 {
     let mut room = [0u16; 16];
     set(&mut room, k, v);
     let lent = room;
-    let number = of_checked(whole::encode(job, first(&mut room, n)));
+    let number = of_checked(whole_job::encode(job, first(&mut room, n)));
     if number == 0 {
         return 0;
     }
@@ -107,7 +107,7 @@ fn left(number: u32, v: u16) -> u16 {
 fn repairs(job: Job, n: usize, v: u16, k: usize) -> u32 {
     let mut room = [0u16; 16];
     set(&mut room, k, v);
-    let answer = whole::repair(job, first(&mut room, n));
+    let answer = whole_job::repair(job, first(&mut room, n));
     let reply = answer.reply;
     let number = of_reply(reply);
     let mut due = [0u16; 16];
@@ -120,8 +120,8 @@ fn repairs(job: Job, n: usize, v: u16, k: usize) -> u32 {
 
 fn encode_edge(i: usize) -> bool {
     match i {
-        0 => encodes(whole::empty(), 8, 5, 1) == 21,
-        1 => encodes(whole::empty(), 7, 257, 4) == 21,
+        0 => encodes(whole_job::empty(), 8, 5, 1) == 21,
+        1 => encodes(whole_job::empty(), 7, 257, 4) == 21,
         2 => encodes(shaped(), 8, 256, 4) == 0,
         3 => encodes(shaped(), 8, 65535, 3) == 0,
         4 => encodes(shaped(), 8, 257, 4) == 4,
@@ -134,24 +134,24 @@ fn encode_edge(i: usize) -> bool {
 
 fn locate_edge(i: usize) -> bool {
     match i {
-        0 => locates(whole::empty(), 8, 5, 1) == 21,
-        1 => locates(whole::empty(), 7, 257, 1) == 21,
+        0 => locates(whole_job::empty(), 8, 5, 1) == 21,
+        1 => locates(whole_job::empty(), 7, 257, 1) == 21,
         2 => locates(shaped(), 8, 256, 1) == 0,
         3 => locates(shaped(), 8, 257, 1) == 4,
         4 => locates(shaped(), 7, 257, 1) == 7,
         5 => locates(shaped(), 9, 5, 1) == 7,
         6 => locates(shaped(), 8, 0, 0) == 0,
-        7 => locates(shape(whole::empty(), 4, 1, 1), 8, 5, 1) == 24,
-        8 => locates(shape(whole::empty(), 6, 4, 1), 12, 1, 2) == 25,
-        9 => locates(shape(whole::empty(), 4, 2, 2), 8, 1, 2) == 26,
+        7 => locates(shape(whole_job::empty(), 4, 1, 1), 8, 5, 1) == 24,
+        8 => locates(shape(whole_job::empty(), 6, 4, 1), 12, 1, 2) == 25,
+        9 => locates(shape(whole_job::empty(), 4, 2, 2), 8, 1, 2) == 26,
         _ => false,
     }
 }
 
 fn repair_edge(i: usize) -> bool {
     match i {
-        0 => repairs(whole::empty(), 8, 5, 1) == 21,
-        1 => repairs(whole::empty(), 7, 257, 1) == 21,
+        0 => repairs(whole_job::empty(), 8, 5, 1) == 21,
+        1 => repairs(whole_job::empty(), 7, 257, 1) == 21,
         2 => repairs(shaped(), 8, 5, 1) == 22,
         3 => repairs(shaped(), 7, 257, 1) == 22,
         4 => repairs(located(), 8, 5, 1) == 0,

@@ -21,8 +21,8 @@ use brute::tally::count;
 use brute::values::copy;
 use brute::values::first;
 use brute::values::part;
-use whole::Answered;
-use whole::Job;
+use whole_job::Answered;
+use whole_job::Job;
 
 // A refused locate is one after which no frame is due, and the job is shaped: a repair is refused by 22 and leaves the frame.
 fn stays(job: Job, damaged: &[u16], due: &[u16]) -> bool {
@@ -31,7 +31,7 @@ fn stays(job: Job, damaged: &[u16], due: &[u16]) -> bool {
     }
     let mut room = [0u16; 2048];
     copy(damaged, &mut room, 0);
-    let answer = whole::repair(job, first(&mut room, damaged.len()));
+    let answer = whole_job::repair(job, first(&mut room, damaged.len()));
     let reply = answer.reply;
     if of_reply(reply) != 22 {
         return false;
@@ -51,7 +51,7 @@ fn mends(
 ) -> bool {
     let mut room = [0u16; 2048];
     copy(damaged, &mut room, 0);
-    let answer = whole::repair(job, first(&mut room, damaged.len()));
+    let answer = whole_job::repair(job, first(&mut room, damaged.len()));
     let reply = answer.reply;
     if of_reply(reply) != 0 {
         return false;
@@ -171,7 +171,7 @@ pub(crate) fn agrees(
     if !confirmed(columns, checks, &sums, damaged, expected, named, base) {
         return false;
     }
-    let answer = whole::locate(job, damaged);
+    let answer = whole_job::locate(job, damaged);
     if !answers(answer, expected, named) {
         return false;
     }

@@ -19,7 +19,7 @@ use brute::values::first;
 use brute::values::get;
 use brute::values::part;
 use brute::values::product;
-use whole::Job;
+use whole_job::Job;
 
 // How large random frames are: of full size, of any size from 65 columns on, of at most seven columns, or of three columns with two checks
 // in each of at most two rows.
@@ -34,7 +34,7 @@ pub(crate) enum Size {
 fn encodes(job: Job, columns: u16, checks: &[u16], frame: &mut [u16], n: usize) -> bool {
     let mut data = [0u16; 2048];
     copy(frame, &mut data, 0);
-    if of_checked(whole::encode(job, first(frame, n))) != 0 {
+    if of_checked(whole_job::encode(job, first(frame, n))) != 0 {
         return false;
     }
     if !same_data(columns, checks, &data, frame) {
@@ -123,7 +123,7 @@ fn compare_random(
     let mut list = [0u16; 8];
     fill_from(state, few, spread, &mut list, rows as usize);
     let checks = part(&list, 0, rows as usize);
-    let shaped = whole::shape(whole::empty(), columns as usize, checks);
+    let shaped = whole_job::shape(whole_job::empty(), columns as usize, checks);
     let n = product(rows, columns) as usize;
     let mut room = [0u16; 2048];
     fill(state, 257, &mut room, n);

@@ -8,7 +8,7 @@ pub mod registers;
 
 use std::sync::LazyLock;
 
-use common::interface::{Answer, Calls, Job, LOCATED, Register, SHAPED, Shaped};
+use common::interface::{Answer, Calls, Head, Job, LOCATED, Register, SHAPED};
 
 use frames::{Shape, columns_of, marks_of};
 
@@ -70,23 +70,22 @@ fn shape_refusal(columns: usize, checks: &[u16]) -> u32 {
     ])
 }
 
-/// The shape of a job that does not count as empty. A value that no call can return is taken for
-/// what it says where its numbers are in their ranges, and counts as empty elsewhere.
-pub fn shape_of(job: &Job) -> Option<Shape> {
-    let rows = usize::try_from(job.rows).ok()?;
-    let columns = usize::try_from(job.columns).ok()?;
+/// The shape of a job that does not count as empty, by its head alone. One that no call can leave
+/// is taken for what it says where its numbers are in their ranges, and counts as empty elsewhere.
+pub fn shape_of(head: &Head) -> Option<Shape> {
+    let rows = usize::try_from(head.rows).ok()?;
+    let columns = usize::try_from(head.columns).ok()?;
     let shape = Shape {
         columns,
-        checks: job.checks.get(..rows)?.to_vec(),
+        checks: head.checks.get(..rows)?.to_vec(),
     };
     let shaped = shape_refusal(columns, &shape.checks) == 0;
-    let marked = columns_of(&job.marks);
-    let found = job.alone == 1
-        && marked.len() as u64 == job.length
+    let marked = columns_of(&head.marks);
+    let found = head.alone == 1
+        && marked.len() as u64 == head.length
         && marked.iter().all(|&i| i < columns)
-        && shape.least_checks() >= marked.len()
-        && job.sums.iter().all(|&sum| sum < 257);
-    (shaped && (job.phase == SHAPED || job.phase == LOCATED && found)).then_some(shape)
+        && shape.least_checks() >= marked.len();
+    (shaped && (head.phase == SHAPED || head.phase == LOCATED && found)).then_some(shape)
 }
 
 fn held_sums(shape: &Shape, frame: &[u16]) -> [u16; 512] {
@@ -153,29 +152,20 @@ impl Calls for Independent {
         }
     }
 
-    fn empty(&self) -> Job {
-        Job::EMPTY
+    fn empty(&self, job: &mut Job) {
+        *job = Job::EMPTY;
     }
 
-    fn shape(&self, job: Job, columns: usize, checks: &[u16]) -> Shaped {
+    fn shape(&self, job: &mut Job, columns: usize, checks: &[u16]) -> u32 {
         let refusal = shape_refusal(columns, checks);
-        if refusal != 0 {
-            return Shaped { refusal, job };
+        if refusal == 0 {
+            job.head = Head::shaped(columns, checks);
         }
-        let mut job = Job {
-            rows: checks.len() as u64,
-            columns: columns as u64,
-            ..Job::EMPTY
-        };
-        job.checks[..checks.len()].copy_from_slice(checks);
-        Shaped {
-            refusal: 0,
-            job: job.reshaped(),
-        }
+        refusal
     }
 
-    fn encode(&self, job: Job, frame: &mut [u16]) -> u32 {
-        let Some(shape) = shape_of(&job) else {
+    fn encode(&self, job: &Job, frame: &mut [u16]) -> u32 {
+        let Some(shape) = shape_of(&job.head) else {
             return 21;
         };
         if frame.len() != shape.size() {
@@ -194,32 +184,33 @@ impl Calls for Independent {
         0
     }
 
-    fn locate(&self, job: Job, frame: &[u16]) -> Answer {
-        let Some(shape) = shape_of(&job) else {
-            return Answer::refused(21, job);
+    fn locate(&self, job: &mut Job, frame: &[u16]) -> Answer {
+        let Some(shape) = shape_of(&job.head) else {
+            return Answer::refused(21);
         };
         let refusal = frame_refusal(&shape, frame);
         if refusal != 0 {
-            return Answer::refused(refusal, job);
+            return Answer::refused(refusal);
         }
+        job.head = job.head.reshaped();
         let Some(taps) = register_of(&shape, frame) else {
-            return Answer::refused(24, job.reshaped());
+            return Answer::refused(24);
         };
         let c = taps.len() - 1;
         if c > shape.least_checks() {
-            return Answer::refused(25, job.reshaped());
+            return Answer::refused(25);
         }
         let columns = named(shape.columns, &taps);
         if columns.len() != c || !frames::is_legal(&shape, &mended(&shape, frame, &columns)) {
-            return Answer::refused(26, job.reshaped());
+            return Answer::refused(26);
         }
         let marks = marks_of(&columns);
-        let mut job = Job {
+        job.head = Head {
             phase: LOCATED,
             alone: 1,
             length: c as u64,
             marks,
-            ..job
+            ..job.head
         };
         job.sums = held_sums(&shape, frame);
         job.taps = [0; 65];
@@ -230,30 +221,35 @@ impl Calls for Independent {
             refusal: 0,
             count: c as u64,
             marks,
-            job,
         }
     }
 
-    fn repair(&self, job: Job, frame: &mut [u16]) -> Answer {
-        let Some(shape) = shape_of(&job) else {
-            return Answer::refused(21, job);
+    fn repair(&self, job: &mut Job, frame: &mut [u16]) -> Answer {
+        let Head {
+            phase,
+            length,
+            marks,
+            ..
+        } = job.head;
+        let Some(shape) = shape_of(&job.head) else {
+            return Answer::refused(21);
         };
-        if job.phase != LOCATED {
-            return Answer::refused(22, job);
+        if phase != LOCATED {
+            return Answer::refused(22);
         }
         let refusal = frame_refusal(&shape, frame);
         if refusal != 0 {
-            return Answer::refused(refusal, job);
+            return Answer::refused(refusal);
         }
         if held_sums(&shape, frame) != job.sums {
-            return Answer::refused(23, job);
+            return Answer::refused(23);
         }
-        frame.copy_from_slice(&mended(&shape, frame, &columns_of(&job.marks)));
+        frame.copy_from_slice(&mended(&shape, frame, &columns_of(&marks)));
+        job.head = job.head.reshaped();
         Answer {
             refusal: 0,
-            count: job.length,
-            marks: job.marks,
-            job: job.reshaped(),
+            count: length,
+            marks,
         }
     }
 }

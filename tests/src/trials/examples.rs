@@ -82,9 +82,9 @@ pub fn run(judge: &mut Judge) {
         for &(place, symbol) in example.cells {
             frame[place] = symbol;
         }
-        let empty = judge.empty();
-        let (_, job) = judge.shape(empty, example.columns, example.checks);
-        let answer = judge.locate(job, &frame);
+        let mut job = judge.empty();
+        judge.shape(&mut job, example.columns, example.checks);
+        let answer = judge.locate(&mut job, &frame);
         match example.located {
             Err(number) => judge.compare(
                 "the refusal of an example",
@@ -103,13 +103,13 @@ pub fn run(judge: &mut Judge) {
                     "the sums of an example",
                     &example.cells,
                     sums,
-                    &answer.job.sums[..sums.len()],
+                    &job.sums[..sums.len()],
                 );
             }
         }
     }
-    let empty = judge.empty();
-    let (_, job) = judge.shape(empty, 3, &[1]);
-    let (_, frame) = judge.encode(job, &[0, 1, 1]);
+    let mut job = judge.empty();
+    judge.shape(&mut job, 3, &[1]);
+    let (_, frame) = judge.encode(&job, &[0, 1, 1]);
     judge.compare("the check of an example", &(), &[245, 1, 1][..], &frame);
 }

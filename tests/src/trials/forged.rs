@@ -1,5 +1,5 @@
-//! Jobs that no call returned: any number in any field. Each call is safe on them, and they count
-//! as empty but where the numbers are in their ranges.
+//! Jobs that no call left: any number in any field. Each call is safe on them, and they count as
+//! empty but where the numbers of the head are in their ranges. The arrays do not matter for that.
 
 use common::interface::{EMPTY, Job, LOCATED, SHAPED};
 use common::random::Random;
@@ -18,12 +18,36 @@ pub fn run(judge: &mut Judge) {
         let received = damaged(&mut random, &shape, &sent, count);
         let mut job = shaped(&shape);
         if !random.once_in(4) {
-            job = judge.locate(job, &received).job;
+            judge.locate(&mut job, &received);
+            other_arrays(judge, &mut random, &job, &received);
         }
         for _ in 0..random.from_to(1, 3) {
             forge(&mut random, &mut job);
         }
-        calls(judge, &mut random, job, &shape, &received);
+        calls(judge, &mut random, &job, &shape, &received);
+    }
+}
+
+/// A located job with another sum, which need not be below 257, has sums that differ. With other
+/// taps it is mended as before. Neither is read by the other calls.
+fn other_arrays(judge: &mut Judge, random: &mut Random, located: &Job, received: &[u16]) {
+    if located.head.phase != LOCATED {
+        return;
+    }
+    let place = random.below(512);
+    let (mut summed, mut tapped) = (*located, *located);
+    summed.sums[place] ^= random.pick(&[1, 256, 1 << 15, u16::MAX]);
+    tapped.taps.fill_with(|| random.bits() as u16);
+    for (job, number) in [(summed, 23), (tapped, 0)] {
+        let (encoded, _) = judge.encode(&job, received);
+        let located = judge.locate(&mut { job }, received).refusal;
+        let repaired = judge.repair(&mut { job }, received).0.refusal;
+        judge.compare(
+            "the refusals of other arrays",
+            &(job, received),
+            [0, 0, number],
+            [encoded, located, repaired],
+        );
     }
 }
 
@@ -51,14 +75,14 @@ fn some_number(random: &mut Random) -> u64 {
 fn forge(random: &mut Random, job: &mut Job) {
     let number = some_number(random);
     match random.below(13) {
-        0 => job.phase = random.pick(&[EMPTY, SHAPED, LOCATED]),
-        1 => job.phase = number as u32,
-        2 => job.alone = number as u32,
-        3 => job.length = number,
-        4 => job.rows = number,
-        5 => job.columns = number,
-        6 => job.marks[random.below(4)] = number,
-        7 => job.checks[random.below(8)] = number as u16,
+        0 => job.head.phase = random.pick(&[EMPTY, SHAPED, LOCATED]),
+        1 => job.head.phase = number as u32,
+        2 => job.head.alone = number as u32,
+        3 => job.head.length = number,
+        4 => job.head.rows = number,
+        5 => job.head.columns = number,
+        6 => job.head.marks[random.below(4)] = number,
+        7 => job.head.checks[random.below(8)] = number as u16,
         8 => job.sums[random.below(512)] = number as u16,
         9 => job.sums[random.below(8)] = random.symbol(257),
         10 => job.taps[random.below(65)] = number as u16,
@@ -71,31 +95,34 @@ fn forge(random: &mut Random, job: &mut Job) {
 fn other_columns(random: &mut Random, job: &mut Job) {
     let columns = random.from_to(1, 9);
     let count = random.below(columns + 1);
-    job.marks = marks_of(&random.subset(columns, count));
-    job.length = count as u64;
+    job.head.marks = marks_of(&random.subset(columns, count));
+    job.head.length = count as u64;
 }
 
 fn random_fields(random: &mut Random, job: &mut Job) {
-    job.marks = [0; 4].map(|_| random.bits());
-    job.length = some_number(random);
+    job.head.marks = [0; 4].map(|_| random.bits());
+    job.head.length = some_number(random);
     job.sums.fill_with(|| random.bits() as u16);
     job.taps.fill_with(|| random.bits() as u16);
-    job.checks.fill_with(|| random.bits() as u16);
+    job.head.checks.fill_with(|| random.bits() as u16);
 }
 
 /// Each call on the forged job, and on what the call left; frames with the sums that it holds too.
-fn calls(judge: &mut Judge, random: &mut Random, job: Job, shape: &Shape, received: &[u16]) {
+fn calls(judge: &mut Judge, random: &mut Random, forged: &Job, shape: &Shape, received: &[u16]) {
     let bad = malformed(random, shape, received);
     for frame in [received, &bad] {
-        judge.encode(job, frame);
-        let answer = judge.locate(job, frame);
-        judge.repair(answer.job, frame);
-        let (answer, left) = judge.repair(job, frame);
-        judge.locate(answer.job, &left);
+        judge.encode(forged, frame);
+        let mut job = *forged;
+        judge.locate(&mut job, frame);
+        judge.repair(&mut job, frame);
+        let mut job = *forged;
+        let (_, left) = judge.repair(&mut job, frame);
+        judge.locate(&mut job, &left);
     }
     for columns in [1, 9] {
-        let (_, job) = judge.shape(job, columns, &[1, 2]);
-        judge.locate(job, received);
-        judge.encode(job, &[0; 18]);
+        let mut job = *forged;
+        judge.shape(&mut job, columns, &[1, 2]);
+        judge.locate(&mut job, received);
+        judge.encode(&job, &[0; 18]);
     }
 }

@@ -6,7 +6,7 @@ use common::random::Random;
 
 use crate::independent::frames::{Shape, differing, is_legal, legal_at};
 use crate::independent::register_of;
-use crate::judge::Judge;
+use crate::judge::{FILLED, Judge};
 use crate::trials::{damaged, malformed, shaped, some_legal_frame, some_shape};
 
 pub fn run(judge: &mut Judge) {
@@ -39,7 +39,7 @@ pub fn run(judge: &mut Judge) {
 fn frames(judge: &mut Judge, random: &mut Random, shape: &Shape) {
     let job = shaped(shape);
     let data = random.symbols(257, shape.size());
-    let (_, sent) = judge.encode(job, &junk_checks(random, shape, &data));
+    let (_, sent) = judge.encode(&job, &junk_checks(random, shape, &data));
     judge.expect(
         "encode leaves a legal frame",
         &(shape, &data),
@@ -48,7 +48,7 @@ fn frames(judge: &mut Judge, random: &mut Random, shape: &Shape) {
     let most = shape.columns.min(shape.least_checks() + 1);
     for count in [0, 1, shape.least_checks() / 2, random.below(most + 1)] {
         let received = damaged(random, shape, &sent, count);
-        let (answer, mended) = mend(judge, job, shape, &received);
+        let (answer, mended) = mend(judge, &job, shape, &received);
         if 2 * count <= shape.least_checks() {
             judge.compare(
                 "the sent frame comes back",
@@ -58,8 +58,8 @@ fn frames(judge: &mut Judge, random: &mut Random, shape: &Shape) {
             );
         }
     }
-    mend(judge, job, shape, &data);
-    refusals(judge, random, job, shape, &sent);
+    mend(judge, &job, shape, &data);
+    refusals(judge, random, &job, shape, &sent);
 }
 
 /// Check cells may hold anything before encode.
@@ -72,9 +72,10 @@ fn junk_checks(random: &mut Random, shape: &Shape, data: &[u16]) -> Vec<u16> {
 }
 
 /// Locates and repairs a well-formed frame, and holds what comes to the definitions.
-fn mend(judge: &mut Judge, job: Job, shape: &Shape, received: &[u16]) -> (Answer, Vec<u16>) {
-    let located = judge.locate(job, received);
-    let (answer, mended) = judge.repair(located.job, received);
+fn mend(judge: &mut Judge, shaped: &Job, shape: &Shape, received: &[u16]) -> (Answer, Vec<u16>) {
+    let mut job = *shaped;
+    let located = judge.locate(&mut job, received);
+    let (answer, mended) = judge.repair(&mut job, received);
     if shape.columns <= 7 {
         exhaustive(judge, shape, received, &located, &mended);
     }
@@ -125,14 +126,15 @@ pub fn exhaustive(
     );
 }
 
-fn refusals(judge: &mut Judge, random: &mut Random, job: Job, shape: &Shape, sent: &[u16]) {
-    let located = judge.locate(job, sent).job;
+fn refusals(judge: &mut Judge, random: &mut Random, shaped: &Job, shape: &Shape, sent: &[u16]) {
+    let mut located = *shaped;
+    judge.locate(&mut located, sent);
     for _ in 0..4 {
         let bad = malformed(random, shape, sent);
-        for job in [Job::EMPTY, job, located] {
-            judge.encode(job, &bad);
-            judge.locate(job, &bad);
-            judge.repair(job, &bad);
+        for job in [FILLED, *shaped, located] {
+            judge.encode(&job, &bad);
+            judge.locate(&mut { job }, &bad);
+            judge.repair(&mut { job }, &bad);
         }
     }
 }
@@ -147,8 +149,9 @@ fn every_column(judge: &mut Judge, random: &mut Random) {
     for i in 0..256 {
         let mut received = sent.clone();
         random.damage(&mut received, 256, &[i]);
-        let located = judge.locate(shaped(&shape), &received);
-        let (_, mended) = judge.repair(located.job, &received);
+        let mut job = shaped(&shape);
+        judge.locate(&mut job, &received);
+        let (_, mended) = judge.repair(&mut job, &received);
         judge.compare("the sent frame comes back", &i, &sent, &mended);
     }
 }

@@ -1,41 +1,64 @@
-//! The structs of the Rust interface lie in memory as those of `include/tomkhadi.h` do.
+//! The structs of the Rust interface, and those that the archive returns, lie in memory as those of
+//! `include/tomkhadi.h` do.
 
 use std::mem::{align_of, offset_of, size_of};
 
-use common::interface::{Answer, Job, Register, Shaped};
+use common::interface::{Answer, Head, Job, Register};
 
 use crate::judge::Judge;
+
+/// `CShaped` of `crates/capi`.
+#[repr(C)]
+struct HeadShaped {
+    refusal: u32,
+    head: Head,
+}
+
+/// `CAnswered` of `crates/capi`.
+#[repr(C)]
+struct HeadAnswered {
+    answer: Answer,
+    head: Head,
+}
 
 unsafe extern "C" {
     /// What `tests/src/layout.c` reads from the header, in the order of `RUST`.
     static tomkhadi_layout: [usize; RUST.len()];
 }
 
-const RUST: [usize; 24] = [
+const RUST: [usize; 32] = [
     size_of::<Register>(),
     align_of::<Register>(),
     offset_of!(Register, refusal),
-    offset_of!(Register, length),
     offset_of!(Register, alone),
+    offset_of!(Register, length),
+    size_of::<Head>(),
+    align_of::<Head>(),
+    offset_of!(Head, phase),
+    offset_of!(Head, alone),
+    offset_of!(Head, length),
+    offset_of!(Head, rows),
+    offset_of!(Head, columns),
+    offset_of!(Head, marks),
+    offset_of!(Head, checks),
     size_of::<Job>(),
     align_of::<Job>(),
-    offset_of!(Job, phase),
-    offset_of!(Job, alone),
-    offset_of!(Job, length),
-    offset_of!(Job, rows),
-    offset_of!(Job, columns),
-    offset_of!(Job, marks),
-    offset_of!(Job, checks),
+    offset_of!(Job, head),
     offset_of!(Job, sums),
     offset_of!(Job, taps),
-    size_of::<Shaped>(),
-    offset_of!(Shaped, refusal),
-    offset_of!(Shaped, job),
     size_of::<Answer>(),
+    align_of::<Answer>(),
     offset_of!(Answer, refusal),
     offset_of!(Answer, count),
     offset_of!(Answer, marks),
-    offset_of!(Answer, job),
+    size_of::<HeadShaped>(),
+    align_of::<HeadShaped>(),
+    offset_of!(HeadShaped, refusal),
+    offset_of!(HeadShaped, head),
+    size_of::<HeadAnswered>(),
+    align_of::<HeadAnswered>(),
+    offset_of!(HeadAnswered, answer),
+    offset_of!(HeadAnswered, head),
 ];
 
 pub fn run(judge: &mut Judge) {

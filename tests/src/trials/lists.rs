@@ -1,4 +1,4 @@
-//! Demand 3 on random lists of calls, each on the job that the call before it returned. What is
+//! Demand 3 on random lists of calls, each on the job that the call before it left. What is
 //! promised is checked from the calls alone; nothing here reads a job.
 
 use common::interface::Job;
@@ -64,8 +64,9 @@ impl List<'_, '_> {
             let place = self.random.below(shape.checks.len());
             shape.checks[place] = self.random.pick(&[0, shape.columns as u16, 65]);
         }
-        let (refusal, job) = self.judge.shape(self.job, shape.columns, &shape.checks);
-        self.job = job;
+        let refusal = self
+            .judge
+            .shape(&mut self.job, shape.columns, &shape.checks);
         if refusal == 0 {
             self.shape = Some(shape);
             self.pending = None;
@@ -78,7 +79,7 @@ impl List<'_, '_> {
         if self.random.once_in(3) {
             frame = malformed(self.random, &shape, &frame);
         }
-        let (refusal, left) = self.judge.encode(self.job, &frame);
+        let (refusal, left) = self.judge.encode(&self.job, &frame);
         if refusal == 0 {
             self.judge.expect(
                 "encode leaves a legal frame",
@@ -97,8 +98,7 @@ impl List<'_, '_> {
         if self.random.once_in(5) {
             received = malformed(self.random, &shape, &received);
         }
-        let answer = self.judge.locate(self.job, &received);
-        self.job = answer.job;
+        let answer = self.judge.locate(&mut self.job, &received);
         let within = is_well_formed(&shape, &received)
             && 2 * differing(&shape, &sent, &received).len() <= shape.least_checks();
         if self.shape.is_some() && within {
@@ -160,8 +160,7 @@ impl List<'_, '_> {
 
     /// Lends a frame to repair, which must leave the given frame where there is one.
     fn mend(&mut self, shape: &Shape, frame: &[u16], sent: Option<Vec<u16>>) {
-        let (answer, left) = self.judge.repair(self.job, frame);
-        self.job = answer.job;
+        let (answer, left) = self.judge.repair(&mut self.job, frame);
         let inputs = (shape, frame);
         if let Some(sent) = sent {
             self.judge.compare(

@@ -15,6 +15,7 @@ use common::random::Random;
 
 use crate::independent::Independent;
 use crate::independent::frames::Shape;
+use crate::judge::FILLED;
 
 /// A shape of at most so many columns, with the same number of checks in all rows half of the time.
 fn some_shape(random: &mut Random, most_columns: usize) -> Shape {
@@ -30,16 +31,17 @@ fn some_shape(random: &mut Random, most_columns: usize) -> Shape {
     Shape { columns, checks }
 }
 
+/// The job of the shape. What its arrays hold plays no part.
 fn shaped(shape: &Shape) -> Job {
-    Independent
-        .shape(Job::EMPTY, shape.columns, &shape.checks)
-        .job
+    let mut job = FILLED;
+    Independent.shape(&mut job, shape.columns, &shape.checks);
+    job
 }
 
 /// The legal frame with random data.
 fn some_legal_frame(random: &mut Random, shape: &Shape) -> Vec<u16> {
     let mut frame = random.symbols(257, shape.size());
-    Independent.encode(shaped(shape), &mut frame);
+    Independent.encode(&shaped(shape), &mut frame);
     frame
 }
 

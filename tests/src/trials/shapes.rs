@@ -11,7 +11,7 @@ pub fn run(judge: &mut Judge) {
     let jobs = jobs(judge, &mut random);
     edges(judge, &jobs);
     for _ in 0..4_000 {
-        let job = random.pick(&jobs);
+        let mut job = random.pick(&jobs);
         let rows = random.pick(&[0, 1, 2, 3, 8, 9]);
         let columns = random.pick(&[0, 1, 2, 3, 64, 65, 256, 257, 1 << 32, usize::MAX]);
         let counts = [0, 1, 2, 63, 64, 65, 256, 65_535];
@@ -19,7 +19,7 @@ pub fn run(judge: &mut Judge) {
         if rows > 0 && random.once_in(2) {
             checks[random.below(rows)] = random.pick(&counts);
         }
-        judge.shape(job, columns, &checks);
+        judge.shape(&mut job, columns, &checks);
     }
 }
 
@@ -27,14 +27,15 @@ pub fn run(judge: &mut Judge) {
 fn jobs(judge: &mut Judge, random: &mut Random) -> [Job; 3] {
     let shape = some_shape(random, 20);
     let frame = some_legal_frame(random, &shape);
-    let located = judge.locate(shaped(&shape), &frame).job;
+    let mut located = shaped(&shape);
+    judge.locate(&mut located, &frame);
     [judge.empty(), shaped(&shape), located]
 }
 
 fn edges(judge: &mut Judge, jobs: &[Job]) {
     for &job in jobs {
         let mut refusal = |number: u32, columns: usize, checks: &[u16]| {
-            let (got, _) = judge.shape(job, columns, checks);
+            let got = judge.shape(&mut { job }, columns, checks);
             judge.compare("a refusal at the edge", &(columns, checks), number, got);
         };
         for (rows, number) in [(0, 2), (1, 0), (8, 0), (9, 2), (300, 2)] {

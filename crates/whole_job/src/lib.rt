@@ -1,4 +1,5 @@
-// A job as one value, its arrays too, for trials: loaded, called, stored.
+// A job with its arrays as one value, so that a trial can keep, copy and hand on a job as it does a number. Each call here is the library's on the parts of
+// the job.
 use columns::Columns;
 use job::Head;
 use job::Reply;
@@ -10,17 +11,20 @@ pub struct Job {
     pub taps: [u16; 65],
 }
 
+// What shape answers, and the job as it leaves it.
 pub struct Reshaped {
     pub checked: Checked,
     pub job: Job,
 }
 
+// What locate and repair answer, and the job as they leave it.
 pub struct Answered {
     pub reply: Reply,
     pub columns: Columns,
     pub job: Job,
 }
 
+// An empty job with arrays of zeros.
 pub fn empty() -> Job {
     let head = calls::states::empty();
     let sums = [0u16; 512];
@@ -29,28 +33,28 @@ pub fn empty() -> Job {
 }
 
 pub fn shape(j: Job, columns: usize, checks: &[u16]) -> Reshaped {
-    let made = calls::shape::shape(j.head, columns, checks);
-    let head = made.head;
+    let answer = calls::shape::shape(j.head, columns, checks);
+    let checked = answer.checked;
+    let head = answer.head;
     let sums = j.sums;
     let taps = j.taps;
     let job = Job { head, sums, taps };
-    let checked = made.checked;
     Reshaped { checked, job }
 }
 
+// Whether it refuses. The job is kept.
 pub fn encode(j: Job, frame: &mut [u16]) -> Checked {
-    let sums = j.sums;
-    calls::encode::encode(j.head, &sums, frame)
+    calls::encode::encode(j.head, frame)
 }
 
 pub fn locate(j: Job, frame: &[u16]) -> Answered {
     let mut sums = j.sums;
     let mut taps = j.taps;
     let answer = calls::locate::locate(j.head, &mut sums, &mut taps, frame);
-    let head = answer.head;
-    let job = Job { head, sums, taps };
     let reply = answer.reply;
     let columns = answer.columns;
+    let head = answer.head;
+    let job = Job { head, sums, taps };
     Answered {
         reply,
         columns,
@@ -60,12 +64,12 @@ pub fn locate(j: Job, frame: &[u16]) -> Answered {
 
 pub fn repair(j: Job, frame: &mut [u16]) -> Answered {
     let sums = j.sums;
-    let answer = calls::repair::repair(j.head, &sums, frame);
-    let head = answer.head;
     let taps = j.taps;
-    let job = Job { head, sums, taps };
+    let answer = calls::repair::repair(j.head, &sums, frame);
     let reply = answer.reply;
     let columns = answer.columns;
+    let head = answer.head;
+    let job = Job { head, sums, taps };
     Answered {
         reply,
         columns,

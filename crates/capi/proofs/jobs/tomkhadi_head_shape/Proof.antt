@@ -1,12 +1,12 @@
--- `capi::jobs::tomkhadi_shape` meets its contract, by those of the functions that it calls. Assumes nothing.
+-- `capi::jobs::tomkhadi_head_shape` meets its contract, by those of the functions that it calls. Assumes nothing.
 use mathlib.Core.Path.{_∙_, ap, sym}
 use borrow.Author.Needs.{needs}
 use Rattle.capi.specs.Mirror.{shapedOf}
 use Rattle.job.specs.Calls.{Outcome, step, shape}
 use Rattle.job.specs.Job.{beside}
 use Rattle.job.specs.declared.Head.{Head}
-use Rattle.capi.proofs.jobs.tomkhadi_shape.Statement.{statement}
-use Rattle.capi.proofs.jobs.tomkhadi_shape.Tie as tie
+use Rattle.capi.proofs.jobs.tomkhadi_head_shape.Statement.{statement}
+use Rattle.capi.proofs.jobs.tomkhadi_head_shape.Tie as tie
 
 head-of-requires : tie.Need-head-of-requires
 head-of-requires c κs = search needs
@@ -27,5 +27,5 @@ returns c = λ a.
     let made = called .shape .ensures a ∙ ap (λ (h : Head). step (beside h a) (shape (args .columns) (args .checks .now))) (called .before .head-of .ensures) in
     record { answers = (cc) ∙ ap shapedOf made; arrays = sym (ap (λ (o : Outcome). o .job .arrays) made) }
 
-pub tomkhadi-shape-spec : {M : Type 1} → statement M
-tomkhadi-shape-spec = tie.close (tie.spec head-of-requires shape-requires mirror-of-requires refusal-of-requires returns)
+pub tomkhadi-head-shape-spec : {M : Type 1} → statement M
+tomkhadi-head-shape-spec = tie.close (tie.spec head-of-requires shape-requires mirror-of-requires refusal-of-requires returns)

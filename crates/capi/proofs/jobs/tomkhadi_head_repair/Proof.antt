@@ -1,13 +1,13 @@
--- `capi::jobs::tomkhadi_repair` meets its contract, by those of the functions that it calls. Assumes nothing.
-use mathlib.Core.Path.{_∙_, ap}
+-- `capi::jobs::tomkhadi_head_repair` meets its contract, by those of the functions that it calls. Assumes nothing.
+use mathlib.Core.Path.{_∙_, ap, sym}
 use mathlib.Core.List.{[]}
 use borrow.Author.Needs.{needs}
 use Rattle.capi.specs.Mirror.{answeredOf}
 use Rattle.job.specs.Calls.{Outcome, step, repair}
 use Rattle.job.specs.Job.{beside, withSums}
 use Rattle.job.specs.declared.Head.{Head}
-use Rattle.capi.proofs.jobs.tomkhadi_repair.Statement.{statement}
-use Rattle.capi.proofs.jobs.tomkhadi_repair.Tie as tie
+use Rattle.capi.proofs.jobs.tomkhadi_head_repair.Statement.{statement}
+use Rattle.capi.proofs.jobs.tomkhadi_head_repair.Tie as tie
 
 head-of-requires : tie.Need-head-of-requires
 head-of-requires c κs = search needs
@@ -15,8 +15,8 @@ head-of-requires c κs = search needs
 repair-requires : tie.Need-repair-requires
 repair-requires c κs = search needs
 
-answer-of-requires : tie.Need-answer-of-requires
-answer-of-requires c κs = search needs
+answered-of-requires : tie.Need-answered-of-requires
+answered-of-requires c κs = search needs
 
 same-length : tie.Need-same-length
 same-length c = search needs
@@ -27,10 +27,10 @@ returns c = λ b.
     let a = called .before .before .before .before .args in
     let done = called .repair .ensures b ∙ ap (λ (h : Head). step (beside h (withSums b (a .sums .now))) (repair (a .frame .now))) (called .before .before .head-of .ensures) in
     record {
-      answers = c .answer-of .ensures b [] ∙ ap answeredOf done;
-      arrays = ap (λ (o : Outcome). o .job .arrays) done;
+      answers = c .answered-of .ensures b [] ∙ ap answeredOf done;
+      arrays = sym (ap (λ (o : Outcome). o .job .arrays) done);
       leaves = ap (λ (o : Outcome). o .frame) done;
     }
 
-pub tomkhadi-repair-spec : {M : Type 1} → statement M
-tomkhadi-repair-spec = tie.close (tie.spec head-of-requires repair-requires answer-of-requires same-length returns)
+pub tomkhadi-head-repair-spec : {M : Type 1} → statement M
+tomkhadi-head-repair-spec = tie.close (tie.spec head-of-requires repair-requires answered-of-requires same-length returns)

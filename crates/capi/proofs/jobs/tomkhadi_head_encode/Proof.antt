@@ -1,12 +1,12 @@
--- `capi::jobs::tomkhadi_encode` meets its contract, by those of the functions that it calls. Assumes nothing.
-use mathlib.Core.Path.{_∙_, ap}
+-- `capi::jobs::tomkhadi_head_encode` meets its contract, by those of the functions that it calls. Assumes nothing.
+use mathlib.Core.Path.{_∙_, ap, sym}
 use borrow.Author.Needs.{needs}
 use Rattle.capi.specs.Mirror.{refusalOf}
 use Rattle.job.specs.Calls.{Outcome, step, encode}
 use Rattle.job.specs.Job.{beside}
 use Rattle.job.specs.declared.Head.{Head}
-use Rattle.capi.proofs.jobs.tomkhadi_encode.Statement.{statement}
-use Rattle.capi.proofs.jobs.tomkhadi_encode.Tie as tie
+use Rattle.capi.proofs.jobs.tomkhadi_head_encode.Statement.{statement}
+use Rattle.capi.proofs.jobs.tomkhadi_head_encode.Tie as tie
 
 head-of-requires : tie.Need-head-of-requires
 head-of-requires c κs = search needs
@@ -27,8 +27,9 @@ returns c = λ b.
     let done = called .encode .ensures b ∙ ap (λ (h : Head). step (beside h b) (encode (a .frame .now))) (called .before .before .head-of .ensures) in
     record {
       answers = c .refusal-of .ensures ∙ ap (λ (o : Outcome). refusalOf (o .answer)) done;
+      job = sym (ap (λ (o : Outcome). o .job) done) ∙ ap (λ (h : Head). beside h b) (called .before .before .head-of .ensures);
       leaves = ap (λ (o : Outcome). o .frame) done;
     }
 
-pub tomkhadi-encode-spec : {M : Type 1} → statement M
-tomkhadi-encode-spec = tie.close (tie.spec head-of-requires encode-requires refusal-of-requires same-length returns)
+pub tomkhadi-head-encode-spec : {M : Type 1} → statement M
+tomkhadi-head-encode-spec = tie.close (tie.spec head-of-requires encode-requires refusal-of-requires same-length returns)

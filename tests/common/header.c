@@ -1,0 +1,22 @@
+/* The header's calls on a job are inline; here they are functions that interface.rs can name. */
+#include "tomkhadi.h"
+
+void header_empty(tomkhadi_job *job) {
+  tomkhadi_empty(job);
+}
+
+uint32_t header_shape(tomkhadi_job *job, size_t columns, const uint16_t *checks, size_t rows) {
+  return tomkhadi_shape(job, columns, checks, rows);
+}
+
+uint32_t header_encode(const tomkhadi_job *job, uint16_t *frame, size_t size) {
+  return tomkhadi_encode(job, frame, size);
+}
+
+tomkhadi_answer header_locate(tomkhadi_job *job, const uint16_t *frame, size_t size) {
+  return tomkhadi_locate(job, frame, size);
+}
+
+tomkhadi_answer header_repair(tomkhadi_job *job, uint16_t *frame, size_t size) {
+  return tomkhadi_repair(job, frame, size);
+}
