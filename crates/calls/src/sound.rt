@@ -1,4 +1,4 @@
-// Which heads are sound beside which sums: those that calls leave are, and one that is not counts as empty.
+// Which heads are sound: those that calls leave are, and one that is not counts as empty.
 use codec::shape::is_shape;
 use columns::Columns;
 use frame::Shape;
