@@ -18,7 +18,7 @@ use Rattle.finder.specs.Finder.{tests, answer, tapsLeft, register}
 use Rattle.frame.specs.Frame.{heldSequences}
 use Rattle.frame.specs.Shape.{checksOf, isShape}
 use Rattle.frame.specs.declared.Shape.{Shape}
-use Rattle.frame.proofs.HeldSequences.{length-held, held-short, held-symbol}
+use Rattle.frame.proofs.HeldSequences.{length-held, held-short}
 use Rattle.frame.proofs.Shapes.{Ranges, shape-ranges}
 use Rattle.lists.specs.Tabulate.{tabulate}
 use Rattle.lists.proofs.Filling.{take-tabulate}
@@ -27,7 +27,7 @@ use Rattle.lists.proofs.Zeros.{zeros, drop-zeros}
 use Rattle.refusal.specs.Outcome.{outcome, passed, refused}
 use Rattle.refusal.proofs.Orders.{Pass, pass-otherwise}
 use Rattle.register.specs.Algorithm4.{found, foundAlone}
-use Rattle.register.specs.Sequences.{Below, largest, longest, ordered, split}
+use Rattle.register.specs.Sequences.{largest, longest, ordered, split}
 use Rattle.register.proofs.Bounds.{bounded-rounds}
 use Rattle.register.proofs.Ordering.{longest-least}
 use Rattle.register.proofs.Splitting.{split-first}
@@ -47,9 +47,6 @@ sums-most s shape =
 -- ---- the sequences of held sums
 
 module _ (s : Shape) (sums : List ℕ) (shape : isShape s ≡ true) where
-  pub held-some : 0 < length (heldSequences s sums)
-  held-some = omega (arith, length-held s sums, shape-ranges s shape .rows-least)
-
   pub size-most : sizeOf (heldSequences s sums) ≤ 64
   unfolding sizeOf found
   size-most =
@@ -62,9 +59,6 @@ module _ (s : Shape) (sums : List ℕ) (shape : isShape s ≡ true) where
       omega arith
 
   module _ (small : (k : ℕ) → getD sums k 0 < 257) where
-    pub held-below : Below 257 (heldSequences s sums)
-    held-below h inside = held-symbol s sums h inside (λ x. x < 257) small
-
     module _ (eight : length (s .checks) ≡ 8) (sized : length sums ≡ 512) where
       -- what is lent
       abbrev lengths : List ℕ
@@ -139,7 +133,7 @@ module _ (s : Shape) (sums : List ℕ) (shape : isShape s ≡ true) where
 
       -- the buffer has room for the taps
       room : 65 ≡ length taps + (65 - length taps)
-      room = let n = length-taps (heldSequences s sums) held-some held-below in let m = size-most in omega arith
+      room = let n = length-taps (heldSequences s sums) in let m = size-most in omega arith
 
       pub lent-taps : tapsLeft 257 lengths symbols (replicate 65 0) ≡ taps ++ replicate (65 - length taps) 0
       unfolding tapsLeft tapsOf

@@ -30,7 +30,7 @@ use Rattle.refusal.specs.Number.{number}
 use Rattle.refusal.specs.declared.Refusal.{Refusal}
 use Rattle.calls.specs.Answered as answer-of
 use Rattle.calls.specs.FromSums.{fromSums, sumsLeft}
-use Rattle.calls.proofs.Lending.{held-some, held-below, lent-answer, lent-taps, size-most}
+use Rattle.calls.proofs.Lending.{lent-answer, lent-taps, size-most}
 
 -- a refusal leaves the sums and the taps
 pub refusal-left : (a : Arrays) (new taps f : List ℕ) {r : Answered} {i j : Head} (why : Refusal) → r ≡ answer-of.refusal i why → i ≡ j
@@ -68,7 +68,7 @@ module _ {s : Shape} {sums : List ℕ} {l : ℕ} {a : Bool} {buffer : List ℕ} 
   length-most = omega (arith, see .size, size-most s sums (see .shape))
 
   taps-length : length (tapsOf ss) ≡ suc (sizeOf ss)
-  taps-length = length-taps ss (held-some s sums (see .shape)) (held-below s sums (see .shape) (see .small))
+  taps-length = length-taps ss
 
   front : take (l + 1 - 0) buffer ≡ tapsOf ss
   front =
@@ -80,7 +80,7 @@ module _ {s : Shape} {sums : List ℕ} {l : ℕ} {a : Bool} {buffer : List ℕ} 
   searchable = (
     shape-ranges s (see .shape) .columns-most,
     omega (arith, ap length front, taps-length, size-most s sums (see .shape)),
-    ap (λ x. getD x 0 0) front ∙ generator-of ss (held-some s sums (see .shape)) (held-below s sums (see .shape) (see .small)) .register .first,
+    ap (λ x. getD x 0 0) front ∙ generator-of ss .register .first,
   )
 
   module _ (before : Arrays) (f : List ℕ) where

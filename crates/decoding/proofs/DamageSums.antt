@@ -9,7 +9,7 @@ use lib.ListN.{length}
 use Rattle.algebra.specs.Ring.{CRing}
 use Rattle.algebra.proofs.RingLaws.{neg-zero}
 use Rattle.decoding.specs.Locating.{sizeOf}
-use Rattle.decoding.proofs.FrameRegister.{length-sequences, sequences-below, some-sequence}
+use Rattle.decoding.proofs.FrameRegister.{length-sequences}
 use Rattle.decoding.proofs.FrameSums.{sums, error, error-sums, same-cell-error, codeword-sums, sequence-length, sequence-sums}
 use Rattle.decoding.proofs.PowerSums.{PowerSums, size-at-most}
 use Rattle.decoding.proofs.Recurrence.{powerSum}
@@ -45,4 +45,4 @@ module _ (s : Shape) (g f : List ℕ) (code : Codeword s g) where
 
 pub no-nearer : (s : Shape) → isShape s ≡ true → (g f : List ℕ) → Codeword s g → sizeOf (sequences s f) ≤ distance s g f
 unfolding distance
-no-nearer s shape g f code = size-at-most s shape (sequences s f) (some-sequence s f shape) (sequences-below s f) (damage s g f code)
+no-nearer s shape g f code = size-at-most s shape (sequences s f) (damage s g f code)

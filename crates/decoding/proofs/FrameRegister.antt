@@ -4,48 +4,37 @@ use mathlib.Core.Path.{_≡_}
 use mathlib.Core.Bool.{true, false}
 use mathlib.Core.Logic.{_↔_}
 use mathlib.Core.List.{List}
-use Prim.Native.Nat.{ℕ, suc, _<_}
-use native.Mathlib.Omega.{arith}
+use Prim.Native.Nat.{ℕ, suc}
 use lib.ListN.{length}
 use Rattle.decoding.specs.Locating.{sizeOf, tapsOf, aloneOf}
-use Rattle.decoding.proofs.FrameSums.{sequence-at}
 use Rattle.decoding.proofs.SequenceRegister as register
 use Rattle.frame.specs.Frame.{sequences}
 use Rattle.frame.specs.Shape.{isShape}
 use Rattle.frame.specs.declared.Shape.{Shape}
-use Rattle.frame.proofs.HeldSums.{rowSums-below}
-use Rattle.frame.proofs.Shapes.{shape-ranges}
 use Rattle.lists.proofs.Tabulated.{length-tabulate}
 use Rattle.register.specs.EachRound.{IsShortest}
 use Rattle.register.specs.Register.{Generator, Shortest, Alone}
-use Rattle.register.specs.Sequences.{Below}
 
 pub length-sequences : (s : Shape) (f : List ℕ) → length (sequences s f) ≡ s .rows
 unfolding sequences
 length-sequences s f = length-tabulate (s .rows) _
 
-pub sequences-below : (s : Shape) (f : List ℕ) → Below 257 (sequences s f)
-sequences-below s f h inside i short = rw (sequence-at s f h (let e = length-sequences s f in omega arith)) (rowSums-below s f h i)
-
 module _ (s : Shape) (f : List ℕ) (shape : isShape s ≡ true) where
-  pub some-sequence : 0 < length (sequences s f)
-  some-sequence = let e = length-sequences s f in omega (arith, shape-ranges s shape .rows-least)
-
   pub register-of-frame : IsShortest 257 (sizeOf (sequences s f)) (sequences s f) (tapsOf (sequences s f)) (aloneOf (sequences s f))
-  register-of-frame = register.register-of (sequences s f) some-sequence (sequences-below s f)
+  register-of-frame = register.register-of (sequences s f)
 
   pub frame-generator : Generator 257 (sizeOf (sequences s f)) (sequences s f) (tapsOf (sequences s f))
-  frame-generator = register.generator-of (sequences s f) some-sequence (sequences-below s f)
+  frame-generator = register.generator-of (sequences s f)
 
   pub frame-taps : length (tapsOf (sequences s f)) ≡ suc (sizeOf (sequences s f))
-  frame-taps = register.length-taps (sequences s f) some-sequence (sequences-below s f)
+  frame-taps = register.length-taps (sequences s f)
 
   pub same-size : (l : ℕ) (τ : List ℕ) → Shortest 257 l (sequences s f) τ → l ≡ sizeOf (sequences s f)
-  same-size = register.same-size (sequences s f) some-sequence (sequences-below s f)
+  same-size = register.same-size (sequences s f)
 
   pub alone-marked : (l : ℕ) (τ : List ℕ) → Shortest 257 l (sequences s f) τ → Alone 257 l (sequences s f) τ → aloneOf (sequences s f) ≡ true
-  alone-marked = register.alone-marked (sequences s f) some-sequence (sequences-below s f)
+  alone-marked = register.alone-marked (sequences s f)
 
   pub not-alone : (aloneOf (sequences s f) ≡ false)
       ↔ ((τ : List ℕ) × Generator 257 (sizeOf (sequences s f)) (sequences s f) τ × (τ ≡ tapsOf (sequences s f) → ⊥))
-  not-alone = register.not-alone (sequences s f) some-sequence (sequences-below s f)
+  not-alone = register.not-alone (sequences s f)

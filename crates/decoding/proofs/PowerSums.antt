@@ -29,7 +29,6 @@ use Rattle.frame.proofs.Field257.{F257, R257}
 use Rattle.frame.proofs.Locators.{locatorAt}
 use Rattle.frame.proofs.Words.{Outside}
 use Rattle.register.specs.Register.{Register, Generator, Shortest, Alone}
-use Rattle.register.specs.Sequences.{Below}
 open Field F257 using (inv)
 open CRing R257 using (car)
 
@@ -43,7 +42,7 @@ abbrev pub Shows : (n : ℕ) (P : ℕ → Bool) (w : ℕ → ℕ → R257 .car) 
 Shows n P w ss =
     (i : ℕ) → i < n → P i ≡ true → (h : ℕ) × (h < length ss) × (w h i ≡ R257 .zero → ⊥) × (2 * count n P ≤ length (getD ss h []))
 
-module _ (s : Shape) (shape : isShape s ≡ true) (ss : List (List ℕ)) (some : 0 < length ss) (below : Below 257 ss)
+module _ (s : Shape) (shape : isShape s ≡ true) (ss : List (List ℕ))
     {P : ℕ → Bool} {w : ℕ → ℕ → car} (power : PowerSums (s .columns) P w ss) where
   abbrev n : ℕ
   n = s .columns
@@ -79,7 +78,7 @@ module _ (s : Shape) (shape : isShape s ≡ true) (ss : List (List ℕ)) (some :
 
   pub size-at-most : sizeOf ss ≤ count (s .columns) P
   size-at-most = elim (decLt d c) [
-    | yes nearer ↦ absurd (register-of ss some below .shortest .least d nearer Λ-taps Λ-generator)
+    | yes nearer ↦ absurd (register-of ss .shortest .least d nearer Λ-taps Λ-generator)
     | no farther ↦ omega arith
   ]
 
@@ -90,21 +89,21 @@ module _ (s : Shape) (shape : isShape s ≡ true) (ss : List (List ℕ)) (some :
     at-c = omega (arith, size-at-most)
 
     same-taps : Λ-taps ≡ σ
-    same-taps = register-of ss some below .alone alone Λ-taps (subst (λ m. Generator 257 m ss Λ-taps) at-c Λ-generator)
+    same-taps = register-of ss .alone alone Λ-taps (subst (λ m. Generator 257 m ss Λ-taps) at-c Λ-generator)
 
     all-named : Within n P (named s σ)
-    all-named i inside e = root-named s c σ (generator-of ss some below .register) i inside
+    all-named i inside e = root-named s c σ (generator-of ss .register) i inside
         (ap₂ (λ m τ. eval R257 m (poly257 τ) (inv (locatorAt i))) (sym at-c) (sym same-taps)
         ∙ ap (λ φ. eval R257 d φ (inv (locatorAt i))) (fun-ext (poly-coefficients 257 prime-257 d Λ Λ-degree)) ∙ Λ-roots i inside e)
 
     pub names-count : count (s .columns) (named s (tapsOf ss)) ≡ sizeOf ss
-    names-count = omega (arith, within-le n P (named s σ) all-named, names-at-most s c σ (generator-of ss some below .register) shape, at-c)
+    names-count = omega (arith, within-le n P (named s σ) all-named, names-at-most s c σ (generator-of ss .register) shape, at-c)
 
     pub names-P : (i : ℕ) → i < s .columns → P i ≡ named s (tapsOf ss) i
     names-P = within-same n P (named s σ) all-named (at-c ∙ sym names-count)
 
     pub names-enough : namesAll s (tapsOf ss) (sizeOf ss) ≡ true
-    names-enough = names-all s c σ (generator-of ss some below .register) shape .1 names-count
+    names-enough = names-all s c σ (generator-of ss .register) shape .1 names-count
 
   -- ---- shown by long sequences
 
@@ -138,7 +137,7 @@ module _ (s : Shape) (shape : isShape s ≡ true) (ss : List (List ℕ)) (some :
         (roots d (le-refl d) τ a) (roots d (le-refl d) Λ-taps Λ-generator))
 
     pub size-shown : sizeOf ss ≡ count (s .columns) P
-    size-shown = sym (same-size ss some below d Λ-taps shortest)
+    size-shown = sym (same-size ss d Λ-taps shortest)
 
     pub alone-shown : aloneOf ss ≡ true
-    alone-shown = alone-marked ss some below d Λ-taps shortest only-register
+    alone-shown = alone-marked ss d Λ-taps shortest only-register

@@ -9,7 +9,7 @@ use native.Mathlib.Omega.{arith}
 use borrow.Author.Tests.{le-leb}
 use Rattle.decoding.specs.Locating.{sizeOf, tapsOf, aloneOf, rowsReach, namedColumns, namesAll, repaired}
 use Rattle.decoding.proofs.DamageSums.{damage}
-use Rattle.decoding.proofs.FrameRegister.{length-sequences, sequences-below, some-sequence}
+use Rattle.decoding.proofs.FrameRegister.{length-sequences}
 use Rattle.decoding.proofs.FrameSums.{error, error-same-cell, sequence-length}
 use Rattle.decoding.proofs.PowerSums.{Shows, size-shown, alone-shown}
 use Rattle.decoding.proofs.RepairedFrame.{cell-below}
@@ -65,11 +65,11 @@ module _ (s : Shape) (shape : isShape s ≡ true) (g f : List ℕ) (legal : Lega
   size-w : c ≡ distance s g f
   unfolding distance
   size-w =
-      size-shown s shape (sequences s f) (some-sequence s f shape) (sequences-below s f) (damage s g f (legal .codeword)) shows
+      size-shown s shape (sequences s f) (damage s g f (legal .codeword)) shows
 
   alone : aloneOf (sequences s f) ≡ true
   alone =
-      alone-shown s shape (sequences s f) (some-sequence s f shape) (sequences-below s f) (damage s g f (legal .codeword)) shows
+      alone-shown s shape (sequences s f) (damage s g f (legal .codeword)) shows
 
   reaches : rowsReach s c ≡ true
   unfolding rowsReach

@@ -13,13 +13,12 @@ use Rattle.decoding.specs.Locating.{sizeOf, tapsOf, aloneOf}
 use Rattle.field.proofs.Prime257.{prime-257}
 use Rattle.register.specs.EachRound.{IsShortest}
 use Rattle.register.specs.Register.{Generator, Shortest, Alone}
-use Rattle.register.specs.Sequences.{Below}
 use Rattle.register.proofs.AllRounds.{all-rounds, all-rounds-other}
 
-module _ (ss : List (List ℕ)) (some : 0 < length ss) (below : Below 257 ss) where
+module _ (ss : List (List ℕ)) where
   pub register-of : IsShortest 257 (sizeOf ss) ss (tapsOf ss) (aloneOf ss)
   unfolding sizeOf tapsOf aloneOf
-  register-of = all-rounds 257 ss prime-257 some below
+  register-of = all-rounds 257 ss prime-257
 
   pub generator-of : Generator 257 (sizeOf ss) ss (tapsOf ss)
   generator-of = register-of .shortest .generator

@@ -14,7 +14,7 @@ use Rattle.columns.specs.declared.Columns.{Columns}
 use Rattle.decoding.specs.Locating.{sizeOf, tapsOf, aloneOf, rowsReach, named, namedColumns, namesAll, repaired}
 use Rattle.decoding.proofs.CompletedCodeword.{completes-codeword, completes-distance, completes-differing}
 use Rattle.decoding.proofs.DamageSums.{damage}
-use Rattle.decoding.proofs.FrameRegister.{sequences-below, some-sequence, frame-generator}
+use Rattle.decoding.proofs.FrameRegister.{frame-generator}
 use Rattle.decoding.proofs.NamedColumns.{names-all, has-named, named-below, size-named}
 use Rattle.decoding.proofs.PowerSums.{names-P, names-enough}
 use Rattle.decoding.proofs.RepairedFrame.{Completes, repaired-completes, repaired-only}
@@ -43,12 +43,12 @@ module _ (s : Shape) (shape : isShape s ≡ true) (f : List ℕ) where
     nearest-enough : namesAll s σ c ≡ true
     unfolding distance
     nearest-enough =
-        names-enough s shape (sequences s f) (some-sequence s f shape) (sequences-below s f) (damage s e f code) alone near
+        names-enough s shape (sequences s f) (damage s e f code) alone near
 
     nearest-differs : (i : ℕ) → i < s .columns → differs s e f i ≡ named s σ i
     unfolding distance
     nearest-differs =
-        names-P s shape (sequences s f) (some-sequence s f shape) (sequences-below s f) (damage s e f code) alone near
+        names-P s shape (sequences s f) (damage s e f code) alone near
 
     nearest-completes : WellFormed s e → rowsReach s c ≡ true → Completes s J f e
     nearest-completes wf reaches =

@@ -2,24 +2,25 @@
 use mathlib.Core.Path.{_≡_, sym, ap, subst, _∙_}
 use mathlib.Core.Logic.{_↔_, _≢_}
 use mathlib.Core.Bool.{Bool}
-use mathlib.Core.List.{List, [], _∷_, _++_, append-nil}
-use Prim.Native.Nat.{ℕ, zero, suc, _+_, _<_}
-use native.Mathlib.Nat.{not-suc-le-zero, le-of-suc-le-suc}
+use mathlib.Core.List.{List, [], _++_, append-nil}
+use Prim.Native.Nat.{ℕ, suc}
 use native.Mathlib.Omega.{arith}
-use lib.ListN.{length, getD, take, drop, length-take, length-drop, length-map}
-use lib.Seq.{getD-take, getD-drop, take-at, drop-at}
+use lib.ListN.{length, take, drop}
+use lib.Seq.{take-at, drop-at}
 use Rattle.refusal.proofs.Orders.{by-tests, pass-otherwise, gives-first, outcome-refused}
 use Rattle.refusal.proofs.Outcomes.{given-passed, given-refused}
 use Rattle.refusal.specs.Order.{Reason, First, Test}
 use Rattle.refusal.specs.Outcome.{outcome}
 use Rattle.refusal.specs.Outcome as Outcome
 use Rattle.register.proofs.AllRounds.{all-rounds}
+use Rattle.register.proofs.InOrder.{in-order}
 use Rattle.register.specs.Algorithm4.{found, foundAlone}
 use Rattle.register.specs.EachRound.{IsShortest}
-use Rattle.register.specs.Sequences.{Below, longest, split}
+use Rattle.register.specs.Order.{ByAlgorithm4}
+use Rattle.register.specs.Sequences.{longest, split}
 use Rattle.finder.specs.Demands.{Demand1, Demand2, Written, reasons}
 use Rattle.finder.specs.Finder.{register, refused, tests, answer, tapsLeft}
-use Rattle.finder.proofs.Accepted.{accepted, lengths-split}
+use Rattle.finder.proofs.Accepted.{accepted}
 use Rattle.finder.proofs.Reasons.{finder-says}
 
 -- ---- demand 1
@@ -57,15 +58,6 @@ demand-1 =
 
 -- ---- demand 2
 
-below-split : (p : ℕ) (lengths symbols : List ℕ) → ((i : ℕ) → i < length symbols → getD symbols i 0 < p) → Below p (split lengths symbols)
-unfolding split
-below-split p [] symbols below h b = absurd (not-suc-le-zero b)
-below-split p (n ∷ ns) symbols below zero b = λ i inside.
-    let short = length-take n symbols in
-    rw (getD-take n symbols i 0 (omega arith)) (below i (omega arith))
-below-split p (n ∷ ns) symbols below (suc h) b =
-    below-split p ns (drop n symbols) (λ j m. rw (getD-drop n symbols j 0) (below (n + j) (omega (arith, length-drop n symbols)))) h (le-of-suc-le-suc b)
-
 module _ (p : ℕ) (lengths symbols buffer : List ℕ) (l : ℕ) (mark : Bool) (e : answer p lengths symbols (length buffer) ≡ register l mark) where
   abbrev ss : List (List ℕ)
   ss = split lengths symbols
@@ -92,10 +84,7 @@ module _ (p : ℕ) (lengths symbols buffer : List ℕ) (l : ℕ) (mark : Bool) (
   is-found = sym (given-passed refused (register size alone) ts ok) ∙ e
 
   shortest : IsShortest p size ss (found p ss (longest ss) .taps) alone
-  shortest =
-      let fine = accepted p lengths symbols (length buffer) ok in
-      let many : length ss ≡ length lengths = sym (length-map ss length) ∙ ap length (lengths-split lengths symbols (omega (arith, fine .whole))) in
-      all-rounds p ss (fine .prime) (omega (arith, fine .one-or-more)) (below-split p lengths symbols (fine .below))
+  shortest = all-rounds p ss (accepted p lengths symbols (length buffer) ok .prime)
 
   abbrev σ : List ℕ
   σ = found p ss (longest ss) .taps
@@ -121,6 +110,7 @@ module _ (p : ℕ) (lengths symbols buffer : List ℕ) (l : ℕ) (mark : Bool) (
   written =
       record {
         found = rw (first-left, ← same-mark) (subst (λ (m : ℕ). IsShortest p m ss σ alone) same-size shortest);
+        in-order = rw first-left (subst (λ (m : ℕ). ByAlgorithm4 p ss (longest ss) m σ) same-size (in-order p ss (longest ss)));
         kept = ap (drop (suc l)) taps-left ∙ drop-at σ (drop (suc l) buffer) (suc l) tap-count;
       }
 

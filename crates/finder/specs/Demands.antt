@@ -10,12 +10,15 @@ use Rattle.field.specs.Total.{total}
 use Rattle.refusal.specs.Order.{Reason, First}
 use Rattle.register.specs.EachRound.{IsShortest}
 use Rattle.finder.specs.Finder.{answer, tapsLeft, register, refused}
-use Rattle.register.specs.Sequences.{largest, split}
+use Rattle.register.specs.Order.{ByAlgorithm4}
+use Rattle.register.specs.Sequences.{largest, longest, split}
 
--- Demand 2 of the finder: what it answers and writes, where it does not refuse, is a shortest register of the sequences lent. Later entries of the
--- tap buffer keep their contents.
+-- Demand 2 of the finder: what it answers and writes, where it does not refuse, is a shortest register of the sequences lent, and the one that Algorithm 4
+-- has after all of its rounds on them by falling length, equal lengths in the order given. Later entries of the tap buffer keep their contents.
 pub record Written (p : ℕ) (lengths symbols buffer : List ℕ) (l : ℕ) (mark : Bool) : Type 0 where
   pub found : IsShortest p l (split lengths symbols) (take (suc l) (tapsLeft p lengths symbols buffer)) mark
+  pub in-order :
+      ByAlgorithm4 p (split lengths symbols) (longest (split lengths symbols)) l (take (suc l) (tapsLeft p lengths symbols buffer))
   pub kept : drop (suc l) (tapsLeft p lengths symbols buffer) ≡ drop (suc l) buffer
 
 abbrev pub Demand2 : Type 0

@@ -95,7 +95,7 @@ module _ (p : ℕ) (ss : List (List ℕ)) (n : ℕ) (prime : Prime p) (round : n
       pick false e = let (τ, g, differ) = found-other e in absurd (differ (alone τ g))
 
 pub each-round : EachRound
-each-round p ss n prime some below round =
+each-round p ss n prime round =
     record {
       shortest = record { generator = found-generator p ss n prime round; least = found-least p ss n prime round };
       alone = found-alone p ss n prime round;

@@ -6,6 +6,7 @@ pub mod Cases
 pub mod EachRound
 pub mod FieldStep
 pub mod Generators
+pub mod InOrder
 pub mod Ordering
 pub mod Splitting
 pub mod Stable

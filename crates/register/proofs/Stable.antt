@@ -9,13 +9,9 @@ use native.Mathlib.Omega.{arith}
 use lib.Dec.{eqb}
 use lib.ListN.{length}
 use borrow.Author.Tests.{eqb-true}
+use Rattle.register.specs.Order.{ofLength}
 use Rattle.register.specs.Sequences.{placed, ordered}
 use Rattle.register.proofs.Ordering.{placed-cases}
-
--- the sequences of length k
-unfoldable pub ofLength : ℕ → List (List ℕ) → List (List ℕ)
-ofLength k [] = []
-ofLength k (s ∷ ss) = cond (eqb (length s) k) (s ∷ ofLength k ss) (ofLength k ss)
 
 module _ (k : ℕ) where
   ofLength-cons : (s : List ℕ) (ss : List (List ℕ)) → ofLength k (s ∷ ss) ≡ cond (eqb (length s) k) (s ∷ ofLength k ss) (ofLength k ss)

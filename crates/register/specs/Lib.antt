@@ -1,4 +1,5 @@
 pub mod Algorithm4
 pub mod EachRound
+pub mod Order
 pub mod Register
 pub mod Sequences
