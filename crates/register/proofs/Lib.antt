@@ -6,6 +6,8 @@ pub mod Cases
 pub mod EachRound
 pub mod FieldStep
 pub mod Generators
+pub mod Largest
 pub mod Ordering
 pub mod Splitting
 pub mod Stable
+pub mod Theory
