@@ -6,7 +6,6 @@ pub mod FieldLaws
 pub mod Horner
 pub mod LocatorLaws
 pub mod Powers
-pub mod Register
 pub mod RingLaws
 pub mod Roots
 pub mod Solver

@@ -3,7 +3,7 @@
 -- Assumes nothing.
 use mathlib.Core.Path.{_≡_, refl, sym, ap, ap₂, _∙_}
 use mathlib.Core.Bool.{true, not, _&&_}
-use mathlib.Core.List.{List, [], _∷_, _++_}
+use mathlib.Core.List.{List, _++_}
 use Prim.Native.Nat.{ℕ, suc, _+_, _-_, _≤_, _<_}
 use native.Mathlib.Omega.{arith}
 use lib.ListN.{length, getD, take, drop, replicate}
@@ -12,8 +12,8 @@ use borrow.Author.Tests.{lt-ltb, le-ltb, le-leb, eq-eqb}
 use Rattle.decoding.specs.Locating.{sizeOf, tapsOf, aloneOf}
 use Rattle.decoding.proofs.SequenceRegister.{length-taps}
 use Rattle.field.specs.Prime.{isModulus, isPrime, noDivisor}
-use Rattle.field.specs.Total.{total}
-use Rattle.field.proofs.Totals.{total-ext, total-bound}
+use Rattle.lists.specs.Total.{total}
+use Rattle.lists.proofs.Totals.{total-ext, total-bound}
 use Rattle.finder.specs.Finder.{tests, answer, tapsLeft, register}
 use Rattle.frame.specs.Frame.{heldSequences}
 use Rattle.frame.specs.Shape.{checksOf, isShape}
@@ -29,14 +29,9 @@ use Rattle.refusal.proofs.Orders.{Pass, pass-otherwise}
 use Rattle.register.specs.Algorithm4.{found, foundAlone}
 use Rattle.register.specs.Sequences.{largest, longest, ordered, split}
 use Rattle.register.proofs.Bounds.{bounded-rounds}
+use Rattle.register.proofs.Largest.{largest-bound}
 use Rattle.register.proofs.Ordering.{longest-least}
 use Rattle.register.proofs.Splitting.{split-first}
-
--- the entries of a list bound the largest
-largest-bound : (b : ℕ) (l : List ℕ) → ((i : ℕ) → i < length l → getD l i 0 ≤ b) → largest l ≤ b
-unfolding largest
-largest-bound b [] h = omega arith
-largest-bound b (x ∷ xs) h = let z = h 0 (omega arith) in let t = largest-bound b xs (λ i l. h (suc i) (omega arith)) in omega arith
 
 pub sums-most : (s : Shape) → isShape s ≡ true → total (s .rows) (checksOf s) ≤ 512
 sums-most s shape =

@@ -14,7 +14,7 @@ use Rattle.columns.specs.declared.Columns.{Columns}
 use Rattle.decoding.specs.Locating.{sizeOf, tapsOf, aloneOf, rowsReach, namedColumns, namesAll}
 use Rattle.decoding.proofs.SequenceRegister.{generator-of, length-taps}
 use Rattle.decoding.proofs.NamedColumns.{size-named}
-use Rattle.field.specs.Total.{total}
+use Rattle.lists.specs.Total.{total}
 use Rattle.finder.specs.Finder.{Answer, answer, tapsLeft, register, refused}
 use Rattle.frame.specs.Frame.{heldSums, heldSequences}
 use Rattle.frame.specs.Shape.{checksOf, isShape}

@@ -15,7 +15,7 @@ ghost use mathlib.Core.List.{List};
 ghost use Prim.Native.Nat.{ℕ, _<_};
 ghost use lib.ListN.{length, getD, take};
 ghost use Rattle.calls.specs.FromSums.{fromSums, sumsLeft};
-ghost use Rattle.field.specs.Total.{total};
+ghost use Rattle.lists.specs.Total.{total};
 ghost use Rattle.finder.specs.Finder.{Finds, tests};
 ghost use Rattle.frame.specs.Shape.{checksOf, isShape};
 ghost use Rattle.job.specs.Answers.{answeredOutcome};

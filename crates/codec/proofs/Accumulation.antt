@@ -11,9 +11,9 @@ use mir.Val.{Fits}
 use lib.Pow.{pow-add}
 use lib.ListN.{length, getD}
 use Rattle.field.specs.Coefficients.{value}
-use Rattle.field.specs.Total.{total}
+use Rattle.lists.specs.Total.{total}
 use Rattle.field.proofs.Remainders.{mod-mul-mod, mul-mod-mod}
-use Rattle.field.proofs.Totals.{total-zero, total-suc, total-ext, total-mod}
+use Rattle.lists.proofs.Totals.{total-zero, total-suc, total-ext, total-mod}
 use Rattle.frame.specs.Frame.{checkSum}
 use Rattle.frame.specs.Powers.{powerOf3, weight}
 use Rattle.frame.proofs.Locators.{power-mod, weight-power}

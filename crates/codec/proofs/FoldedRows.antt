@@ -7,7 +7,7 @@ use native.Mathlib.Omega.{arith}
 use borrow.Rule.Slice.PartMut.{putMid}
 use lib.ListN.{length, take, drop, replicate, length-drop, take-append-drop}
 use lib.Seq.{drop-append-le, length-take-le, take-append-le}
-use Rattle.lists.proofs.Put.{length-put, part-put}
+use Rattle.lists.proofs.Parts.{length-replaced, part-replaced}
 use Rattle.codec.specs.Folded.{folded}
 use Rattle.codec.proofs.FoldedSums.{length-folded}
 
@@ -32,7 +32,7 @@ module _ (blocks : ℕ) (x : List ℕ) where
 
   pub each-more : (k : ℕ) (rows y : List ℕ) → Each k rows → k < 16 → y ≡ folded blocks x (k + 1)
       → Each (k + 1) (putMid (16 * k) (16 * k + 16 - 16 * k) rows y)
-  each-more k rows y a less e = record { size = length-put (16 * k) part y rows len fits ∙ a .size; ready = λ i h. at i h (decLt i k) }
+  each-more k rows y a less e = record { size = length-replaced (16 * k) part rows y fits len ∙ a .size; ready = λ i h. at i h (decLt i k) }
     where
       part : ℕ
       part = 16 * k + 16 - 16 * k
@@ -50,4 +50,4 @@ module _ (blocks : ℕ) (x : List ℕ) where
       at i h (yes l) = part-put-before (16 * k) part y rows (16 * i) 16 (let s = a .size in omega arith) (omega arith) ∙ a .ready i l
       at i h (no l) =
           ap₂ (λ (n m : ℕ). take n (drop m (putMid (16 * k) part rows y))) (sym sixteen) (let q : 16 * i ≡ 16 * k = omega arith in q)
-          ∙ part-put (16 * k) part y rows len fits ∙ e ∙ ap (folded blocks x) (let q : k + 1 ≡ suc i = omega arith in q)
+          ∙ part-replaced (16 * k) part rows y fits len ∙ e ∙ ap (folded blocks x) (let q : k + 1 ≡ suc i = omega arith in q)

@@ -10,9 +10,9 @@ use borrow.Rule.Slice.PartMut.{midOf}
 use lib.ListN.{length, getD, take, drop, List·getD-eq-default}
 use lib.Pow.{pow-add}
 use Rattle.field.specs.Coefficients.{value}
-use Rattle.field.specs.Total.{total}
+use Rattle.lists.specs.Total.{total}
 use Rattle.field.proofs.Remainders.{mod-mul-mod, mul-mod-mod}
-use Rattle.field.proofs.Totals.{total-ext, total-mul, total-mod}
+use Rattle.lists.proofs.Totals.{total-ext, total-mul, total-mod}
 use Rattle.lists.proofs.Tabulated.{getD-tabulate, length-tabulate, tabulate-ext}
 use Rattle.frame.specs.Frame.{checkSum}
 use Rattle.frame.specs.Powers.{powerOf3, weight}

@@ -14,7 +14,7 @@ use Rattle.lists.proofs.Filling.{by-entries}
 use Rattle.lists.proofs.Tabulated.{getD-tabulate, length-tabulate, tabulate-ext}
 use Rattle.lists.proofs.Zeros.{zeros, zeros-entry}
 use Rattle.lists.specs.Tabulate.{tabulate}
-use Rattle.field.proofs.Totals.{total-zero, total-suc, total-bound}
+use Rattle.lists.proofs.Totals.{total-zero, total-suc, total-bound}
 use Rattle.frame.specs.Powers.{powerOf3}
 use Rattle.frame.proofs.Locators.{power-mod}
 use Rattle.codec.specs.Folded.{gathered}

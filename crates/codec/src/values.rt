@@ -4,7 +4,7 @@ ghost use Prim.Native.Nat.{_+_, _*_, _/_, _%_, _^_, _≤_, _<_};
 ghost use lib.ListN.{length, getD};
 ghost use Rattle.codec.specs.Table.{table};
 ghost use Rattle.field.specs.Coefficients.{value};
-ghost use Rattle.field.specs.Total.{total};
+ghost use Rattle.lists.specs.Total.{total};
 ghost use Rattle.frame.specs.Powers.{powerOf3};
 
 // The whole product.

@@ -104,11 +104,3 @@ columnsOf-add r P Q i p e h = columnsOf-ext (λ k. has r k || eqb k i) Q (λ k l
     at k l (yes q) = ap (λ (b : Bool). has r k || b) (eq-eqb k i q) ∙ or-true (has r k) ∙ sym e ∙ ap Q (sym q)
     at k l (no q) =
         ap₂ (λ (d : Columns) (b : Bool). has d k || b) p (ne-eqb k i q) ∙ or-false (has (columnsOf P) k) ∙ has-columnsOf P k l ∙ h k q
-
--- the next bound takes in no other number than i
-pub ltb-next : (k i : ℕ) → k ≢ i → ltb k i ≡ ltb k (i + 1)
-ltb-next k i h = next (decLt k i)
-  where
-    next : Dec (k < i) → ltb k i ≡ ltb k (i + 1)
-    next (yes l) = lt-ltb k i l ∙ sym (lt-ltb k (i + 1) (omega arith))
-    next (no l) = le-ltb k i (omega arith) ∙ sym (le-ltb k (i + 1) (omega arith))

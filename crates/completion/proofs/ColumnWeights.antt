@@ -11,7 +11,7 @@ use Rattle.columns.proofs.Walk.{Walk, walk-member}
 use Rattle.frame.specs.Completion.{locatorPolynomial}
 use Rattle.frame.specs.Powers.{locatorOf}
 use Rattle.lists.specs.Tabulate.{tabulate}
-use Rattle.lists.proofs.Put.{length-put, part-put}
+use Rattle.lists.proofs.Parts.{length-replaced, part-replaced}
 use Rattle.lists.proofs.Tabulated.{length-tabulate}
 use Rattle.completion.specs.Weights.{carried, coefficient, readOff}
 use Rattle.completion.proofs.Quotient.{quotient-others}
@@ -40,7 +40,7 @@ module _ (J : Columns) (d i : ℕ) (walk : Walk J d i) (inside : i < 256) (f : L
   pub weighed-column : (k : ℕ) (l y : List ℕ) → k ≡ length (members J) → k ≤ 64 → length l ≡ 64 → y ≡ computed (length (midOf 0 (k - 0) l))
       → Weighed J i k l y
   weighed-column k l y sized few room e = record {
-    long = length-put 0 (k - 0) y l size (omega arith) ∙ room;
+    long = length-replaced 0 (k - 0) l y (omega arith) size ∙ room;
     lent = lent;
     count = ap length lent ∙ length-tabulate (length (members J)) (coefficient J i);
   }
@@ -55,4 +55,4 @@ module _ (J : Columns) (d i : ℕ) (walk : Walk J d i) (inside : i < 256) (f : L
       size = let q = ap length is ∙ length-tabulate (length (members J)) (coefficient J i) in omega arith
 
       lent : midOf 0 (k - 0) (putMid 0 (k - 0) l y) ≡ coefficientsOf J i
-      lent = part-put 0 (k - 0) y l size (omega arith) ∙ is
+      lent = part-replaced 0 (k - 0) l y (omega arith) size ∙ is

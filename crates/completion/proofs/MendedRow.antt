@@ -15,10 +15,10 @@ use Rattle.algebra.proofs.Solver.{:0, :1, _:+_, _:-_, :neg, _:=_, _:×_:≡_:�
 use Rattle.columns.specs.Columns.{has, members}
 use Rattle.columns.specs.declared.Columns.{Columns}
 use Rattle.columns.proofs.Listing.{by-test}
-use Rattle.field.specs.Total.{total}
+use Rattle.lists.specs.Total.{total}
 use Rattle.field.proofs.Bridge.{res-add, res-mod}
 use Rattle.field.proofs.Prime257.{prime-257}
-use Rattle.field.proofs.Totals.{total-ext}
+use Rattle.lists.proofs.Totals.{total-ext}
 use Rattle.frame.specs.Completion.{completed}
 use Rattle.frame.specs.Frame.{checkSum, checkSums}
 use Rattle.frame.proofs.CheckSums.{checkSum-below, res-checkSum, rowSum, rowSum-sub, symbols}

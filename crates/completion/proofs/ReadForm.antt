@@ -10,11 +10,11 @@ use Rattle.algebra.proofs.Solver.{:0, _:-_, _:·_, _:=_, solve}
 use Rattle.columns.specs.Columns.{members}
 use Rattle.columns.specs.declared.Columns.{Columns}
 use Rattle.field.specs.Residue.{minus, times}
-use Rattle.field.specs.Total.{total}
+use Rattle.lists.specs.Total.{total}
 use Rattle.field.proofs.Bridge.{res-zero, res-minus, res-times}
 use Rattle.field.proofs.Prime257.{prime-257}
 use Rattle.field.proofs.Remainders.{mod-mul-mod}
-use Rattle.field.proofs.Totals.{total-ext, total-mod, total-mul}
+use Rattle.lists.proofs.Totals.{total-ext, total-mod, total-mul}
 use Rattle.frame.proofs.ClosedForm.{otherColumns, symbolFor}
 use Rattle.frame.proofs.Field257.{R257, res257, res-tells}
 use Rattle.completion.specs.Weights.{coefficient, factorOf, readOff}

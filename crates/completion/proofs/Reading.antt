@@ -8,8 +8,8 @@ use native.Mathlib.Omega.{arith}
 use mir.Syntax.{w16, w32}
 use mir.Val.{Fits}
 use lib.ListN.{length, getD}
-use Rattle.field.specs.Total.{total}
-use Rattle.field.proofs.Totals.{total-zero, total-suc, total-bound}
+use Rattle.lists.specs.Total.{total}
+use Rattle.lists.proofs.Totals.{total-zero, total-suc, total-bound}
 use Rattle.completion.specs.Mending.{symbolRead}
 
 module _ (coefficients sums : List ℕ) where

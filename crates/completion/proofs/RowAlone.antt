@@ -8,7 +8,7 @@ use lib.ListN.{length, take, drop}
 use lib.Seq.{take-all}
 use borrow.Rule.Slice.PartMut.{midOf}
 use Rattle.columns.specs.declared.Columns.{Columns}
-use Rattle.field.proofs.Totals.{total-zero}
+use Rattle.lists.proofs.Totals.{total-zero}
 use Rattle.frame.specs.Completion.{completed}
 use Rattle.frame.specs.Encode.{eachRow}
 use Rattle.frame.specs.Frame.{checkSums, heldSums, row}

@@ -4,7 +4,7 @@ use mathlib.Core.List.{List}
 use Prim.Native.Nat.{ℕ, suc, _+_, _-_, _*_, _%_}
 use lib.Dec.{eqb}
 use lib.ListN.{length, getD, take, drop}
-use Rattle.field.specs.Total.{total}
+use Rattle.lists.specs.Total.{total}
 use Rattle.frame.specs.Encode.{eachRow}
 use Rattle.frame.specs.Frame.{sumsBefore}
 use Rattle.frame.specs.Shape.{checksOf}

@@ -9,5 +9,6 @@ pub mod Recovery
 pub mod Recurrence
 pub mod RegisterPolynomial
 pub mod RepairedFrame
+pub mod Searching
 pub mod SequenceRegister
 pub mod SoleNearest

@@ -6,7 +6,7 @@ use Rattle.columns.specs.Listed.{count, listed}
 use Rattle.decoding.specs.Locating.{sizeOf, tapsOf, aloneOf, rowsReach, named, namedColumns, namesAll}
 use Rattle.field.specs.Coefficients.{shifted, reduced, value}
 use Rattle.field.specs.Prime.{noDivisor, isPrime, isModulus}
-use Rattle.field.specs.Total.{total}
+use Rattle.lists.specs.Total.{total}
 use Rattle.finder.specs.Finder.{tests, answer, tapsLeft}
 use Rattle.frame.specs.Completion.{without, locatorPolynomial, cleared, completion, completed}
 use Rattle.frame.specs.Encode.{eachRow, encoded, dataBelow, encodeTests}

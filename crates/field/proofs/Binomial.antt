@@ -5,9 +5,9 @@ use Prim.Native.Nat.{ℕ, zero, suc, _+_, _*_, _%_, _^_, _<_}
 use native.Mathlib.Nat.{pow-zero, pow-suc, mod-eq-of-lt, mul-mod-right, zero-mul}
 use native.Mathlib.Omega.{arith}
 use Rattle.field.specs.Prime.{Prime}
-use Rattle.field.specs.Total.{total}
+use Rattle.lists.specs.Total.{total}
 use Rattle.field.proofs.Euclid.{euclid}
-use Rattle.field.proofs.Totals.{total-zero, total-suc, total-ext, total-add, total-mul, total-head}
+use Rattle.lists.proofs.Totals.{total-zero, total-suc, total-ext, total-add, total-mul, total-head}
 
 -- the number of ways to choose k of n, by Pascal's rule
 pub choose : ℕ → ℕ → ℕ

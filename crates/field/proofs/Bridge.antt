@@ -11,10 +11,10 @@ use Rattle.algebra.proofs.Powers.{pow-zero as ring-pow-zero, pow-suc as ring-po
 use Rattle.algebra.proofs.Sums.{sum-zero, sum-suc}
 use Rattle.field.specs.Prime.{Prime}
 use Rattle.field.specs.Residue.{plus, minus, times, power, inverse, quotient}
-use Rattle.field.specs.Total.{total}
+use Rattle.lists.specs.Total.{total}
 use Rattle.field.proofs.Instance.{residue, residue-ring, residues, same-element, own-remainder}
 use Rattle.field.proofs.Remainders.{mod-mul-mod, mul-mod-mod, pow-mod}
-use Rattle.field.proofs.Totals.{total-zero, total-suc}
+use Rattle.lists.proofs.Totals.{total-zero, total-suc}
 
 module _ (p : ℕ) (prime : Prime p) where
   abbrev R : CRing

@@ -2,20 +2,25 @@
 -- not divide. By induction on a: of the terms of (a + 1)^p only the first and the last are not divided by p. Assumes nothing.
 use mathlib.Core.Path.{_≡_, sym, ap, _∙_}
 use Prim.Native.Nat.{ℕ, zero, suc, pred, _+_, _-_, _*_, _%_, _^_, _<_}
-use native.Mathlib.Nat.{pow-zero, pow-suc, pow-succ', mod-eq-of-lt, mod-add-mod, mul-zero, mul-one, one-mul, mul-comm, suc-pred-eq-of-pos}
+use native.Mathlib.Nat.{pow-zero, pow-suc, pow-succ', mod-eq-of-lt, mod-add-mod, mul-zero, mul-one, one-mul, mul-comm, suc-pred-eq-of-pos, le-step, lt-suc-self, zero-mod}
 use native.Mathlib.Numerals.{add-one}
 use native.Mathlib.Omega.{arith}
 use Rattle.field.specs.Prime.{Prime}
 use Rattle.field.specs.Residue.{inverse, times}
-use Rattle.field.specs.Total.{total}
+use Rattle.lists.specs.Total.{total}
 use Rattle.field.proofs.Binomial.{choose, choose-none, choose-all, binomial, coefficient-divided}
 use Rattle.field.proofs.Euclid.{cancel}
 use Rattle.field.proofs.Remainders.{mod-mul-zero, mod-add-zero, mul-mod-mod}
-use Rattle.field.proofs.Totals.{total-suc, total-head, total-divided}
+use Rattle.lists.proofs.Totals.{total-zero, total-suc, total-head}
 
 zero-power : (n : ℕ) → 0 < n → 0 ^ n ≡ 0
 zero-power zero h = absurd (let z : ⊥ = omega arith in z)
 zero-power (suc n) h = rw (pow-suc, mul-zero)
+
+total-divided : (n p : ℕ) (f : ℕ → ℕ) → ((k : ℕ) → k < n → f k % p ≡ 0) → total n f % p ≡ 0
+total-divided zero p f d = rw (total-zero f, zero-mod)
+total-divided (suc n) p f d =
+    rw (total-suc n f) (mod-add-zero (total n f) (f n) p (d n (lt-suc-self n)) ∙ total-divided n p f (λ k h. d k (le-step h)))
 
 module _ (p : ℕ) (prime : Prime p) where
   -- of the terms of (a + 1)^p, those between the first and the last add up to a multiple of p

@@ -11,5 +11,5 @@ pub mod Modulus
 pub mod Polynomials
 pub mod Prime257
 pub mod PrimeTest
+pub mod ProductSums
 pub mod Remainders
-pub mod Totals

@@ -1,6 +1,5 @@
 -- A list of taps as a polynomial over the field of residues: coefficient i is the residue of entry i. Every polynomial of degree at most l
--- is that of a list of l + 1 residues, and of one only; the changed taps of Algorithm 4 are the changed polynomial.
--- Assumes nothing.
+-- is that of a list of l + 1 residues, and of one only; the list of σ − q·x^e·τ is that polynomial.
 use mathlib.Core.Path.{_≡_, sym, ap, fun-ext, _∙_}
 use mathlib.Core.List.{List}
 use Prim.Native.Nat.{ℕ, suc, _+_, _-_, _*_, _%_, _≤_, _<_}
@@ -12,7 +11,6 @@ use lib.Seq.{ext-getD}
 use Rattle.algebra.specs.Ring.{CRing}
 use Rattle.algebra.specs.Polynomial.{Degree, shift}
 use Rattle.algebra.proofs.Convolution.{shift-below, shift-above}
-use Rattle.algebra.proofs.Register.Step.{reduced as reducedPoly}
 use Rattle.field.specs.Coefficients.{shifted, reduced}
 use Rattle.field.specs.Prime.{Prime}
 use Rattle.field.specs.Residue.{minus, times}
@@ -86,11 +84,8 @@ module _ (p : ℕ) (prime : Prime p) where
             )
             (sym (ap (λ (x : ℕ). x % p) (let h : 0 + (p - 0) ≡ p = omega arith in h) ∙ mod-self p))
 
-    pub poly-reduced : poly (reduced p l σ q e τ) ≡ reducedPoly (residues p prime) (poly σ) (res p prime q) e (poly τ)
-    poly-reduced = fun-ext at
-      where
-        at : (i : ℕ) → poly (reduced p l σ q e τ) i ≡ reducedPoly (residues p prime) (poly σ) (res p prime q) e (poly τ) i
-        at i =
-            ap (res p prime) (entry i)
-            ∙ res-minus p prime (getD σ i 0) (times p q (shifted e τ i)) (le-of-lt (mod-lt (q * shifted e τ i) (omega (arith, prime .two-or-more))))
-            ∙ ap (λ x. res p prime (getD σ i 0) ⊕ neg x) (res-times p prime q (shifted e τ i) ∙ ap (λ x. res p prime q ⊗ x) (res-shifted e τ i))
+    pub poly-reduced : poly (reduced p l σ q e τ) ≡ (λ i. poly σ i ⊕ neg (res p prime q ⊗ shift (residues p prime .ring) e (poly τ) i))
+    poly-reduced = fun-ext (λ i.
+        ap (res p prime) (entry i)
+        ∙ res-minus p prime (getD σ i 0) (times p q (shifted e τ i)) (le-of-lt (mod-lt (q * shifted e τ i) (omega (arith, prime .two-or-more))))
+        ∙ ap (λ x. res p prime (getD σ i 0) ⊕ neg x) (res-times p prime q (shifted e τ i) ∙ ap (λ x. res p prime q ⊗ x) (res-shifted e τ i)))

@@ -5,7 +5,7 @@ use Prim.Native.Nat.{ℕ, suc, _-_, _*_, _^_, _%_}
 use lib.Dec.{ltb}
 use lib.ListN.{length, getD}
 use Rattle.field.specs.Residue.{minus, times}
-use Rattle.field.specs.Total.{total}
+use Rattle.lists.specs.Total.{total}
 use Rattle.lists.specs.Tabulate.{tabulate}
 
 -- coefficient i of x^e·τ

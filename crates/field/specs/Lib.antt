@@ -1,4 +1,3 @@
 pub mod Coefficients
 pub mod Prime
 pub mod Residue
-pub mod Total

@@ -8,9 +8,9 @@ use borrow.Author.Tests.{ltb-true, ltb-false, leb-true, eqb-true}
 use lib.ListN.{length, getD, drop, length-drop}
 use lib.Seq.{length-take-le}
 use Rattle.field.proofs.Modulus.{modulus-prime}
-use Rattle.field.proofs.Totals.{total-head}
+use Rattle.lists.proofs.Totals.{total-head}
 use Rattle.field.specs.Prime.{Prime}
-use Rattle.field.specs.Total.{total}
+use Rattle.lists.specs.Total.{total}
 use Rattle.lists.proofs.Tabulated.{every-at}
 use Rattle.refusal.proofs.Orders.{Pass, no-fail, none-pass, outcome-passed}
 use Rattle.refusal.specs.Outcome.{passed, outcome}

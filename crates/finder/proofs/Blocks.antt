@@ -1,4 +1,4 @@
--- The flat array of saved registers: an entry of the block of sequence h, and what the blocks are once one of them is replaced. Assumes nothing.
+-- The flat array of saved registers: an entry of the block of sequence h, and what the blocks are once one of them is replaced.
 use mathlib.Core.Path.{_≡_, sym, ap, _∙_}
 use mathlib.Core.Logic.{_≢_}
 use mathlib.Core.List.{List}
@@ -8,7 +8,7 @@ use native.Mathlib.Omega.{arith}
 use lib.ListN.{length, getD, take, drop, length-take, length-drop}
 use lib.Seq.{ext-getD, getD-take}
 use Rattle.lists.proofs.Entries.{getD-part}
-use Rattle.lists.proofs.Put.{put, length-put, part-put, getD-put-before, getD-put-after}
+use Rattle.lists.proofs.Parts.{replaced, length-replaced, part-replaced, replaced-before, replaced-after}
 use Rattle.finder.specs.Progress.{block}
 
 -- entry i of the m + 1 taps that are saved for h
@@ -22,28 +22,28 @@ module _ (h : ℕ) (y saved : List ℕ) (len : length y ≡ 129) (whole : length
   fits : h * 129 + 129 ≤ length saved
   fits = omega arith
 
-  pub block-put : block h (put (h * 129) 129 y saved) ≡ y
-  block-put = part-put (h * 129) 129 y saved len fits
+  pub block-replaced : block h (replaced (h * 129) 129 saved y) ≡ y
+  block-replaced = part-replaced (h * 129) 129 saved y fits len
 
-  pub put-whole : length (put (h * 129) 129 y saved) ≡ 1032
-  put-whole = length-put (h * 129) 129 y saved len fits ∙ whole
+  pub replaced-whole : length (replaced (h * 129) 129 saved y) ≡ 1032
+  replaced-whole = length-replaced (h * 129) 129 saved y fits len ∙ whole
 
-  other-entry : (g : ℕ) → g ≢ h → (i : ℕ) → i < 129 → getD (put (h * 129) 129 y saved) (g * 129 + i) 0 ≡ getD saved (g * 129 + i) 0
+  other-entry : (g : ℕ) → g ≢ h → (i : ℕ) → i < 129 → getD (replaced (h * 129) 129 saved y) (g * 129 + i) 0 ≡ getD saved (g * 129 + i) 0
   other-entry g ne i small = pick (decLt g h)
     where
-      pick : Dec (g < h) → getD (put (h * 129) 129 y saved) (g * 129 + i) 0 ≡ getD saved (g * 129 + i) 0
-      pick (yes less) = getD-put-before (h * 129) 129 y saved len fits (g * 129 + i) 0 (omega arith)
+      pick : Dec (g < h) → getD (replaced (h * 129) 129 saved y) (g * 129 + i) 0 ≡ getD saved (g * 129 + i) 0
+      pick (yes less) = replaced-before (h * 129) 129 saved y fits len 0 (g * 129 + i) (omega arith)
       pick (no more) =
           let above : h < g = omega (arith, ne) in
-          getD-put-after (h * 129) 129 y saved len fits (g * 129 + i) 0 (omega arith)
+          replaced-after (h * 129) 129 saved y fits len 0 (g * 129 + i) (omega arith)
 
-  pub block-other : (g : ℕ) → g ≢ h → block g (put (h * 129) 129 y saved) ≡ block g saved
+  pub block-other : (g : ℕ) → g ≢ h → block g (replaced (h * 129) 129 saved y) ≡ block g saved
   block-other g ne =
-      ext-getD 0 (block g (put (h * 129) 129 y saved)) (block g saved)
-      (length-block (put (h * 129) 129 y saved) ∙ ap (λ (n : ℕ). min 129 (n - g * 129)) (put-whole ∙ sym whole) ∙ sym (length-block saved))
+      ext-getD 0 (block g (replaced (h * 129) 129 saved y)) (block g saved)
+      (length-block (replaced (h * 129) 129 saved y) ∙ ap (λ (n : ℕ). min 129 (n - g * 129)) (replaced-whole ∙ sym whole) ∙ sym (length-block saved))
       (λ i b.
-      let small : i < 129 = omega (arith, length-block (put (h * 129) 129 y saved)) in
-      getD-part (g * 129) 129 (put (h * 129) 129 y saved) i 0 small ∙ other-entry g ne i small ∙ sym (getD-part (g * 129) 129 saved i 0 small))
+      let small : i < 129 = omega (arith, length-block (replaced (h * 129) 129 saved y)) in
+      getD-part (g * 129) 129 (replaced (h * 129) 129 saved y) i 0 small ∙ other-entry g ne i small ∙ sym (getD-part (g * 129) 129 saved i 0 small))
     where
       length-block : (l : List ℕ) → length (block g l) ≡ min 129 (length l - g * 129)
       length-block l = length-take 129 (drop (g * 129) l) ∙ ap (λ (n : ℕ). min 129 n) (length-drop (g * 129) l)

@@ -14,12 +14,12 @@ use Rattle.field.specs.Coefficients.{reduced, shifted}
 use Rattle.field.specs.Residue.{minus, times, inverse, quotient}
 use Rattle.field.proofs.Coefficients.{length-reduced, getD-reduced, getD-reduced-past}
 use Rattle.lists.proofs.Entries.{getD-take-past}
-use Rattle.lists.proofs.Put.{put}
+use Rattle.lists.proofs.Parts.{replaced as in-place}
 use Rattle.register.proofs.Cases.{changed-cases, grown, stayed}
 use Rattle.register.specs.Algorithm4.{Saved, State, changed, replaced}
 use Rattle.finder.specs.Progress.{block, stateOf, Ended, Changeable, Reducible, Stepped}
 use Rattle.finder.specs.declared.Progress.{Progress}
-use Rattle.finder.proofs.Blocks.{block-put, block-other, put-whole}
+use Rattle.finder.proofs.Blocks.{block-replaced, block-other, replaced-whole}
 use Rattle.finder.proofs.Reduction.{minus-zero, shifted-past}
 
 -- ---- the taps
@@ -172,7 +172,7 @@ module _ {p n h d : ℕ} {g : Progress} {taps saved : List ℕ}
               };
         }
 
-    module _ (lengths : Lengths g) {i : ℕ} (is-inverse : i ≡ inverse p d) {kept : List ℕ} (put-in : kept ≡ put (h * 129) 129 taps saved) where
+    module _ (lengths : Lengths g) {i : ℕ} (is-inverse : i ≡ inverse p d) {kept : List ℕ} (put-in : kept ≡ in-place (h * 129) 129 saved taps) where
       new : Saved
       new = record { place = n; size = g .length; disc = d; taps = take (suc (g .length)) taps }
 
@@ -184,7 +184,7 @@ module _ {p n h d : ℕ} {g : Progress} {taps saved : List ℕ}
           (getD-set-same (g .sizes) h (g .length) 0 (omega (arith, bounds)))
           (getD-set-same (g .discs) h d 0 (omega (arith, bounds)))
           (ap₂ (λ (m : ℕ) (l : List ℕ). take (suc m) l) (getD-set-same (g .sizes) h (g .length) 0 (omega (arith, bounds)))
-          (ap (block h) put-in ∙ block-put h taps saved (z .width) (z .saved-width) (c .sequence)))
+          (ap (block h) put-in ∙ block-replaced h taps saved (z .width) (z .saved-width) (c .sequence)))
 
       saved-elsewhere : (k : ℕ) → k ≢ h → savedOf (saving n h d i g) kept k ≡ savedOf g saved k
       saved-elsewhere k ne =
@@ -225,7 +225,7 @@ module _ {p n h d : ℕ} {g : Progress} {taps saved : List ℕ}
             ended =
                 record {
                   width = width;
-                  saved-width = ap length put-in ∙ put-whole h taps saved (z .width) (z .saved-width) (c .sequence);
+                  saved-width = ap length put-in ∙ replaced-whole h taps saved (z .width) (z .saved-width) (c .sequence);
                   zeros = zeros-past (n + size - place) (omega (arith, bounds)) (omega (arith, bounds));
                   inverses = inverses-kept;
                 };

@@ -4,9 +4,7 @@ pub mod Blocks
 pub mod Change
 pub mod Checks
 pub mod Demands
-pub mod Discrepancies
 pub mod Insertion
-pub mod Largest
 pub mod Marking
 pub mod Reasons
 pub mod Reduction

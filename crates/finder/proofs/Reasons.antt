@@ -11,7 +11,7 @@ use lib.Dec.{eqb}
 use lib.ListN.{length, getD}
 use Rattle.field.proofs.Modulus.{modulus-prime, modulus-taken}
 use Rattle.field.specs.Prime.{Prime, isModulus}
-use Rattle.field.specs.Total.{total}
+use Rattle.lists.specs.Total.{total}
 use Rattle.lists.proofs.Tabulated.{every-at, every-witness}
 use Rattle.refusal.proofs.Orders.{SayAll, says-not}
 use Rattle.refusal.proofs.Ranges.{outside-says}

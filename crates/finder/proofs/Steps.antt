@@ -1,5 +1,5 @@
 -- A step on the arrays is a step of Algorithm 4: it rests where nothing is due, as nothing is asked for or the discrepancy is 0, and else it is the
--- change by what is due. Assumes nothing.
+-- change by what is due.
 use mathlib.Core.Path.{_≡_, refl, sym, ap, _∙_}
 use mathlib.Core.Logic.{_≢_, _⊎_, inl, inr, ⊎-elim}
 use mathlib.Core.List.{List}
@@ -9,7 +9,7 @@ use native.Mathlib.Omega.{arith}
 use borrow.Author.Tests.{lt-ltb, le-ltb}
 use lib.ListN.{length, getD, take}
 use lib.Seq.{getD-take}
-use Rattle.field.proofs.Totals.{total-ext}
+use Rattle.lists.proofs.Totals.{total-ext}
 use Rattle.register.proofs.Bounds.{discrepancy-less}
 use Rattle.register.proofs.Cases.{step-cases}
 use Rattle.register.specs.Algorithm4.{State, step, changed}
@@ -25,6 +25,10 @@ discrepancy-own p l σ s j =
     ap (λ (x : ℕ). x % p)
     (total-ext (suc l) (λ i. getD σ i 0 * symbol s (j - i)) (λ i. getD (take (suc l) σ) i 0 * symbol s (j - i))
     (λ i h. ap (λ (x : ℕ). x * symbol s (j - i)) (sym (getD-take (suc l) σ i 0 h))))
+
+-- the symbol i places before S_j, as the code counts it
+pub back : (s : List ℕ) (j i : ℕ) → getD s (j - 1 - i) 0 ≡ symbol s (j - i)
+back s j i = ap (λ (k : ℕ). getD s k 0) (let e : j - 1 - i ≡ j - i - 1 = omega arith in e)
 
 module _ (p N l : ℕ) (σ s : List ℕ) {n : ℕ} where
   pub not-due : n ≤ l + (N - length s) → 0 ≡ dueAt p N l σ s n

@@ -8,8 +8,8 @@ use native.Mathlib.Omega.{arith}
 use lib.Dec.{leb}
 use lib.ListN.{length, getD, take, drop}
 use lib.Seq.{length-take-le}
-use Rattle.field.proofs.Totals.{total-bound}
-use Rattle.field.specs.Total.{total}
+use Rattle.lists.proofs.Totals.{total-bound}
+use Rattle.lists.specs.Total.{total}
 use Rattle.lists.proofs.Tabulated.{every-ext}
 use Rattle.refusal.proofs.Outcomes.{given-passed}
 use Rattle.refusal.specs.Outcome.{passed, outcome}
@@ -26,7 +26,7 @@ use Rattle.finder.specs.declared.Order.{Order}
 use Rattle.finder.specs.declared.Progress.{Progress}
 use Rattle.finder.proofs.Accepted.{Accepted, lengths-split}
 use Rattle.finder.proofs.Insertion.{length-within}
-use Rattle.finder.proofs.Largest.{largest-bound}
+use Rattle.register.proofs.Largest.{largest-bound}
 use Rattle.finder.proofs.Running.{length-sequences, sequence-at}
 
 -- the mark read off the struct is that of the state that it holds

@@ -6,7 +6,7 @@ use mathlib.Core.List.{List, [], _∷_}
 use Prim.Native.Nat.{ℕ, suc, _-_, _≤_, _<_}
 use lib.ListN.{length, getD, take, drop}
 use Rattle.field.specs.Prime.{Prime}
-use Rattle.field.specs.Total.{total}
+use Rattle.lists.specs.Total.{total}
 use Rattle.refusal.specs.Order.{Reason, First}
 use Rattle.register.specs.EachRound.{IsShortest}
 use Rattle.finder.specs.Finder.{answer, tapsLeft, register, refused}

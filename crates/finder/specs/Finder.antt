@@ -6,7 +6,7 @@ use Prim.Native.Nat.{ℕ, suc}
 use lib.Dec.{leb, ltb, eqb}
 use lib.ListN.{length, getD, drop}
 use Rattle.field.specs.Prime.{isModulus}
-use Rattle.field.specs.Total.{total}
+use Rattle.lists.specs.Total.{total}
 use Rattle.lists.specs.Tabulate.{every}
 use Rattle.refusal.specs.Number.{number}
 use Rattle.refusal.specs.Order.{Test, firstOf}

@@ -4,7 +4,7 @@ use refusal::Refusal;
 ghost use mathlib.Core.Path.{_≡_};
 ghost use Prim.Native.Nat.{_≤_};
 ghost use lib.ListN.{length, getD};
-ghost use Rattle.field.specs.Total.{total};
+ghost use Rattle.lists.specs.Total.{total};
 ghost use Rattle.refusal.specs.Outcome.{outcomeOf, outcome};
 ghost use Rattle.register.specs.Sequences.{largest};
 ghost use Rattle.finder.specs.Finder.{isCounted, isShort, isMeasured, isBelow, tests};

@@ -21,7 +21,7 @@ use Rattle.columns.specs.Columns.{has}
 use Rattle.columns.specs.declared.Columns.{Columns}
 use Rattle.columns.proofs.Listing.{by-test, length-listed}
 use Rattle.field.proofs.Bridge.{res-mod, res-mul, res-total}
-use Rattle.field.proofs.Totals.{total-ext}
+use Rattle.lists.proofs.Totals.{total-ext}
 use Rattle.field.proofs.Prime257.{prime-257}
 use Rattle.frame.proofs.Field257.{F257, R257, res257, res-tells}
 use Rattle.frame.proofs.Locators.{locatorAt, locators-distinct, locator-nonzero, firstExponent, res-weight}

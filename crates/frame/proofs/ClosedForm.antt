@@ -20,7 +20,7 @@ use Rattle.columns.specs.Columns.{has, members}
 use Rattle.columns.specs.declared.Columns.{Columns}
 use Rattle.field.specs.Coefficients.{value}
 use Rattle.field.specs.Residue.{minus, times, inverse, quotient}
-use Rattle.field.specs.Total.{total}
+use Rattle.lists.specs.Total.{total}
 use Rattle.field.proofs.Bridge.{res-zero, res-mod, res-mul, res-total, res-minus, res-times, res-inverse, res-quotient}
 use Rattle.field.proofs.Prime257.{prime-257}
 use Rattle.frame.proofs.CheckSums.{weightAt, rowSum, rowSum-members}

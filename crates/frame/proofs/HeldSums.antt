@@ -7,7 +7,7 @@ use Prim.Native.Nat.{ℕ, zero, suc, _+_, _-_, _<_}
 use native.Mathlib.Nat.{mod-lt}
 use native.Mathlib.Omega.{arith}
 use lib.ListN.{length, getD, take, drop, replicate, length-append, length-replicate}
-use Rattle.field.proofs.Totals.{total-zero, total-suc}
+use Rattle.lists.proofs.Totals.{total-zero, total-suc}
 use Rattle.lists.specs.Tabulate.{tabulate, joined}
 use Rattle.lists.proofs.Joined.{joined-zero, joined-more, joined-part, length-joined, tabulate-each, replicate-each, append-each, joined-each}
 use Rattle.lists.proofs.Tabulated.{length-tabulate, tabulate-ext}

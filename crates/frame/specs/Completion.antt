@@ -9,7 +9,7 @@ use Rattle.columns.specs.Columns.{has, members}
 use Rattle.columns.specs.declared.Columns.{Columns}
 use Rattle.field.specs.Coefficients.{reduced, value}
 use Rattle.field.specs.Residue.{minus, times, inverse, quotient}
-use Rattle.field.specs.Total.{total}
+use Rattle.lists.specs.Total.{total}
 use Rattle.lists.specs.Tabulate.{tabulate}
 use Rattle.frame.specs.Frame.{checkSum}
 use Rattle.frame.specs.Powers.{locatorOf, weight}

@@ -9,7 +9,7 @@ use lib.ListN.{length, getD, take, drop, replicate}
 use Rattle.columns.specs.Columns.{columnsOf}
 use Rattle.columns.specs.Listed.{count}
 use Rattle.columns.specs.declared.Columns.{Columns}
-use Rattle.field.specs.Total.{total}
+use Rattle.lists.specs.Total.{total}
 use Rattle.lists.specs.Tabulate.{tabulate, every, joined}
 use Rattle.refusal.specs.Order.{Test}
 use Rattle.frame.specs.Powers.{weight}

@@ -2,8 +2,10 @@ pub mod AfterRefusal
 pub mod Between
 pub mod Cases
 pub mod Demands
+pub mod Emptiness
 pub mod Forms
 pub mod Locating
+pub mod Marked
 pub mod NoPart
 pub mod Reasons
 pub mod Refusals

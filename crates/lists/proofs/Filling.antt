@@ -1,4 +1,4 @@
--- Lists by index, changed one entry after the other: setting an entry, and filling a list from its front. Assumes nothing.
+-- Lists by index, changed one entry after the other: setting an entry, and filling a list from its front.
 use mathlib.Core.Path.{_≡_, refl, sym, ap, _∙_}
 use mathlib.Core.Logic.{_≢_}
 use mathlib.Core.Bool.{Bool, cond}
@@ -33,6 +33,14 @@ set-tabulate n g h i v less e others =
         ∙ getD-set-same (tabulate n g) i v 0 (let m = length-tabulate n g in omega arith) ∙ e ∙ ap h (sym q)
     at k l (no q) = getD-set-other (tabulate n g) i k v 0 q ∙ getD-tabulate n g k 0 l ∙ others k l q
 
+-- the next bound takes in no other number than i
+pub ltb-next : (k i : ℕ) → k ≢ i → ltb k i ≡ ltb k (i + 1)
+ltb-next k i other = next (decLt k i)
+  where
+    next : Dec (k < i) → ltb k i ≡ ltb k (i + 1)
+    next (yes l) = lt-ltb k i l ∙ sym (lt-ltb k (i + 1) (omega arith))
+    next (no l) = le-ltb k i (omega arith) ∙ sym (le-ltb k (i + 1) (omega arith))
+
 -- the list l with its first j entries taken from f instead
 abbrev filling : (f : ℕ → ℕ) (l : List ℕ) (j : ℕ) → List ℕ
 filling f l j = tabulate (length l) (λ k. cond (ltb k j) (f k) (getD l k 0))
@@ -63,12 +71,8 @@ module _ (f : ℕ → ℕ) (from : List ℕ) where
     entries =
         ap (λ (m : List ℕ). set m j v) (a .entries)
         ∙ set-tabulate (length from) (λ k. chosen k (ltb k j)) (λ k. chosen k (ltb k (j + 1))) j v (let s = a .size in omega arith)
-        (e ∙ ap (chosen j) (sym (lt-ltb j (j + 1) (omega arith)))) (λ k h q. ap (chosen k) (same k q (decLt k j)));
+        (e ∙ ap (chosen j) (sym (lt-ltb j (j + 1) (omega arith)))) (λ k h q. ap (chosen k) (ltb-next k j q));
   }
-    where
-      same : (k : ℕ) → k ≢ j → Dec (k < j) → ltb k j ≡ ltb k (j + 1)
-      same k q (yes h) = lt-ltb k j h ∙ sym (lt-ltb k (j + 1) (omega arith))
-      same k q (no h) = le-ltb k j (omega arith) ∙ sym (le-ltb k (j + 1) (omega arith))
 
   -- what filling has not come to is as it was
   pub filled-rest : (j : ℕ) (l : List ℕ) → Filled f from j l → (k : ℕ) → j ≤ k → k < length from → getD l k 0 ≡ getD from k 0

@@ -3,6 +3,6 @@ pub mod Entries
 pub mod Filling
 pub mod Joined
 pub mod Parts
-pub mod Put
 pub mod Tabulated
+pub mod Totals
 pub mod Zeros

@@ -157,6 +157,10 @@ refused-tells k m e = cc
 passed-differs : (k : ℕ) → passed ≢ refused k
 passed-differs k e = let z : _≡_ {A = ℕ} 0 1 = cc in omega arith
 
+-- where nothing is refused, each test passes
+pub passed-pass : (ts : List Test) → outcome ts ≡ passed → Pass ts
+passed-pass ts = by-tests refused passed (λ o. o ≡ passed → Pass ts) ts (λ k a e. absurd (passed-differs k (sym e))) (λ p e. p)
+
 module _ (ts : List Test) (rs : List Reason) (say : SayAll ts rs) where
   -- a number is answered exactly where its reason is the first that holds
   pub outcome-refused : (k : ℕ) → (outcome ts ≡ refused k) ↔ First k rs
@@ -168,6 +172,6 @@ module _ (ts : List Test) (rs : List Reason) (say : SayAll ts rs) where
   -- and none where no reason holds
   pub outcome-passed : (outcome ts ≡ passed) ↔ None rs
   outcome-passed = (
-    by-tests refused passed (λ o. o ≡ passed → None rs) ts (λ k a e. absurd (passed-differs k (sym e))) (λ p e. pass-none ts rs say p),
+    λ e. pass-none ts rs say (passed-pass ts e),
     λ n. pass-otherwise refused passed ts (none-pass ts rs say n),
   )

@@ -7,8 +7,8 @@ use Prim.Native.Nat.{ℕ, zero, suc, _+_, _-_, _≤_, _<_}
 use native.Mathlib.Omega.{arith}
 use lib.Dec.{eqb}
 use lib.ListN.{length, getD}
-use Rattle.algebra.proofs.Register.Generates.{Sequences}
-use Rattle.algebra.proofs.Register.Step
+use Rattle.register.proofs.Theory.Generates.{Sequences}
+use Rattle.register.proofs.Theory.Step
 use Rattle.field.specs.Prime.{Prime}
 use Rattle.field.specs.Residue.{quotient}
 use Rattle.field.proofs.Bridge.{res, res-zero, res-one, res-quotient}

@@ -11,14 +11,14 @@ use lib.Seq.{length-take-le, getD-take}
 use Rattle.algebra.specs.Ring.{CRing}
 use Rattle.algebra.specs.Polynomial.{conv}
 use Rattle.algebra.proofs.Convolution.{conv-degree}
-use Rattle.algebra.proofs.Register.Generates.{Sequences}
+use Rattle.register.proofs.Theory.Generates.{Sequences}
 use Rattle.algebra.proofs.Sums.{sum-ext}
 use Rattle.field.specs.Prime.{Prime}
-use Rattle.field.specs.Total.{total}
+use Rattle.lists.specs.Total.{total}
 use Rattle.field.proofs.Bridge.{res, res-zero, res-mod, res-mul, res-is-zero, res-total}
 use Rattle.field.proofs.Instance.{residues}
 use Rattle.field.proofs.Polynomials.{poly, poly-degree}
-use Rattle.field.proofs.Totals.{total-ext}
+use Rattle.lists.proofs.Totals.{total-ext}
 use Rattle.register.specs.Register.{discrepancy, Generates}
 use Rattle.register.specs.Sequences.{symbol}
 use Rattle.register.proofs.Bounds.{discrepancy-less}

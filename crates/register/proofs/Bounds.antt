@@ -8,7 +8,7 @@ use native.Mathlib.Nat.{mod-lt}
 use native.Mathlib.Omega.{arith}
 use lib.Dec.{eqb}
 use lib.ListN.{length, getD}
-use Rattle.field.specs.Total.{total}
+use Rattle.lists.specs.Total.{total}
 use Rattle.field.proofs.Coefficients.{length-reduced, reduced-residues}
 use Rattle.register.specs.Algorithm4.{Saved, State, start, replaced, step, turn, rounds}
 use Rattle.register.specs.Register.{discrepancy}

@@ -8,10 +8,10 @@ use Prim.Native.Nat.{ℕ, suc, _+_, _-_, _*_, _≤_, max}
 use native.Mathlib.Omega.{arith}
 use lib.ListN.{length, getD}
 use borrow.Author.Tests.{leb-true, leb-false}
-use Rattle.algebra.proofs.Register.Generates.{Sequences}
-use Rattle.algebra.proofs.Register.Invariant.{Invariant}
-use Rattle.algebra.proofs.Register.Preserved.{rounds-keep}
-use Rattle.algebra.proofs.Register.Shortest.{Generates as GeneratesUpTo, generates, least, Alone as MarkedAlone, alone-unique, Other, not-alone}
+use Rattle.register.proofs.Theory.Generates.{Sequences}
+use Rattle.register.proofs.Theory.Invariant.{Invariant}
+use Rattle.register.proofs.Theory.Preserved.{rounds-keep}
+use Rattle.register.proofs.Theory.Shortest.{Generates as GeneratesUpTo, generates, least, Alone as MarkedAlone, alone-unique, Other, not-alone}
 use Rattle.field.specs.Prime.{Prime}
 use Rattle.field.proofs.Coefficients.{residues-past}
 use Rattle.field.proofs.Instance.{residues}

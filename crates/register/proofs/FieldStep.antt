@@ -5,8 +5,8 @@ use mathlib.Core.Logic.{_≢_, if-pos, if-neg}
 use Prim.Native.Nat.{ℕ, _+_, _-_, _≤_, _<_}
 use borrow.Author.Tests.{lt-ltb, le-ltb}
 use Rattle.algebra.specs.Ring.{CRing, Field}
-use Rattle.algebra.proofs.Register.Generates.{Sequences, disc}
-use Rattle.algebra.proofs.Register.Step
+use Rattle.register.proofs.Theory.Generates.{Sequences, disc}
+use Rattle.register.proofs.Theory.Step
 
 module _ (F : Field) (n h : ℕ) (st : Step.State (F .ring .car)) where
   open CRing (F .ring) using (car, zero as 𝟘, mul as _⊗_)

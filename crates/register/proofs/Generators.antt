@@ -9,8 +9,8 @@ use native.Mathlib.Decide.{decLt}
 use native.Mathlib.Omega.{arith}
 use lib.ListN.{length, getD, take, length-map, List·getD-map, List·getD-eq-default}
 use lib.Seq.{take-nil}
-use Rattle.algebra.proofs.Register.Generates.{Sequences}
-use Rattle.algebra.proofs.Register.Shortest.{Generates as GeneratesUpTo}
+use Rattle.register.proofs.Theory.Generates.{Sequences}
+use Rattle.register.proofs.Theory.Shortest.{Generates as GeneratesUpTo}
 use Rattle.field.specs.Prime.{Prime}
 use Rattle.field.proofs.Bridge.{res, res-one, res-same}
 use Rattle.field.proofs.Instance.{residues}

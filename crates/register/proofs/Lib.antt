@@ -7,6 +7,8 @@ pub mod EachRound
 pub mod FieldStep
 pub mod Generators
 pub mod InOrder
+pub mod Largest
 pub mod Ordering
 pub mod Splitting
 pub mod Stable
+pub mod Theory

@@ -1,33 +1,16 @@
 -- Symbols lent one sequence after the other: each sequence stands at the sum of the lengths before it.
 -- Assumes nothing.
-use mathlib.Core.Path.{_≡_, refl, sym, ap, ap₂, _∙_}
-use mathlib.Core.List.{List, [], _∷_}
-use Prim.Native.Nat.{ℕ, zero, suc, _+_, _≤_, _<_}
-use native.Mathlib.Decide.{ℕ-discrete}
-use native.Mathlib.Omega.{arith}
+use mathlib.Core.Path.{_≡_, sym, ap, ap₂, _∙_}
+use mathlib.Core.List.{List, _∷_}
+use Prim.Native.Nat.{ℕ, zero, suc}
 use lib.ListN.{take, drop}
-use lib.Seq.{take-take, drop-drop}
-use Rattle.field.specs.Total.{total}
-use Rattle.field.proofs.Totals.{total-zero, total-suc, total-head}
+use lib.Seq.{drop-drop}
+use Rattle.lists.specs.Total.{total}
+use Rattle.lists.proofs.Totals.{total-zero, total-head, total-within}
 use Rattle.lists.specs.Tabulate.{tabulate}
+use Rattle.lists.proofs.Entries.{part-of-first}
 use Rattle.lists.proofs.Tabulated.{tabulate-zero, tabulate-suc, tabulate-ext}
 use Rattle.register.specs.Sequences.{split}
-
--- one length more is at most all lengths
-total-within : (f : ℕ → ℕ) (h n : ℕ) → h < n → total h f + f h ≤ total n f
-total-within f h zero l = absurd (let z : ⊥ = omega arith in z)
-total-within f h (suc n) l = pick (ℕ-discrete h n) (total-within f h n)
-  where
-    pick : Dec (h ≡ n) → (h < n → total h f + f h ≤ total n f) → total h f + f h ≤ total (suc n) f
-    pick (yes e) before = rw (e, total-suc n f) (omega arith)
-    pick (no e) before = let b = before (omega arith) in omega (arith, total-suc n f)
-
--- a part of the first m entries
-part-of-first : (k a m : ℕ) (xs : List ℕ) → a + k ≤ m → take k (drop a (take m xs)) ≡ take k (drop a xs)
-part-of-first k zero m xs h = take-take k m xs (omega arith)
-part-of-first k (suc a) zero xs h = absurd (let z : ⊥ = omega arith in z)
-part-of-first k (suc a) (suc m) [] h = refl
-part-of-first k (suc a) (suc m) (x ∷ xs) h = part-of-first k a m xs (omega arith)
 
 split-parts : (n : ℕ) (size : ℕ → ℕ) (xs : List ℕ) → split (tabulate n size) xs ≡ tabulate n (λ h. take (size h) (drop (total h size) xs))
 unfolding split

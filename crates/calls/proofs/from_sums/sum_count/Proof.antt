@@ -3,8 +3,8 @@ use mathlib.Core.Path.{_≡_, refl, sym, ap, ap₂, _∙_}
 use Prim.Native.Nat.{ℕ, _+_, _-_, _*_, _≤_}
 use native.Mathlib.Numerals.{add-one}
 use native.Mathlib.Omega.{arith}
-use Rattle.field.specs.Total.{total}
-use Rattle.field.proofs.Totals.{total-zero, total-suc}
+use Rattle.lists.specs.Total.{total}
+use Rattle.lists.proofs.Totals.{total-zero, total-suc}
 use Rattle.frame.specs.Shape.{checksOf}
 use Rattle.frame.proofs.Shapes.{shape-ranges}
 use Rattle.calls.proofs.from_sums.sum_count.Statement.{statement}

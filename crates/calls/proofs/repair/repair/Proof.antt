@@ -14,7 +14,7 @@ use Rattle.job.specs.Job.{countsEmpty, isLocatedPhase}
 use Rattle.job.proofs.Forms.{has-shape}
 use Rattle.refusal.specs.Outcome.{outcome, outcomeOf, passed}
 use Rattle.calls.proofs.Steps.{refusal-outcome, mended-outcome, passed-size, passed-symbols, repair-empty, repair-unlocated, repair-refused, repair-differs, repair-mends}
-use Rattle.calls.proofs.Marked.{located-marked}
+use Rattle.job.proofs.Marked.{located-marked}
 use borrow.Author.Needs.{needs}
 use Rattle.calls.proofs.repair.repair.Statement.{statement}
 use Rattle.calls.proofs.repair.repair.Tie as tie

@@ -4,7 +4,7 @@ use Prim.Native.Nat.{_-_, _≤_}
 use native.Mathlib.Omega.{arith}
 use mathlib.Core.Logic.{⊎-elim}
 use borrow.Author.Needs.{needs}
-use Rattle.calls.proofs.Searching.{searched, search-none, search-root, search-other, search-all, names-none}
+use Rattle.decoding.proofs.Searching.{searched, search-none, search-root, search-other, search-all, names-none}
 use Rattle.calls.proofs.search.named_columns.Statement.{statement}
 use Rattle.calls.proofs.search.named_columns.Tie as tie
 

@@ -3,7 +3,7 @@ use mathlib.Core.Path.{_≡_, sym, ap, _∙_}
 use mathlib.Core.Bool.{true}
 use borrow.Author.Tests.{not-true, not-false}
 use Rattle.job.specs.Job.{isEmptyPhase, headSound}
-use Rattle.calls.proofs.Emptiness.{unsound-empty, sound-empty}
+use Rattle.job.proofs.Emptiness.{unsound-empty, sound-empty}
 use borrow.Author.Needs.{needs}
 use Rattle.calls.proofs.sound.counts_as_empty.Statement.{statement}
 use Rattle.calls.proofs.sound.counts_as_empty.Tie as tie

@@ -1,7 +1,7 @@
 -- `calls::sound::is_findings` meets its contract. Assumes nothing.
 use mathlib.Core.Path.{sym, _∙_}
 use borrow.Author.Tests.{not-true, not-false}
-use Rattle.calls.proofs.Emptiness.{not-alone, outside, miscounted, reach-left}
+use Rattle.job.proofs.Emptiness.{not-alone, outside, miscounted, reach-left}
 use borrow.Author.Needs.{needs}
 use Rattle.calls.proofs.sound.is_findings.Statement.{statement}
 use Rattle.calls.proofs.sound.is_findings.Tie as tie

@@ -3,7 +3,7 @@ use mathlib.Core.Path.{_≡_, sym, _∙_}
 use mathlib.Core.Bool.{true}
 use borrow.Author.Tests.{not-true, not-false}
 use Rattle.frame.specs.Shape.{isShape}
-use Rattle.calls.proofs.Emptiness.{empty-sound, shaped-sound, located-shapeless, located-sound}
+use Rattle.job.proofs.Emptiness.{empty-sound, shaped-sound, located-shapeless, located-sound}
 use borrow.Author.Needs.{needs}
 use Rattle.calls.proofs.sound.is_sound.Statement.{statement}
 use Rattle.calls.proofs.sound.is_sound.Tie as tie

@@ -3,7 +3,7 @@ use mathlib.Core.Path.{ap, _∙_}
 use Prim.Native.Nat.{ℕ}
 use lib.Dec.{eqb}
 use borrow.Author.Needs.{needs}
-use Rattle.calls.proofs.Outside.{next-none}
+use Rattle.columns.proofs.Outside.{next-none}
 use Rattle.calls.proofs.sound.marks_below.Statement.{statement}
 use Rattle.calls.proofs.sound.marks_below.Tie as tie
 

@@ -6,7 +6,7 @@ use native.Mathlib.Omega.{arith}
 use borrow.Author.Needs.{needs}
 use lib.ListN.{length, drop}
 use Rattle.register.specs.Sequences.{largest}
-use Rattle.finder.proofs.Largest.{largest-next, largest-all}
+use Rattle.register.proofs.Largest.{largest-next, largest-all}
 use Rattle.finder.proofs.check.longest.Statement.{statement}
 use Rattle.finder.proofs.check.longest.Tie as tie
 

@@ -4,9 +4,8 @@ use Prim.Native.Nat.{_-_, _*_, _≤_}
 use native.Mathlib.Omega.{arith}
 use borrow.Author.Needs.{needs}
 use lib.ListN.{length, getD}
-use Rattle.field.proofs.Totals.{total-zero}
-use Rattle.field.specs.Total.{total}
-use Rattle.finder.proofs.Discrepancies.{total-more, total-all}
+use Rattle.lists.proofs.Totals.{total-zero, total-more, total-all}
+use Rattle.lists.specs.Total.{total}
 use Rattle.finder.proofs.check.sum.Statement.{statement}
 use Rattle.finder.proofs.check.sum.Tie as tie
 

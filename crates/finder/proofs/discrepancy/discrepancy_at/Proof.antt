@@ -4,11 +4,12 @@ use Prim.Native.Nat.{ℕ, suc, _%_, _-_, _*_, _≤_}
 use native.Mathlib.Omega.{arith}
 use borrow.Author.Needs.{needs}
 use lib.ListN.{getD}
-use Rattle.field.proofs.Totals.{total-zero}
-use Rattle.field.specs.Total.{total}
+use Rattle.field.proofs.ProductSums.{product-below, product-fits, more-below, sum-below, sum-fits}
+use Rattle.lists.proofs.Totals.{total-zero, total-more, total-all}
+use Rattle.lists.specs.Total.{total}
 use Rattle.register.specs.Register.{discrepancy}
 use Rattle.register.specs.Sequences.{symbol}
-use Rattle.finder.proofs.Discrepancies.{total-more, total-all, product-below, product-fits, more-below, sum-below, sum-fits, back}
+use Rattle.finder.proofs.Steps.{back}
 use Rattle.finder.proofs.discrepancy.discrepancy_at.Statement.{statement}
 use Rattle.finder.proofs.discrepancy.discrepancy_at.Tie as tie
 

@@ -1,19 +1,18 @@
 -- A polynomial f generates sequences with length l up to a place: its products with the sequences vanish at all symbols before
 -- that place which length l asks for. It fails at a symbol where it generates up to that symbol and its product there is not 0.
 -- Both are kept by multiples, by a shift (length and place grow with it), and failing by adding what generates further.
--- Assumes nothing.
 use mathlib.Core.Path.{_≡_, sym, ap, ap₂, subst₂, _∙_}
 use mathlib.Core.Logic.{_≢_}
 use Prim.Native.Nat.{ℕ, suc, _+_, _-_, _*_, _≤_, _<_}
 use native.Mathlib.Nat.{add-mul}
 use native.Mathlib.Decide.{decLt}
 use native.Mathlib.Omega.{arith}
 use Rattle.algebra.specs.Ring.{CRing, Field}
 use Rattle.algebra.specs.Polynomial.{Degree, conv, shift}
 use Rattle.algebra.proofs.RingLaws.{neg-zero, mul-zero}
 use Rattle.algebra.proofs.FieldLaws.{mul-nonzero}
 use Rattle.algebra.proofs.Convolution.{conv-add, conv-mul, conv-sub, conv-shift}
-use Rattle.algebra.proofs.Register.Places.{same-position, same-sequence}
+use Rattle.register.proofs.Theory.Places.{same-position, same-sequence}
 
 -- Sequences that end at the same position: sequence h < count starts after position lag h.
 pub record Sequences (A : Type 0) : Type 0 where

@@ -1,18 +1,17 @@
 -- What Algorithm 4 has found after each round n: a register that generates the symbols up to position n; no shorter one does; and
 -- it is alone exactly when n_h − l_h is at most n − l or the sequence's lag, for every sequence h.
 -- Stated of every state that meets the invariant; `rounds-keep` (Preserved) says that the state after n rounds does.
--- Assumes nothing.
 use mathlib.Core.Path.{_≡_, refl, sym, ap, ap₂, subst₂, fun-ext, _∙_}
 use mathlib.Core.Logic.{_≢_, _⊎_, inl, inr, ⊎-elim}
 use Prim.Native.Nat.{ℕ, zero, suc, _+_, _-_, _*_, _≤_, _<_, max}
 use native.Mathlib.Nat.{add-mul, mul-le-mul-right, sub-self}
 use native.Mathlib.Omega.{arith}
 use Rattle.algebra.specs.Ring.{CRing, Field}
 use Rattle.algebra.specs.Polynomial.{Degree, shift}
 use Rattle.algebra.proofs.RingLaws.{eq-of-sub-zero, add-cancel}
 use Rattle.algebra.proofs.Convolution.{shift-below, shift-above, shift-tail, shift-degree}
-use Rattle.algebra.proofs.Register.Places.{place-in-round, position-in-round}
-use Rattle.algebra.proofs.Register.Generates.{
+use Rattle.register.proofs.Theory.Places.{place-in-round, position-in-round}
+use Rattle.register.proofs.Theory.Generates.{
   Sequences,
   disc,
   Gen,
@@ -25,9 +24,9 @@ use Rattle.algebra.proofs.Register.Generates.{
   fails-gen,
   fails-shift,
 }
-use Rattle.algebra.proofs.Register.LeadingRow.{Pivots, Leading, leading}
-use Rattle.algebra.proofs.Register.Step.{Saved, State}
-use Rattle.algebra.proofs.Register.Invariant.{FreshOrKept, Invariant, size-le}
+use Rattle.register.proofs.Theory.LeadingRow.{Pivots, Leading, leading}
+use Rattle.register.proofs.Theory.Step.{Saved, State}
+use Rattle.register.proofs.Theory.Invariant.{FreshOrKept, Invariant, size-le}
 
 module _ (F : Field) (Q : Sequences (F .ring .car)) where
   open Field F using (ring, one-ne-zero)

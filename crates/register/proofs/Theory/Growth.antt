@@ -1,6 +1,5 @@
 -- When Algorithm 4's register becomes longer, from l to l', its old self is kept for the sequence at which it failed and is
 -- the pivot of all lengths from l to l' − 1, in rows after that of what was kept before. The invariant goes on to the next place.
--- Assumes nothing.
 use mathlib.Core.Path.{_≡_, refl, sym, subst}
 use mathlib.Core.Bool.{Bool, true, false, cond}
 use mathlib.Core.Logic.{_≢_, inr}
@@ -8,12 +7,12 @@ use Prim.Native.Nat.{ℕ, suc, _+_, _-_, _*_, _≤_, _<_}
 use native.Mathlib.Omega.{arith}
 use lib.Dec.{ltb, eqb}
 use borrow.Author.Tests.{ltb-true, ltb-false, eqb-true, eqb-false}
 use Rattle.algebra.specs.Ring.{CRing, Field}
 use Rattle.algebra.specs.Polynomial.{Degree}
-use Rattle.algebra.proofs.Register.Generates.{Sequences, disc, Register, Fails, fails-longer}
-use Rattle.algebra.proofs.Register.LeadingRow.{Pivots}
-use Rattle.algebra.proofs.Register.Step.{Saved, State, replaced}
-use Rattle.algebra.proofs.Register.Invariant.{Kept, FreshOrKept, Invariant, saved-reach, saved-later}
+use Rattle.register.proofs.Theory.Generates.{Sequences, disc, Register, Fails, fails-longer}
+use Rattle.register.proofs.Theory.LeadingRow.{Pivots}
+use Rattle.register.proofs.Theory.Step.{Saved, State, replaced}
+use Rattle.register.proofs.Theory.Invariant.{Kept, FreshOrKept, Invariant, saved-reach, saved-later}
 
 -- what is kept after a replacement
 replaced-cases : {A : Type 0} (T : Saved A → Type 0) (saved : ℕ → Saved A) (h : ℕ) (v : Saved A) (g : ℕ)

@@ -1,17 +1,16 @@
 -- What holds of Algorithm 4's state before the symbol at place s is read: its register generates up to s; what is kept for each
 -- sequence is as at the start, or is a register that failed there; and there are pivots for all lengths below the register's.
--- Assumes nothing.
 use mathlib.Core.Path.{_≡_, refl}
 use mathlib.Core.Logic.{_⊎_, inl, inr, ⊎-map}
 use Prim.Native.Nat.{ℕ, zero, suc, _+_, _*_, _≤_, _<_, max}
 use native.Mathlib.Omega.{arith}
 use Rattle.algebra.specs.Ring.{CRing, Field}
 use Rattle.algebra.specs.Polynomial.{Degree}
 use Rattle.algebra.proofs.Convolution.{conv-zero}
-use Rattle.algebra.proofs.Register.Places.{position-lt, position-in-round}
-use Rattle.algebra.proofs.Register.Generates.{Sequences, disc, Gen, Register, Fails}
-use Rattle.algebra.proofs.Register.LeadingRow.{Pivots}
-use Rattle.algebra.proofs.Register.Step.{Saved, State}
+use Rattle.register.proofs.Theory.Places.{position-lt, position-in-round}
+use Rattle.register.proofs.Theory.Generates.{Sequences, disc, Gen, Register, Fails}
+use Rattle.register.proofs.Theory.LeadingRow.{Pivots}
+use Rattle.register.proofs.Theory.Step.{Saved, State}
 
 module _ (F : Field) (Q : Sequences (F .ring .car)) where
   open Field F using (ring)

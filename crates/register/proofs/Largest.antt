@@ -1,4 +1,4 @@
--- The largest of a list of lengths, found from the front: what is passed and what is to come. Assumes nothing.
+-- The largest of a list of lengths, found from the front: what is passed and what is to come; a bound.
 use mathlib.Core.Path.{_≡_, ap}
 use mathlib.Core.List.{List, [], _∷_}
 use Prim.Native.Nat.{ℕ, suc, _+_, _≤_, _<_, max}

@@ -1,5 +1,4 @@
 -- What a sound head that is located tells of its marks: no row has fewer checks, and none is outside the shape. So a repair is safe.
--- Assumes nothing.
 use mathlib.Core.Path.{_≡_, sym, _∙_}
 use mathlib.Core.Bool.{Bool, true, false, not, _&&_, _||_, and-eq-true-iff, false≢true}
 use Prim.Native.Nat.{ℕ, _≤_, _<_}
@@ -25,9 +24,6 @@ use Rattle.refusal.proofs.Orders.{no-fail}
 pub record Marked (s : Shape) (J : Columns) : Type 0 where
   pub inside : (i : ℕ) → has J i ≡ true → i < s .columns
   pub reach : (h : ℕ) → h < s .rows → length (members J) ≤ checksOf s h
-
-both : (a b : Bool) → (a && b) ≡ true → (a ≡ true) × (b ≡ true)
-both a b = and-eq-true-iff a b .0
 
 marks-in : (b t : Bool) → (not b || t) ≡ true → b ≡ true → t ≡ true
 marks-in true t e m = e
@@ -37,9 +33,9 @@ module _ (s : Shape) (J : Columns) (four : Sound J) where
   findings-marked : (c : ℕ) (a : Bool) → findingsSound s J c a ≡ true → Marked s J
   unfolding findingsSound rowsReach
   findings-marked c a e =
-      let (alone, rest) = both a _ e in
-      let (within, more) = both (every 256 (λ i. not (has J i) || ltb i (s .columns))) _ rest in
-      let (count, reach) = both (eqb (length (members J)) c) _ more in
+      let (alone, rest) = and-eq-true-iff a _ .0 e in
+      let (within, more) = and-eq-true-iff (every 256 (λ i. not (has J i) || ltb i (s .columns))) _ .0 rest in
+      let (count, reach) = and-eq-true-iff (eqb (length (members J)) c) _ .0 more in
       record { inside = λ i m. inside i within m (decLt i 256); reach = reaches c reach (eqb-true _ c count) }
     where
       reaches : (c : ℕ) → rowsReach s c ≡ true → length (members J) ≡ c → (h : ℕ) → h < s .rows → length (members J) ≤ checksOf s h
@@ -57,4 +53,4 @@ located-marked j full located four = of-phase (j .phase) full located
     of-phase Empty e l = absurd (false≢true l)
     of-phase Shaped e l = absurd (false≢true l)
     of-phase (Located c a) e l =
-        findings-marked (j .shape) (j .columns) four c a (both (isShape (j .shape)) (findingsSound (j .shape) (j .columns) c a) (no-fail _ e) .1)
+        findings-marked (j .shape) (j .columns) four c a (and-eq-true-iff (isShape (j .shape)) (findingsSound (j .shape) (j .columns) c a) .0 (no-fail _ e) .1)

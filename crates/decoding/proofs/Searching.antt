@@ -1,5 +1,4 @@
 -- The search for named columns, one column after the other, and that a register of length 0 names none.
--- Assumes nothing.
 use mathlib.Core.Path.{_≡_, sym, ap, ap₂, _∙_}
 use mathlib.Core.Logic.{_≢_}
 use mathlib.Core.Bool.{Bool, true, false, _&&_, _||_, and-false}
@@ -13,12 +12,13 @@ use lib.ListN.{length, getD}
 use borrow.Author.Tests.{lt-ltb, ne-eqb}
 use Rattle.columns.specs.Columns.{has, columnsOf}
 use Rattle.columns.specs.declared.Columns.{Columns}
-use Rattle.columns.proofs.Marks.{columnsOf-ext, columnsOf-add, ltb-next}
+use Rattle.columns.proofs.Marks.{columnsOf-ext, columnsOf-add}
 use Rattle.decoding.specs.Locating.{named, namedColumns}
 use Rattle.field.specs.Coefficients.{value}
 use Rattle.field.specs.Residue.{inverse}
-use Rattle.field.specs.Total.{total}
-use Rattle.field.proofs.Totals.{total-zero, total-suc}
+use Rattle.lists.specs.Total.{total}
+use Rattle.lists.proofs.Filling.{ltb-next}
+use Rattle.lists.proofs.Totals.{total-zero, total-suc}
 use Rattle.frame.specs.Powers.{locatorOf}
 use Rattle.frame.specs.declared.Shape.{Shape}
 

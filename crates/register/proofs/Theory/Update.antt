@@ -1,17 +1,16 @@
 -- The update of Algorithm 4: σ − (d / d_h)·x^(n − n_h)·σ^h generates through the symbol at (n, h), with each length that is
 -- at least l and n − (n_h − l_h). One statement serves the growing and the staying length.
--- Assumes nothing.
 use mathlib.Core.Path.{_≡_, sym, ap, _∙_}
 use mathlib.Core.Logic.{inl, inr}
 use Prim.Native.Nat.{ℕ, suc, _+_, _-_, _*_, _≤_, _<_}
 use native.Mathlib.Nat.{add-mul}
 use native.Mathlib.Omega.{arith}
 use Rattle.algebra.specs.Ring.{CRing, Field}
 use Rattle.algebra.specs.Polynomial.{Degree, shift}
 use Rattle.algebra.proofs.RingLaws.{neg-zero, mul-zero}
 use Rattle.algebra.proofs.FieldLaws.{divide-mul}
 use Rattle.algebra.proofs.Convolution.{conv-mul, conv-sub, conv-shift, shift-below, shift-degree}
-use Rattle.algebra.proofs.Register.Generates.{
+use Rattle.register.proofs.Theory.Generates.{
   Sequences,
   disc,
   Gen,
@@ -22,8 +21,8 @@ use Rattle.algebra.proofs.Register.Generates.{
   gen-sub,
   gen-shift,
 }
-use Rattle.algebra.proofs.Register.Step.{Saved, reduced}
-use Rattle.algebra.proofs.Register.Invariant.{FreshOrKept, saved-degree, saved-gen, saved-before}
+use Rattle.register.proofs.Theory.Step.{Saved, reduced}
+use Rattle.register.proofs.Theory.Invariant.{FreshOrKept, saved-degree, saved-gen, saved-before}
 
 module _ (F : Field) (Q : Sequences (F .ring .car)) (n h l l' : ℕ) (σ : ℕ → F .ring .car) (v : Saved (F .ring .car))
     (sequence : h < Q .count) (asked : l + Q .lag h < n)

@@ -1,5 +1,4 @@
 -- Algorithm 4 keeps its invariant: it holds at the start, each step takes it to the next place, each round to the next position.
--- Assumes nothing.
 use mathlib.Core.Path.{_≡_, refl, sym, subst}
 use mathlib.Core.Bool.{Bool, true, false, cond}
 use mathlib.Core.Logic.{_≢_, inl, ite}
@@ -8,14 +7,14 @@ use native.Mathlib.Nat.{add-suc, mul-le-mul-right}
 use native.Mathlib.Omega.{arith}
 use lib.Dec.{ltb}
 use borrow.Author.Tests.{ltb-true, ltb-false}
 use Rattle.algebra.specs.Ring.{CRing, Field}
 use Rattle.algebra.specs.Polynomial.{Degree}
-use Rattle.algebra.proofs.Register.Generates.{Sequences, disc, Register, gen-next}
-use Rattle.algebra.proofs.Register.LeadingRow.{Pivots}
-use Rattle.algebra.proofs.Register.Step.{Saved, State, replaced, reduced, unit, changed, start, step, turn, rounds}
-use Rattle.algebra.proofs.Register.Invariant.{Invariant, saved-later}
-use Rattle.algebra.proofs.Register.Update.{updated}
-use Rattle.algebra.proofs.Register.Growth.{growth-keeps}
+use Rattle.register.proofs.Theory.Generates.{Sequences, disc, Register, gen-next}
+use Rattle.register.proofs.Theory.LeadingRow.{Pivots}
+use Rattle.register.proofs.Theory.Step.{Saved, State, replaced, reduced, unit, changed, start, step, turn, rounds}
+use Rattle.register.proofs.Theory.Invariant.{Invariant, saved-later}
+use Rattle.register.proofs.Theory.Update.{updated}
+use Rattle.register.proofs.Theory.Growth.{growth-keeps}
 
 module _ (F : Field) (Q : Sequences (F .ring .car)) where
   open Field F using (ring, decide, inv)

@@ -1,11 +1,11 @@
--- Laws of finite sums of numbers: their clauses as equations, equal terms, a bound, sums and multiples, the first term, two parts, remainders.
--- Assumes nothing.
-use mathlib.Core.Path.{_≡_, refl, sym, ap₂, _∙_}
+-- Laws of finite sums of numbers: their clauses as equations, equal terms, a bound, sums and multiples, the first term, two parts, remainders, a part of all terms.
+use mathlib.Core.Path.{_≡_, refl, sym, ap, ap₂, _∙_}
 use Prim.Native.Nat.{ℕ, zero, suc, _+_, _*_, _%_, _≤_, _<_, zero-le}
-use native.Mathlib.Nat.{add-zero, add-suc, add-assoc, add-mod, suc-mul, le-step, lt-suc-self, add-le-add, mod-mod, zero-add, zero-mul, add-mul, zero-mod}
+use native.Mathlib.Nat.{add-zero, add-suc, add-assoc, add-mod, suc-mul, le-step, lt-suc-self, add-le-add, mod-mod, zero-add, zero-mul, add-mul}
+use native.Mathlib.Numerals.{add-one}
+use native.Mathlib.Decide.{ℕ-discrete}
 use native.Mathlib.Omega.{arith}
-use Rattle.field.specs.Total.{total}
-use Rattle.field.proofs.Remainders.{mod-add-zero}
+use Rattle.lists.specs.Total.{total}
 
 pub total-zero : (f : ℕ → ℕ) → total 0 f ≡ 0
 unfolding total
@@ -14,6 +14,14 @@ total-zero f = refl
 pub total-suc : (n : ℕ) (f : ℕ → ℕ) → total (suc n) f ≡ total n f + f n
 unfolding total
 total-suc n f = refl
+
+-- one more term, as a loop adds it
+pub total-more : (n : ℕ) (f : ℕ → ℕ) {s x : ℕ} → s ≡ total n f → x ≡ f n → s + x ≡ total (n + 1) f
+total-more n f e h = ap₂ _+_ e h ∙ sym (total-suc n f) ∙ ap (λ (m : ℕ). total m f) (sym (add-one n))
+
+-- all of the terms, once the loop has come to the end
+pub total-all : (f : ℕ → ℕ) {n m s : ℕ} → s ≡ total n f → n ≡ m → s ≡ total m f
+total-all f e h = e ∙ rw h
 
 pub total-ext : (n : ℕ) (f g : ℕ → ℕ) → ((k : ℕ) → k < n → f k ≡ g k) → total n f ≡ total n g
 total-ext zero f g e = total-zero f ∙ sym (total-zero g)
@@ -53,7 +61,11 @@ total-mod (suc n) p f =
     rw (total-suc n f, total-suc n (λ k. f k % p), add-mod (total n f) (f n) p, add-mod (total n (λ k. f k % p)) (f n % p) p)
     (ap₂ (λ (x y : ℕ). (x + y) % p) (total-mod n p f) (mod-mod (f n) p))
 
-pub total-divided : (n p : ℕ) (f : ℕ → ℕ) → ((k : ℕ) → k < n → f k % p ≡ 0) → total n f % p ≡ 0
-total-divided zero p f d = rw (total-zero f, zero-mod)
-total-divided (suc n) p f d =
-    rw (total-suc n f) (mod-add-zero (total n f) (f n) p (d n (lt-suc-self n)) ∙ total-divided n p f (λ k h. d k (le-step h)))
+-- one term more is at most all terms
+pub total-within : (f : ℕ → ℕ) (h n : ℕ) → h < n → total h f + f h ≤ total n f
+total-within f h zero l = absurd (let z : ⊥ = omega arith in z)
+total-within f h (suc n) l = pick (ℕ-discrete h n) (total-within f h n)
+  where
+    pick : Dec (h ≡ n) → (h < n → total h f + f h ≤ total n f) → total h f + f h ≤ total (suc n) f
+    pick (yes e) before = rw (e, total-suc n f) (omega arith)
+    pick (no e) before = let b = before (omega arith) in omega (arith, total-suc n f)

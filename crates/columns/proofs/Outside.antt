@@ -1,5 +1,4 @@
 -- Whether the next marked column at or after n is none tells whether all marked columns are below n.
--- Assumes nothing.
 use mathlib.Core.Path.{_≡_, sym, ap, _∙_}
 use mathlib.Core.Bool.{Bool, not, _&&_, _||_, or-true, or-false}
 use Prim.Native.Nat.{ℕ, _<_}

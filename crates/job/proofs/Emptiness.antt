@@ -1,5 +1,4 @@
 -- Which heads count as empty: those that are not sound, and of the others those whose phase is. What a located job must hold, by its tests.
--- Assumes nothing.
 use mathlib.Core.Path.{_≡_, sym, ap, _∙_}
 use mathlib.Core.Bool.{Bool, true, false, not, _&&_, _||_, and-false, or-true, or-false}
 use Prim.Native.Nat.{ℕ}

@@ -2,7 +2,6 @@
 -- Its row is the position of that symbol less L; different pivots of one sequence have different rows.
 -- The leading row: a polynomial of degree at most L < l is 0, or it fails with length L in the row of some pivot j ≤ L;
 -- and if its constant term is not 0, not after the symbol of pivot L.
--- Assumes nothing.
 use mathlib.Core.Path.{_≡_, refl, sym, ap, ap₂, subst, fun-ext, _∙_}
 use mathlib.Core.Logic.{_≢_, _⊎_, inl, inr, ⊎-map}
 use mathlib.Core.List.{[], _∷_}
@@ -10,13 +9,13 @@ use Prim.Native.Nat.{ℕ, zero, suc, _+_, _*_, _≤_, _<_}
 use native.Mathlib.Decide.{decLt}
 use native.Mathlib.Numerals.{add-one}
 use native.Mathlib.Omega.{arith}
 use Rattle.algebra.specs.Ring.{CRing, Field}
 use Rattle.algebra.specs.Polynomial.{Degree, shift}
 use Rattle.algebra.proofs.RingLaws.{neg-zero, mul-zero, zero-mul}
 use Rattle.algebra.proofs.Solver.{:0, _:+_, _:-_, _:·_, _:=_, _:×_:≡_:⇒_, solve}
 use Rattle.algebra.proofs.Convolution.{shift-below, shift-tail, shift-zeros}
-use Rattle.algebra.proofs.Register.Places.{same-position, same-sequence}
-use Rattle.algebra.proofs.Register.Generates.{Sequences, Fails, gen-longer, fails-mul, fails-add, fails-shift}
+use Rattle.register.proofs.Theory.Places.{same-position, same-sequence}
+use Rattle.register.proofs.Theory.Generates.{Sequences, Fails, gen-longer, fails-mul, fails-add, fails-shift}
 
 module _ (F : Field) (Q : Sequences (F .ring .car)) where
   open Field F using (ring, decide)

@@ -1,5 +1,4 @@
 -- The order in which symbols are read: position m of sequence g, of t sequences, has the place m·t + g.
--- Assumes nothing.
 use mathlib.Core.Path.{_≡_, ap}
 use Prim.Native.Nat.{ℕ, suc, _+_, _*_, _≤_, _<_}
 use native.Mathlib.Nat.{mul-le-mul-right, suc-mul}

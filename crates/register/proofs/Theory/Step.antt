@@ -1,12 +1,12 @@
 -- Algorithm 4 of Schmidt and Sidorenko over an abstract field: its state, one step, a round, and all rounds up to n.
--- A polynomial is a function of its index, so that nothing need be said of lists; the names are those of crate register.
+-- A polynomial is a function of its index, so that nothing need be said of lists; the names are those of `specs/Algorithm4.antt`.
 use mathlib.Core.Bool.{cond}
 use mathlib.Core.Logic.{ite}
 use Prim.Native.Nat.{ℕ, zero, suc, _+_, _-_}
 use lib.Dec.{ltb, eqb}
 use Rattle.algebra.specs.Ring.{CRing, Field}
 use Rattle.algebra.specs.Polynomial.{shift}
-use Rattle.algebra.proofs.Register.Generates.{Sequences, disc}
+use Rattle.register.proofs.Theory.Generates.{Sequences, disc}
 
 -- what is kept for a sequence h: n_h, l_h, d_h and σ of h
 pub record Saved (A : Type 0) : Type 0 where
