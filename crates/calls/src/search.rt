@@ -1,17 +1,17 @@
 // The search for the columns that a register names.
-use codec::powers::powers;
-use codec::values::value_at;
 use columns::Columns;
+use field257::powers::powers;
+use field257::values::value_at;
 use frame::Shape;
 ghost use mathlib.Core.Path.{_≡_};
 ghost use Prim.Native.Nat.{_≤_};
 ghost use lib.Dec.{eqb};
 ghost use lib.ListN.{length, getD};
-ghost use Rattle.codec.specs.Table.{table};
+ghost use Rattle.field257.specs.Table.{table};
 ghost use Rattle.decoding.specs.Locating.{namedColumns};
 ghost use Rattle.field.specs.Coefficients.{value};
 ghost use Rattle.field.specs.Residue.{inverse};
-ghost use Rattle.frame.specs.Powers.{locatorOf};
+ghost use Rattle.field257.specs.Powers.{locatorOf};
 
 // The inverse of the locator of column i is a root of the taps. The inverse of 3^i is 3^(256 − i).
 fn is_root(powers: &[u16; 256], taps: &[u16], i: usize) -> bool

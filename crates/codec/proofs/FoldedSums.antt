@@ -1,29 +1,25 @@
 -- Check sums in two stages: a sum over blocks of 16 columns is the sum over 16 columns of sums over the blocks, so that a check sum of a row is that of
--- the folded row; and the powers of 3 come round after 256, so that rows are folded in 16 ways only. Assumes nothing.
+-- the folded row; and the powers of 3 come round after 256, so that rows are folded in 16 ways only.
 use mathlib.Core.Path.{_≡_, sym, ap, ap₂, _∙_}
 use mathlib.Core.List.{List}
 use Prim.Native.Nat.{ℕ, suc, _+_, _-_, _*_, _/_, _%_, _≤_, _<_}
-use native.Mathlib.Nat.{add-mul, add-mul-mod-self-right, mod-add-div, mul-assoc, zero-mul}
+use native.Mathlib.Nat.{add-mul-mod-self-right, mod-add-div, mul-assoc, zero-mul}
 use native.Mathlib.Numerals.{add-one}
 use native.Mathlib.Omega.{arith}
 use borrow.Rule.Slice.PartMut.{midOf}
 use lib.ListN.{length, getD, take, drop, List·getD-eq-default}
-use lib.Pow.{pow-add}
 use Rattle.field.specs.Coefficients.{value}
 use Rattle.lists.specs.Total.{total}
 use Rattle.field.proofs.Remainders.{mod-mul-mod, mul-mod-mod}
 use Rattle.lists.proofs.Totals.{total-ext, total-mul, total-mod}
 use Rattle.lists.proofs.Tabulated.{getD-tabulate, length-tabulate, tabulate-ext}
-use Rattle.frame.specs.Frame.{checkSum}
-use Rattle.frame.specs.Powers.{powerOf3, weight}
-use Rattle.frame.proofs.Locators.{power-mod}
+use Rattle.frame.specs.Frame.{checkSum, weight}
+use Rattle.field257.specs.Powers.{powerOf3}
+use Rattle.field257.proofs.Locators.{power-mod}
 use Rattle.codec.specs.Folded.{gathered, folded}
-use Rattle.codec.proofs.Accumulation.{check-sum-value}
-use Rattle.codec.proofs.BlockSums.{total-swap, total-blocks, total-rest}
-
-weight-add : (i k j : ℕ) → weight (i + k) j ≡ weight i j * weight k j
-unfolding weight
-weight-add i k j = rw (add-mul i k j, pow-add 3 (i * j) (k * j))
+use Rattle.frame.proofs.CheckSums.{check-sum-value}
+use Rattle.frame.proofs.Weights.{weight-add}
+use Rattle.field.proofs.BlockSums.{total-swap, total-blocks, total-rest}
 
 module _ (x : List ℕ) (j blocks : ℕ) where
   abbrev term : ℕ → ℕ

@@ -15,11 +15,11 @@ use Rattle.lists.proofs.Tabulated.{getD-tabulate, length-tabulate, tabulate-ext
 use Rattle.lists.proofs.Zeros.{zeros, zeros-entry}
 use Rattle.lists.specs.Tabulate.{tabulate}
 use Rattle.lists.proofs.Totals.{total-zero, total-suc, total-bound}
-use Rattle.frame.specs.Powers.{powerOf3}
-use Rattle.frame.proofs.Locators.{power-mod}
+use Rattle.field257.specs.Powers.{powerOf3}
+use Rattle.field257.proofs.Locators.{power-mod}
 use Rattle.codec.specs.Folded.{gathered}
-use Rattle.codec.specs.Table.{table}
-use Rattle.codec.proofs.PowerTable.{table-power}
+use Rattle.field257.specs.Table.{table}
+use Rattle.field257.proofs.PowerTable.{table-power}
 
 module _ (x : List ℕ) (j : ℕ) where
   gathered-zero : (a : ℕ) → gathered 0 x j a ≡ 0

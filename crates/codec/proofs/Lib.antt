@@ -1,16 +1,3 @@
-pub mod Accumulation
-pub mod BlockSums
 pub mod FoldedRows
 pub mod FoldedSums
-pub mod FrameTests
 pub mod Gathering
-pub mod Held
-pub mod LocatorBuilding
-pub mod LocatorOrder
-pub mod Multiplication
-pub mod Padding
-pub mod PowerTable
-pub mod RowPlace
-pub mod RowsChanged
-pub mod ShapeTests
-pub mod Testing

@@ -4,7 +4,7 @@ use mathlib.Core.List.{List}
 use Prim.Native.Nat.{ℕ, _+_, _*_, _%_}
 use lib.ListN.{getD}
 use Rattle.lists.specs.Total.{total}
-use Rattle.frame.specs.Powers.{powerOf3}
+use Rattle.field257.specs.Powers.{powerOf3}
 use Rattle.lists.specs.Tabulate.{tabulate}
 
 -- the sum of column a of a row of `blocks` times 16 columns, not reduced

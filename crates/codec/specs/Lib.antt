@@ -1,2 +1,1 @@
 pub mod Folded
-pub mod Table

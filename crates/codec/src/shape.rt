@@ -1,5 +1,5 @@
 // Which shapes there are.
-use crate::powers::wide;
+use field257::powers::wide;
 use frame::Shape;
 use refusal::Checked;
 use refusal::Refusal;

@@ -1,13 +1,13 @@
 // Check sums of a row in two stages of 16: the row is folded into 16 columns in each of the 16 ways that there are, and each
 // check sum is that of a folded row. A row of 256 columns and 64 sums takes 5,120 products instead of 16,384.
-use crate::values::times;
-use crate::values::value_at;
+use field257::values::times;
+use field257::values::value_at;
 ghost use mathlib.Core.Path.{_≡_};
 ghost use Prim.Native.Nat.{ℕ, suc, _+_, _*_, _%_, _≤_, _<_};
 ghost use lib.ListN.{length, getD, take, drop};
 ghost use Rattle.lists.specs.Tabulate.{tabulate};
 ghost use Rattle.codec.specs.Folded.{gathered, folded};
-ghost use Rattle.codec.specs.Table.{table};
+ghost use Rattle.field257.specs.Table.{table};
 ghost use Rattle.frame.specs.Frame.{checkSums};
 
 // The row with zeros after it.

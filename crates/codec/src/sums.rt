@@ -1,12 +1,12 @@
 // Check sums of a row and of a frame.
-use crate::powers::powers;
 use crate::stages::staged_sums;
-use crate::values::value_at;
+use field257::powers::powers;
+use field257::values::value_at;
 use frame::Shape;
 ghost use mathlib.Core.Path.{_≡_};
 ghost use Prim.Native.Nat.{_*_, _≤_, _<_};
 ghost use lib.ListN.{length};
-ghost use Rattle.codec.specs.Table.{table};
+ghost use Rattle.field257.specs.Table.{table};
 ghost use mathlib.Core.Bool.{true};
 ghost use Rattle.frame.specs.Frame.{checkSum, checkSums, heldSums};
 ghost use Rattle.frame.specs.Shape.{isShape};

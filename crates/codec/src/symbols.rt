@@ -1,5 +1,5 @@
 // Which cells of a frame hold symbols.
-use crate::powers::wide;
+use field257::powers::wide;
 use frame::Shape;
 use refusal::Checked;
 use refusal::Refusal;

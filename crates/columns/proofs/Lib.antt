@@ -3,6 +3,7 @@ pub mod Least
 pub mod Listing
 pub mod Marks
 pub mod Outside
+pub mod Passing
 pub mod Subset
 pub mod Walk
 pub mod Words

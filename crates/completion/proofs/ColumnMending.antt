@@ -10,10 +10,10 @@ use Rattle.lists.proofs.Totals.{total-zero, total-suc}
 use Rattle.frame.specs.Frame.{sumsBefore}
 use Rattle.frame.specs.Shape.{checksOf}
 use Rattle.frame.specs.declared.Shape.{Shape}
-use Rattle.codec.proofs.RowPlace.{RowPlace}
-use Rattle.codec.proofs.RowsChanged.{RowsChanged, changed-none, changed-more, changed-all, length-part}
+use Rattle.frame.proofs.RowPlace.{RowPlace}
+use Rattle.frame.proofs.RowsChanged.{RowsChanged, changed-none, changed-more, changed-all, length-part}
 use Rattle.completion.specs.Mending.{mendedCell, mendedColumn}
-use Rattle.completion.proofs.HeldParts.{partOf}
+use Rattle.frame.proofs.HeldParts.{partOf}
 use Rattle.completion.proofs.RowMending.{length-mendedCell}
 
 module _ (s : Shape) (coefficients sums : List ℕ) (i : ℕ) (f : List ℕ) where

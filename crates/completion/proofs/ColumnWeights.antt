@@ -8,8 +8,8 @@ use borrow.Rule.Slice.PartMut.{midOf, putMid, mid-len}
 use Rattle.columns.specs.Columns.{members}
 use Rattle.columns.specs.declared.Columns.{Columns}
 use Rattle.columns.proofs.Walk.{Walk, walk-member}
-use Rattle.frame.specs.Completion.{locatorPolynomial}
-use Rattle.frame.specs.Powers.{locatorOf}
+use Rattle.field257.specs.LocatorPolynomial.{locatorPolynomial}
+use Rattle.field257.specs.Powers.{locatorOf}
 use Rattle.lists.specs.Tabulate.{tabulate}
 use Rattle.lists.proofs.Parts.{length-replaced, part-replaced}
 use Rattle.lists.proofs.Tabulated.{length-tabulate}

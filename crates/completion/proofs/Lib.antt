@@ -1,13 +1,10 @@
 pub mod ColumnMending
 pub mod ColumnWeights
 pub mod Division
-pub mod HeldParts
 pub mod MendedFrame
 pub mod MendedRow
-pub mod Passing
 pub mod Quotient
 pub mod ReadForm
 pub mod ReadOff
 pub mod Reading
-pub mod RowAlone
 pub mod RowMending

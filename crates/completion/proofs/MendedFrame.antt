@@ -14,12 +14,12 @@ use Rattle.frame.specs.Frame.{heldSums, row}
 use Rattle.frame.specs.Shape.{checksOf, isShape}
 use Rattle.frame.specs.declared.Shape.{Shape}
 use Rattle.frame.proofs.CompletedFrames.{completedFrame, completedFrame-row, length-completedFrame}
-use Rattle.frame.proofs.Members.{Below}
+use Rattle.field257.proofs.Members.{Below}
 use Rattle.frame.proofs.Rows.{cell-place, eachRow-row, length-eachRow, length-row, row-cell, row-end, same-frames}
 use Rattle.frame.proofs.Shapes.{shape-ranges}
 use Rattle.completion.specs.Mending.{mendedColumn}
 use Rattle.completion.proofs.ColumnWeights.{coefficientsOf}
-use Rattle.completion.proofs.HeldParts.{partOf, part-sums}
+use Rattle.frame.proofs.HeldParts.{partOf, part-sums}
 use Rattle.completion.proofs.MendedRow.{mended-completed}
 use Rattle.completion.proofs.RowMending.{length-mendedCell, mendedBefore, mendedRow, mended-none, mended-more, mended-all}
 

@@ -21,11 +21,11 @@ use Rattle.field.proofs.Prime257.{prime-257}
 use Rattle.lists.proofs.Totals.{total-ext}
 use Rattle.frame.specs.Completion.{completed}
 use Rattle.frame.specs.Frame.{checkSum, checkSums}
-use Rattle.frame.proofs.CheckSums.{checkSum-below, res-checkSum, rowSum, rowSum-sub, symbols}
+use Rattle.frame.proofs.CheckSums.{checkSum-below, res-checkSum, rowSum, rowSum-sub}
+use Rattle.field257.proofs.Field257.{symbols, R257, res257, res-tells-zero}
 use Rattle.frame.proofs.ClosedForm.{symbolFor, symbols-sum}
 use Rattle.frame.proofs.CompletionLaws.{completed-only}
-use Rattle.frame.proofs.Field257.{R257, res257, res-tells-zero}
-use Rattle.frame.proofs.Members.{Below}
+use Rattle.field257.proofs.Members.{Below}
 use Rattle.lists.proofs.Joined.{tabulate-each}
 use Rattle.lists.proofs.Tabulated.{getD-tabulate, getD-tabulate-past, length-tabulate}
 use Rattle.completion.specs.Mending.{symbolRead}

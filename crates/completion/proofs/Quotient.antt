@@ -14,20 +14,19 @@ use Rattle.columns.specs.Columns.{members}
 use Rattle.columns.specs.declared.Columns.{Columns}
 use Rattle.field.proofs.Bridge.{res-zero, res-mod, res-add, res-mul}
 use Rattle.field.proofs.Prime257.{prime-257}
-use Rattle.frame.specs.Completion.{locatorPolynomial, without}
-use Rattle.frame.specs.Powers.{locatorOf}
-use Rattle.frame.proofs.CheckSums.{symbols}
-use Rattle.frame.proofs.Field257.{R257, res257, res-tells}
-use Rattle.frame.proofs.LocatorPolynomial.{length-locatorPolynomial, locator-coefficients}
-use Rattle.frame.proofs.Locators.{locatorAt, res-locator}
-use Rattle.frame.proofs.Members.{members-distinct}
+use Rattle.field257.specs.LocatorPolynomial.{locatorPolynomial}
+use Rattle.frame.specs.Completion.{without}
+use Rattle.field257.specs.Powers.{locatorOf}
+use Rattle.field257.proofs.Field257.{symbols, R257, res257, res-tells, locatorAt, res-locator}
+use Rattle.field257.proofs.LocatorPolynomial.{length-locatorPolynomial, locator-coefficients}
+use Rattle.field257.proofs.Members.{members-distinct}
 use Rattle.frame.proofs.Others.{without-one}
 use Rattle.lists.specs.Tabulate.{tabulate}
 use Rattle.lists.proofs.Filling.{by-entries}
 use Rattle.completion.specs.Weights.{carried}
 use Rattle.completion.proofs.Division.{carried-zero, carried-suc}
-use Rattle.codec.proofs.LocatorBuilding.{polynomial-below}
-use Rattle.codec.proofs.LocatorOrder.{locator-middle}
+use Rattle.field257.proofs.LocatorBuilding.{polynomial-below}
+use Rattle.field257.proofs.LocatorOrder.{locator-middle}
 open CRing R257 using (car, add as _⊕_, mul as _⊗_, neg)
 
 infixl 60 _⊕_

@@ -5,8 +5,9 @@ use Prim.Native.Nat.{ℕ, _-_, _*_, _%_, _≤_}
 use lib.ListN.{length, getD}
 use Rattle.field.specs.Coefficients.{value}
 use Rattle.field.specs.Residue.{minus, times, inverse}
-use Rattle.frame.specs.Powers.{powerOf3}
-use Rattle.frame.proofs.Locators.{inverse-power, weight-power}
+use Rattle.field257.specs.Powers.{powerOf3}
+use Rattle.field257.proofs.Locators.{inverse-power}
+use Rattle.frame.proofs.Weights.{weight-power}
 use Rattle.lists.specs.Tabulate.{tabulate}
 use Rattle.completion.specs.Weights.{factorOf, readOff}
 

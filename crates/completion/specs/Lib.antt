@@ -1,3 +1,2 @@
-pub mod Inverses
 pub mod Mending
 pub mod Weights

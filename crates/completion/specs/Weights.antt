@@ -7,8 +7,10 @@ use Rattle.columns.specs.Columns.{members}
 use Rattle.columns.specs.declared.Columns.{Columns}
 use Rattle.field.specs.Coefficients.{value}
 use Rattle.field.specs.Residue.{minus, times, inverse}
-use Rattle.frame.specs.Completion.{locatorPolynomial, without}
-use Rattle.frame.specs.Powers.{locatorOf, weight}
+use Rattle.field257.specs.LocatorPolynomial.{locatorPolynomial}
+use Rattle.frame.specs.Completion.{without}
+use Rattle.field257.specs.Powers.{locatorOf}
+use Rattle.frame.specs.Frame.{weight}
 
 -- Synthetic division of f by 1 − x·z: what is carried to coefficient k is coefficient k − 1 of the quotient.
 unfoldable pub carried : (f : List ℕ) (x k : ℕ) → ℕ

@@ -2,12 +2,12 @@
 use crate::row::mend_cell;
 use crate::row::mend_row;
 use crate::weights::weigh;
-use codec::locator::locator_polynomial;
-use codec::powers::powers;
-use codec::powers::wide;
 use columns::Columns;
 use columns::next;
 use columns::size;
+use field257::locator::locator_polynomial;
+use field257::powers::powers;
+use field257::powers::wide;
 use frame::Shape;
 ghost use mathlib.Core.Path.{_≡_};
 ghost use mathlib.Core.Bool.{true};

@@ -2,13 +2,13 @@
 // was received, which are at hand, and added to its cells; so no row is summed again. Column after column, so that the
 // coefficients of one column alone are kept.
 use crate::weights::weigh;
-use codec::locator::locator_polynomial;
-use codec::powers::powers;
-use codec::powers::wide;
-use codec::values::times;
 use columns::Columns;
 use columns::next;
 use columns::size;
+use field257::locator::locator_polynomial;
+use field257::powers::powers;
+use field257::powers::wide;
+use field257::values::times;
 ghost use mathlib.Core.Path.{_≡_};
 ghost use mathlib.Core.Bool.{true};
 ghost use Prim.Native.Nat.{ℕ, _+_, _%_, _≤_, _<_};

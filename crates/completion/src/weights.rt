@@ -1,17 +1,17 @@
 // The coefficients with which the symbol at a column of a set is read off the check sums, shared by all rows.
-use crate::inverses::inverse;
-use codec::powers::entry;
-use codec::powers::wide;
-use codec::values::value_at;
 use field::residue::difference;
 use field::residue::product;
+use field257::inverses::inverse;
+use field257::powers::entry;
+use field257::powers::wide;
+use field257::values::value_at;
 ghost use mathlib.Core.Path.{_≡_};
 ghost use Prim.Native.Nat.{suc, _≤_, _<_};
 ghost use lib.ListN.{length, getD};
-ghost use Rattle.codec.specs.Table.{table};
+ghost use Rattle.field257.specs.Table.{table};
 ghost use Rattle.completion.specs.Weights.{carried, factorOf, readOff};
 ghost use Rattle.field.specs.Residue.{times};
-ghost use Rattle.frame.specs.Powers.{locatorOf};
+ghost use Rattle.field257.specs.Powers.{locatorOf};
 ghost use Rattle.lists.specs.Tabulate.{tabulate};
 
 // The quotient of f by 1 - x z, by synthetic division, as many coefficients as there are places for.

@@ -34,9 +34,8 @@ use Rattle.frame.specs.Frame.{sequences, Codeword, differs, distance, differing
 use Rattle.frame.specs.Shape.{isShape, checksOf}
 use Rattle.frame.specs.declared.Shape.{Shape}
 use Rattle.frame.proofs.Distances.{agreeing}
-use Rattle.frame.proofs.Field257.{F257, R257, res257}
-use Rattle.frame.proofs.Locators.{locatorAt}
-use Rattle.frame.proofs.Members.{size}
+use Rattle.field257.proofs.Field257.{F257, R257, res257, locatorAt}
+use Rattle.field257.proofs.Members.{size}
 use Rattle.frame.proofs.Shapes.{shape-ranges}
 use Rattle.register.specs.Register.{Register}
 open CRing R257 using (car, zero as 𝟘, add as _⊕_, add-zero)

@@ -17,8 +17,7 @@ use Rattle.frame.specs.Frame.{sequences, Codeword, differs, distance}
 use Rattle.frame.specs.Shape.{isShape, checksOf}
 use Rattle.frame.specs.declared.Shape.{Shape}
 use Rattle.frame.proofs.Distances.{agree}
-use Rattle.frame.proofs.Field257.{R257}
-use Rattle.frame.proofs.Locators.{locatorAt}
+use Rattle.field257.proofs.Field257.{R257, locatorAt}
 open CRing R257 using (add as _⊕_, neg, add-zero)
 
 infixl 60 _⊕_

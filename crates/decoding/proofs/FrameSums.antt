@@ -22,9 +22,10 @@ use Rattle.frame.specs.Frame.{row, cell, checkSum, checkSums, rowSums, sequence
 use Rattle.frame.specs.Shape.{checksOf}
 use Rattle.frame.specs.declared.Shape.{Shape}
 use Rattle.frame.proofs.CheckSums.{checkSum-below, res-checkSum}
-use Rattle.frame.proofs.Field257.{F257, R257, res257, res-tells, res-tells-zero}
+use Rattle.field257.proofs.Field257.{F257, R257, res257, res-tells, res-tells-zero, locatorAt}
 use Rattle.frame.proofs.HeldSums.{length-rowSums}
-use Rattle.frame.proofs.Locators.{locatorAt, locator-nonzero, firstExponent}
+use Rattle.field257.proofs.Locators.{locator-nonzero}
+use Rattle.frame.proofs.Weights.{firstExponent}
 use Rattle.frame.proofs.Rows.{row-cell}
 use Rattle.lists.proofs.Tabulated.{getD-tabulate}
 use Rattle.register.specs.Sequences.{symbol}

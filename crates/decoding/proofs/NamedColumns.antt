@@ -26,13 +26,13 @@ use Rattle.field.specs.Coefficients.{value}
 use Rattle.field.specs.Residue.{inverse}
 use Rattle.field.proofs.Bridge.{res-zero, res-inverse}
 use Rattle.field.proofs.Prime257.{prime-257}
-use Rattle.frame.specs.Powers.{locatorOf}
+use Rattle.field257.specs.Powers.{locatorOf}
 use Rattle.frame.specs.Shape.{isShape}
 use Rattle.frame.specs.declared.Shape.{Shape}
-use Rattle.frame.proofs.Field257.{F257, R257, res257, res-tells-zero}
-use Rattle.frame.proofs.LocatorPolynomial.{res-value}
-use Rattle.frame.proofs.Locators.{locatorAt, res-locator, locators-distinct, locator-nonzero}
-use Rattle.frame.proofs.Members.{Below}
+use Rattle.field257.proofs.Field257.{F257, R257, res257, res-tells-zero, locatorAt, res-locator}
+use Rattle.field257.proofs.LocatorPolynomial.{res-value}
+use Rattle.field257.proofs.Locators.{locators-distinct, locator-nonzero}
+use Rattle.field257.proofs.Members.{Below}
 use Rattle.frame.proofs.Shapes.{shape-ranges}
 use Rattle.register.specs.Register.{Register}
 open Field F257 using (inv)

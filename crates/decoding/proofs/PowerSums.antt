@@ -25,9 +25,8 @@ use Rattle.field.proofs.Polynomials.{coefficients, poly-coefficients}
 use Rattle.field.proofs.Prime257.{prime-257}
 use Rattle.frame.specs.Shape.{isShape}
 use Rattle.frame.specs.declared.Shape.{Shape}
-use Rattle.frame.proofs.Field257.{F257, R257}
-use Rattle.frame.proofs.Locators.{locatorAt}
-use Rattle.frame.proofs.Words.{Outside}
+use Rattle.field257.proofs.Field257.{F257, R257, locatorAt}
+use Rattle.field257.proofs.Words.{Outside}
 use Rattle.register.specs.Register.{Register, Generator, Shortest, Alone}
 open Field F257 using (inv)
 open CRing R257 using (car)

@@ -20,7 +20,7 @@ use Rattle.algebra.proofs.Sums.{sum-zeros, sum-head}
 use Rattle.columns.specs.Listed.{count}
 use Rattle.columns.proofs.Listing.{by-test}
 use Rattle.decoding.proofs.ColumnRoots.{Roots}
-use Rattle.frame.proofs.Words.{Outside, word-zero}
+use Rattle.field257.proofs.Words.{Outside, word-zero}
 
 -- the power sum of exponent j of the word e
 abbrev pub powerSum : (R : CRing) (n : ℕ) (X e : ℕ → R .car) (j : ℕ) → R .car

@@ -15,7 +15,7 @@ use Rattle.field.proofs.Bridge.{res-zero, res-one, res-mod, res-mul, res-total}
 use Rattle.field.proofs.Coefficients.{residues-past}
 use Rattle.field.proofs.Polynomials.{poly, poly-degree, poly-same, coefficients, poly-coefficients, coefficients-less}
 use Rattle.field.proofs.Prime257.{prime-257}
-use Rattle.frame.proofs.Field257.{R257, res257, res-tells, res-tells-zero}
+use Rattle.field257.proofs.Field257.{R257, res257, res-tells, res-tells-zero}
 use Rattle.lists.proofs.Tabulated.{length-tabulate}
 use Rattle.register.specs.Register.{discrepancy, Register, Generates, Generator}
 use Rattle.register.specs.Sequences.{symbol}

@@ -13,7 +13,7 @@ use Rattle.frame.specs.Frame.{row, cell, checkSum, WellFormed}
 use Rattle.frame.specs.Shape.{isShape}
 use Rattle.frame.specs.declared.Shape.{Shape}
 use Rattle.frame.proofs.CompletedFrames.{length-completedFrame, completedFrame-kept, completedFrame-below, completedFrame-sums, completedFrame-only}
-use Rattle.frame.proofs.Members.{size, Below}
+use Rattle.field257.proofs.Members.{size, Below}
 use Rattle.frame.proofs.Rows.{cell-place, each-symbol}
 use Rattle.frame.proofs.Shapes.{shape-ranges}
 

@@ -19,7 +19,7 @@ use Rattle.field.specs.Residue.{inverse}
 use Rattle.lists.specs.Total.{total}
 use Rattle.lists.proofs.Filling.{ltb-next}
 use Rattle.lists.proofs.Totals.{total-zero, total-suc}
-use Rattle.frame.specs.Powers.{locatorOf}
+use Rattle.field257.specs.Powers.{locatorOf}
 use Rattle.frame.specs.declared.Shape.{Shape}
 
 abbrev pub isRoot : (σ : List ℕ) (i : ℕ) → Bool

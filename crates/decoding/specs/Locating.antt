@@ -10,7 +10,7 @@ use Rattle.field.specs.Coefficients.{value}
 use Rattle.field.specs.Residue.{inverse}
 use Rattle.frame.specs.Completion.{completed}
 use Rattle.frame.specs.Encode.{eachRow}
-use Rattle.frame.specs.Powers.{locatorOf}
+use Rattle.field257.specs.Powers.{locatorOf}
 use Rattle.frame.specs.Shape.{checksOf}
 use Rattle.frame.specs.declared.Shape.{Shape}
 use Rattle.lists.specs.Tabulate.{every}

@@ -12,15 +12,15 @@ use Rattle.algebra.specs.Ring.{CRing}
 use Rattle.field.proofs.Bridge.{res-mod, res-add, res-mul}
 use Rattle.field.proofs.Prime257.{prime-257}
 use Rattle.frame.specs.Frame.{checkSum}
-use Rattle.frame.proofs.CheckSums.{weightAt, rowSum, symbols, checkSum-below, res-checkSum}
-use Rattle.frame.proofs.Field257.{R257, res257, res-tells}
+use Rattle.frame.proofs.Weights.{weightAt, weightAt-add}
+use Rattle.frame.proofs.CheckSums.{rowSum, checkSum-below, res-checkSum, zero-in-field}
+use Rattle.field257.proofs.Field257.{symbols, R257, res257, res-tells, res-minus-one}
 use Rattle.lists.specs.Tabulate.{tabulate}
 use Rattle.lists.proofs.Entries.{getD-part}
 use Rattle.lists.proofs.Parts.{replaced-before, replaced-in, replaced-after}
 use Rattle.lists.proofs.Tabulated.{length-tabulate, getD-tabulate}
-use Rattle.encoder.specs.Generator.{Generator}
-use Rattle.encoder.proofs.CheckWeights.{weight-add, res-minus-one, zero-in-field}
-use Rattle.encoder.proofs.WeighedSums.{multiple-added}
+use Rattle.encoder.specs.GeneratorPolynomial.{GeneratorPolynomial}
+use Rattle.frame.proofs.WeighedSums.{multiple-added}
 open CRing R257 using (add as _⊕_, mul as _⊗_)
 
 infixl 60 _⊕_
@@ -48,7 +48,7 @@ module _ (m : ℕ) (from : List ℕ) where
   divided-all i cells a le j h =
       ap (λ (k : ℕ). checkSum k cells (suc j)) (let q : m ≡ i = let l = a .above in omega arith in q) ∙ a .sums j h
 
-  module _ (g : List ℕ) (gen : Generator m g) (i : ℕ) (cells : List ℕ) (a : Divided i cells) (less : m < i) where
+  module _ (g : List ℕ) (gen : GeneratorPolynomial m g) (i : ℕ) (cells : List ℕ) (a : Divided i cells) (less : m < i) where
     -- where the part begins to which the multiple is added
     abbrev start : ℕ
     start = i - 1 - m
@@ -139,7 +139,7 @@ module _ (m : ℕ) (from : List ℕ) where
           res-tells _ _ (checkSum-below (i - 1) after (suc j)) (checkSum-below i cells (suc j))
           (res-checkSum (i - 1) after j
           ∙ ap (λ n. rowSum n (symbols after) j) (let q : i - 1 ≡ start + m = omega arith in q)
-          ∙ multiple-added R257 (λ k. weightAt k j) (weight-add j) start m (symbols cells) (symbols g) (symbols after)
+          ∙ multiple-added R257 (λ k. weightAt k j) (weightAt-add j) start m (symbols cells) (symbols g) (symbols after)
           (ap res257 (gen .leading) ∙ res-minus-one) (zero-in-field (suc m) g j (gen .sums j h)) (λ k l. ap res257 (after-before k l)) after-symbol
           ∙ ap (λ n. rowSum n (symbols cells) j) (let q : suc (start + m) ≡ i = omega arith in q)
           ∙ sym (res-checkSum i cells j))

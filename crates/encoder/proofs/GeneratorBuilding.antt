@@ -1,40 +1,40 @@
 -- The generator polynomial built factor after factor: what the coefficients are after j of them. Each factor z − 3^j keeps the values at the roots so
--- far at 0, and makes that at its own root 0. Assumes nothing.
+-- far at 0, and makes that at its own root 0.
 use mathlib.Core.Path.{_≡_, refl, sym, ap, ap₂, subst, _∙_}
 use mathlib.Core.List.{List, _∷_}
 use Prim.Native.Nat.{ℕ, zero, suc, _+_, _-_, _*_, _%_, _≤_, _<_}
 use native.Mathlib.Decide.{decLt, ℕ-discrete}
-use native.Mathlib.Nat.{mod-lt, zero-add, mul-zero as n-mul-zero}
+use native.Mathlib.Nat.{mod-lt, mul-zero as n-mul-zero}
 use native.Mathlib.Numerals.{add-one}
 use native.Mathlib.Omega.{arith}
-use borrow.Rule.Slice.PartMut.{midOf, putMid, mid-len, same-len-mid}
+use borrow.Rule.Slice.PartMut.{midOf, putMid}
 use lib.Dec.{lit<}
 use lib.ListN.{length, getD}
 use Rattle.algebra.specs.Ring.{CRing}
 use Rattle.algebra.proofs.RingLaws.{mul-zero, zero-mul}
-use Rattle.codec.specs.Table.{entryOf}
-use Rattle.codec.proofs.Multiplication.{shifted-zero, shifted-next}
-use Rattle.codec.proofs.PowerTable.{entry-power}
+use Rattle.field257.specs.Table.{entryOf}
+use Rattle.field.proofs.Multiplication.{made, shifted-zero, shifted-suc, front-length, front-made, front-rest}
+use Rattle.field257.proofs.PowerTable.{entry-power}
 use Rattle.field.specs.Coefficients.{shifted}
 use Rattle.field.proofs.Bridge.{res-zero, res-mod, res-add, res-mul}
 use Rattle.field.proofs.Prime257.{prime-257}
 use Rattle.frame.specs.Frame.{checkSum}
-use Rattle.frame.specs.Powers.{powerOf3}
-use Rattle.frame.proofs.CheckSums.{weightAt, rowSum, symbols}
-use Rattle.frame.proofs.Field257.{R257, res257}
+use Rattle.field257.specs.Powers.{powerOf3}
+use Rattle.frame.proofs.Weights.{weightAt, weightAt-add, res-root}
+use Rattle.frame.proofs.CheckSums.{rowSum, sum-is-zero, zero-in-field}
+use Rattle.field257.proofs.Field257.{symbols, R257, res257, res-negative}
 use Rattle.lists.specs.Tabulate.{tabulate}
-use Rattle.lists.proofs.Entries.{getD-part}
-use Rattle.lists.proofs.Parts.{replaced-in, replaced-after}
-use Rattle.lists.proofs.Tabulated.{length-tabulate, getD-tabulate}
 use Rattle.lists.proofs.Zeros.{zeros, zeros-entry}
-use Rattle.encoder.specs.Generator.{Generator}
-use Rattle.encoder.proofs.CheckWeights.{weight-add, res-root, res-negative, sum-is-zero, zero-in-field}
-use Rattle.encoder.proofs.Multiplication.{product}
-use Rattle.encoder.proofs.WeighedSums.{factor-multiplied}
+use Rattle.encoder.specs.GeneratorPolynomial.{GeneratorPolynomial}
+use Rattle.frame.proofs.WeighedSums.{factor-multiplied}
 open CRing R257 using (zero as 𝟘, add as _⊕_, mul as _⊗_, neg, add-neg)
 
 infixl 60 _⊕_
 infixl 70 _⊗_
+-- a coefficient of f times z − x, from the one below it and from itself
+abbrev pub raised : (x below own : ℕ) → ℕ
+raised x below own = (below + (257 - x) * own) % 257
+
 -- j factors are multiplied, the last with the given root
 pub record Building (j root : ℕ) (f : List ℕ) : Type 0 where
   pub size : length f ≡ 65
@@ -62,11 +62,12 @@ building-none = record {
     past zero h = absurd (let z : ⊥ = omega arith in z)
     past (suc k) h = zeros-entry 64 k
 
-pub generator-built : (m j root : ℕ) (f : List ℕ) → Building j root f → j ≡ m → m ≤ 64 → Generator m f
-generator-built m j root f a e le = subst (λ (i : ℕ). Generator i f) e (record {
+pub generator-built : (m j root : ℕ) (f : List ℕ) → Building j root f → j ≡ m → m ≤ 64 → GeneratorPolynomial m f
+generator-built m j root f a e le = subst (λ (i : ℕ). GeneratorPolynomial i f) e (record {
   size = (let s = a .size in omega arith);
   below = a .below;
   leading = a .leading;
+  past = a .past;
   sums = a .sums;
 })
 
@@ -82,36 +83,18 @@ module _ (j root : ℕ) (f : List ℕ) (a : Building j root f) (less : j < 64) w
   abbrev part : List ℕ
   part = midOf 0 (j + 2 - 0) f
 
-  length-part : length part ≡ j + 2
-  length-part = let l = mid-len 0 (j + 2) f (let s = a .size in omega arith) in omega arith
-
-  part-entry : (k : ℕ) → k < j + 2 → getD part k 0 ≡ getD f k 0
-  part-entry k h = getD-part 0 (j + 2 - 0) f k 0 (omega arith) ∙ ap (λ (i : ℕ). getD f i 0) (zero-add k)
-
-  part-shifted : (k : ℕ) → k < j + 2 → shifted 1 part k ≡ shifted 1 f k
-  part-shifted zero h = shifted-zero part 0 ∙ sym (shifted-zero f 0)
-  part-shifted (suc k) h =
-      ap (shifted 1 part) (sym (add-one k)) ∙ shifted-next part 0 k ∙ part-entry k (omega arith)
-      ∙ sym (shifted-next f 0 k) ∙ ap (shifted 1 f) (add-one k)
-
-  module _ (y : List ℕ) (e : y ≡ tabulate (length part) (product part next)) where
+  module _ (y : List ℕ) (e : y ≡ tabulate (length part) (made (raised next) part)) where
     abbrev after : List ℕ
     after = putMid 0 (j + 2 - 0) f y
 
-    length-y : length y ≡ length part
-    length-y = ap length e ∙ length-tabulate (length part) (product part next)
+    room : j + 2 - 0 ≤ length f
+    room = let s = a .size in omega arith
 
-    after-entry : (k : ℕ) → k < j + 2 → getD after k 0 ≡ product f next k
-    after-entry k h =
-        ap (λ (i : ℕ). getD after i 0) (sym (zero-add k))
-        ∙ replaced-in 0 (j + 2 - 0) f y (let s = a .size in omega arith) (let l = length-y in let q = length-part in omega arith) 0 k (omega arith)
-        ∙ ap (λ (l : List ℕ). getD l k 0) e ∙ getD-tabulate (length part) (product part next) k 0 (let q = length-part in omega arith)
-        ∙ ap₂ (λ (s o : ℕ). (s + (257 - next) * o) % 257) (part-shifted k h) (part-entry k h)
+    after-entry : (k : ℕ) → k < j + 2 → getD after k 0 ≡ made (raised next) f k
+    after-entry k h = front-made (raised next) (j + 2 - 0) f room y e k (omega arith)
 
     after-past : (k : ℕ) → j + 2 ≤ k → getD after k 0 ≡ 0
-    after-past k h =
-        replaced-after 0 (j + 2 - 0) f y (let s = a .size in omega arith) (let l = length-y in let q = length-part in omega arith) 0 k (omega arith)
-        ∙ a .past k (omega arith)
+    after-past k h = front-rest (raised next) (j + 2 - 0) f room y e k (omega arith) ∙ a .past k (omega arith)
 
     after-below : (k : ℕ) → Dec (k < j + 2) → getD after k 0 < 257
     after-below k (yes h) = rw (after-entry k h) (mod-lt _ (lit< tt))
@@ -120,8 +103,7 @@ module _ (j root : ℕ) (f : List ℕ) (a : Building j root f) (less : j < 64) w
     after-leading : getD after (suc j) 0 ≡ 256
     after-leading =
         after-entry (suc j) (omega arith)
-        ∙ ap₂ (λ (s o : ℕ). (s + (257 - next) * o) % 257)
-        (ap (shifted 1 f) (sym (add-one j)) ∙ shifted-next f 0 j ∙ a .leading) (a .past (suc j) (omega arith))
+        ∙ ap₂ (raised next) (shifted-suc f j ∙ a .leading) (a .past (suc j) (omega arith))
         ∙ rw (n-mul-zero (257 - next)) refl
 
     after-symbol : (k : ℕ) → k < suc (suc j) → symbols after k ≡ res257 (shifted 1 f k) ⊕ neg (res257 next) ⊗ symbols f k
@@ -143,16 +125,16 @@ module _ (j root : ℕ) (f : List ℕ) (a : Building j root f) (less : j < 64) w
     after-sums : (i : ℕ) → i < suc j → checkSum (suc (suc j)) after (suc i) ≡ 0
     after-sums i h =
         sum-is-zero (suc (suc j)) after i
-        (factor-multiplied R257 (λ k. weightAt k i) (weight-add i) (suc j) (res257 next) (symbols f) (λ k. res257 (shifted 1 f k)) (symbols after)
+        (factor-multiplied R257 (λ k. weightAt k i) (weightAt-add i) (suc j) (res257 next) (symbols f) (λ k. res257 (shifted 1 f k)) (symbols after)
         (ap res257 (a .past (suc j) (omega arith)) ∙ res-zero 257 prime-257)
-        (ap res257 (shifted-zero f 0) ∙ res-zero 257 prime-257)
-        (λ k l. ap res257 (ap (shifted 1 f) (sym (add-one k)) ∙ shifted-next f 0 k))
+        (ap res257 (shifted-zero f) ∙ res-zero 257 prime-257)
+        (λ k l. ap res257 (shifted-suc f k))
         after-symbol
         ∙ vanishes i h (ℕ-discrete i j))
 
     pub building-more : Building (j + 1) next after
     building-more = subst (λ (i : ℕ). Building i next after) (sym (add-one j)) (record {
-      size = same-len-mid 0 (j + 2 - 0) f y length-y ∙ a .size;
+      size = front-length (raised next) (j + 2 - 0) f room y e ∙ a .size;
       power = next-power;
       below = λ k. after-below k (decLt k (j + 2));
       leading = after-leading;

@@ -1,1 +1,1 @@
-pub mod Generator
+pub mod GeneratorPolynomial

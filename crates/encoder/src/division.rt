@@ -1,15 +1,15 @@
 // A row completed at its first m columns by polynomial division. The row is a polynomial whose value at 3^j is check sum j,
 // and a multiple of the generator polynomial has check sums 0. So what is left of the data after division by it has the
 // data's check sums, and stands in the check cells with its sign changed.
-use codec::powers::wide;
 use codec::stages::add_multiple;
+use field257::powers::wide;
 ghost use mathlib.Core.Path.{_≡_};
 ghost use mathlib.Core.Bool.{cond};
 ghost use Prim.Native.Nat.{ℕ, suc, _-_, _%_, _≤_, _<_};
 ghost use lib.Dec.{ltb};
 ghost use lib.ListN.{length, getD};
 ghost use Rattle.columns.specs.Columns.{columnsOf};
-ghost use Rattle.encoder.specs.Generator.{Generator};
+ghost use Rattle.encoder.specs.GeneratorPolynomial.{GeneratorPolynomial};
 ghost use Rattle.frame.specs.Completion.{completed};
 ghost use Rattle.frame.specs.Frame.{checkSum};
 ghost use Rattle.lists.specs.Tabulate.{tabulate};
@@ -32,7 +32,7 @@ fn data_cells(row: &[u16], m: usize) -> [u32; 256]
 // 256 fit beside a symbol.
 fn divide(cells: &mut [u32], generator: &[u16], m: usize)
     requires { ⌜
-        Generator m (now generator) × (m ≤ length (now cells)) × (length (now cells) ≤ 256) × ((k : ℕ) → getD (now cells) k 0 < 65536)
+        GeneratorPolynomial m (now generator) × (m ≤ length (now cells)) × (length (now cells) ≤ 256) × ((k : ℕ) → getD (now cells) k 0 < 65536)
         ⌝ }
     ensures { λ r. ⌜
         ((j : ℕ) → j < m → checkSum m (now (cells .exit)) (suc j) ≡ checkSum (length (now (cells .entry))) (now (cells .entry)) (suc j))
@@ -65,7 +65,7 @@ fn put_negatives(row: &mut [u16], cells: &[u32], m: usize)
 // The row completed at its first m columns, whose generator polynomial is lent.
 pub fn encode_row(generator: &[u16], m: usize, row: &mut [u16])
     requires { ⌜
-        Generator m (now generator) × (m ≤ length (now row)) × (length (now row) ≤ 256)
+        GeneratorPolynomial m (now generator) × (m ≤ length (now row)) × (length (now row) ≤ 256)
         × ((i : ℕ) → m ≤ i → i < length (now row) → getD (now row) i 0 < 257)
         ⌝ }
     ensures { λ r. ⌜ now (row .exit) ≡ completed (length (now (row .entry))) (columnsOf (λ i. ltb i m)) (now (row .entry)) ⌝ }

@@ -1,8 +1,8 @@
 // Frames encoded: their sizes and data cells tested, and their rows encoded one after the other.
 use crate::division::encode_row;
 use crate::generator::generator;
-use codec::powers::wide;
 use codec::symbols::data_below;
+use field257::powers::wide;
 use frame::Shape;
 use refusal::Checked;
 use refusal::Refusal;
@@ -10,7 +10,7 @@ ghost use mathlib.Core.Path.{_≡_};
 ghost use mathlib.Core.Bool.{true};
 ghost use Prim.Native.Nat.{_*_, _≤_};
 ghost use lib.ListN.{length};
-ghost use Rattle.encoder.specs.Generator.{Generator};
+ghost use Rattle.encoder.specs.GeneratorPolynomial.{GeneratorPolynomial};
 ghost use Rattle.frame.specs.Encode.{dataBelow, encoded, encodeTests};
 ghost use Rattle.frame.specs.Shape.{isShape};
 ghost use Rattle.refusal.specs.Order.{firstOf};
@@ -18,8 +18,8 @@ ghost use Rattle.refusal.specs.Outcome.{outcome, outcomeOf};
 
 // The generator polynomial for a check count, where that for another is at hand.
 fn generator_for(held: [u16; 65], count: usize, checks: usize) -> [u16; 65]
-    requires { ⌜ Generator count held × (checks ≤ 64) ⌝ }
-    ensures { λ r. ⌜ Generator checks r ⌝ }
+    requires { ⌜ GeneratorPolynomial count held × (checks ≤ 64) ⌝ }
+    ensures { λ r. ⌜ GeneratorPolynomial checks r ⌝ }
 {
     if checks == count {
         return held;

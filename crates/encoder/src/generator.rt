@@ -1,10 +1,10 @@
 // The generator polynomial of m checks: the product of z - 3^j over j = 1 .. m. It is held with its sign changed, so that
 // dividing by it adds and never subtracts.
-use codec::powers::wide;
+use field257::powers::wide;
 ghost use mathlib.Core.Path.{_≡_};
 ghost use Prim.Native.Nat.{_+_, _-_, _*_, _%_, _≤_, _<_};
 ghost use lib.ListN.{length, getD};
-ghost use Rattle.encoder.specs.Generator.{Generator};
+ghost use Rattle.encoder.specs.GeneratorPolynomial.{GeneratorPolynomial};
 ghost use Rattle.field.specs.Coefficients.{shifted};
 ghost use Rattle.lists.specs.Tabulate.{tabulate};
 
@@ -30,7 +30,7 @@ fn multiply(f: &mut [u16], x: u32)
 // One factor after the other, starting from -1, over the coefficients that are not 0 by then.
 pub fn generator(m: usize) -> [u16; 65]
     requires { ⌜ m ≤ 64 ⌝ }
-    ensures { λ r. ⌜ Generator m r ⌝ }
+    ensures { λ r. ⌜ GeneratorPolynomial m r ⌝ }
 {
     let mut f = [0u16; 65];
     f[0] = 256;

@@ -8,16 +8,15 @@ use Rattle.field.specs.Coefficients.{shifted, reduced, value}
 use Rattle.field.specs.Prime.{noDivisor, isPrime, isModulus}
 use Rattle.lists.specs.Total.{total}
 use Rattle.finder.specs.Finder.{tests, answer, tapsLeft}
-use Rattle.frame.specs.Completion.{without, locatorPolynomial, cleared, completion, completed}
+use Rattle.frame.specs.Completion.{without, cleared, completion, completed}
+use Rattle.field257.specs.LocatorPolynomial.{locatorPolynomial}
 use Rattle.frame.specs.Encode.{eachRow, encoded, dataBelow, encodeTests}
-use Rattle.frame.specs.Frame.{checkSum, checkSums, rowSums, sequences, heldSums, heldSequences, frameTests}
-use Rattle.frame.specs.Powers.{weight}
+use Rattle.frame.specs.Frame.{checkSum, checkSums, rowSums, sequences, heldSums, heldSequences, frameTests, weight}
 use Rattle.frame.specs.Shape.{shapeOf, rowsInRange, columnsInRange, checksInRange, isShape, shapeTests}
 use Rattle.job.specs.Calls.{registerTests, step}
 use Rattle.job.specs.Job.{noColumns, phaseSound, headSound, countsEmpty}
 use Rattle.lists.specs.Tabulate.{tabulate, every, joined}
-use Rattle.register.specs.Algorithm4.{start, replaced, changed, turn, rounds, isAlone, found, foundAlone}
-use Rattle.register.specs.Algorithm4.{step as stepAt}
+use Rattle.register.specs.Algorithm4.{start, replaced, changed, turn, rounds, isAlone, found, foundAlone, step as stepAt}
 use Rattle.register.specs.Register.{discrepancy}
 use Rattle.register.specs.Sequences.{largest, placed, ordered, split}
 use Rattle.examples.specs.Enumeration.{residueLists, doesGenerate, kept, registers}

@@ -1,4 +1,5 @@
 pub mod Binomial
+pub mod BlockSums
 pub mod Bridge
 pub mod Coefficients
 pub mod Divisionless
@@ -8,6 +9,7 @@ pub mod Fits
 pub mod Halving
 pub mod Instance
 pub mod Modulus
+pub mod Multiplication
 pub mod Polynomials
 pub mod Prime257
 pub mod PrimeTest

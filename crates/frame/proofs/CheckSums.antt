@@ -6,7 +6,7 @@ use mathlib.Core.Path.{_≡_, sym, ap, _∙_}
 use mathlib.Core.Logic.{_⊎_, inl, inr}
 use mathlib.Core.Bool.{true, false}
 use mathlib.Core.List.{List}
-use Prim.Native.Nat.{ℕ, suc, _+_, _*_, _%_, _≤_, _<_}
+use Prim.Native.Nat.{ℕ, suc, _+_, _*_, _%_, _^_, _≤_, _<_}
 use native.Mathlib.Nat.{mod-lt}
 use native.Mathlib.Decide.{decLt}
 use native.Mathlib.Omega.{arith}
@@ -14,36 +14,32 @@ use lib.Dec.{lit<}
 use lib.ListN.{length, getD, List·getD-eq-default}
 use lib.Seq.{ext-getD}
 use Rattle.algebra.specs.Ring.{CRing}
-use Rattle.algebra.specs.Sum.{sum, pow}
+use Rattle.algebra.specs.Sum.{sum}
 use Rattle.algebra.proofs.RingLaws.{add-mul, neg-mul, zero-mul, eq-of-sub-zero}
 use Rattle.algebra.proofs.Sums.{sum-ext, sum-add, sum-neg}
 use Rattle.columns.specs.Columns.{has}
 use Rattle.columns.specs.declared.Columns.{Columns}
 use Rattle.columns.proofs.Listing.{by-test, length-listed}
-use Rattle.field.proofs.Bridge.{res-mod, res-mul, res-total}
-use Rattle.lists.proofs.Totals.{total-ext}
+use Rattle.field.specs.Coefficients.{value}
+use Rattle.field.proofs.Bridge.{res-zero, res-mod, res-mul, res-total}
+use Rattle.field.proofs.Remainders.{mul-mod-mod}
+use Rattle.lists.proofs.Totals.{total-ext, total-mod}
 use Rattle.field.proofs.Prime257.{prime-257}
-use Rattle.frame.proofs.Field257.{F257, R257, res257, res-tells}
-use Rattle.frame.proofs.Locators.{locatorAt, locators-distinct, locator-nonzero, firstExponent, res-weight}
-use Rattle.frame.proofs.Members.{size, member, Below, sum-members}
-use Rattle.frame.proofs.Words.{word-zero}
-use Rattle.frame.specs.Frame.{checkSum}
-use Rattle.frame.specs.Powers.{weight}
+use Rattle.field257.specs.Powers.{powerOf3}
+use Rattle.field257.proofs.Accumulation.{power-of-power}
+use Rattle.field257.proofs.Field257.{F257, R257, res257, res-tells, res-tells-zero, symbols, locatorAt}
+use Rattle.field257.proofs.Locators.{locators-distinct, locator-nonzero, power-mod}
+use Rattle.frame.proofs.Weights.{firstExponent, weightAt, res-weight, weight-power}
+use Rattle.field257.proofs.Members.{size, member, Below, sum-members}
+use Rattle.field257.proofs.Words.{word-zero}
+use Rattle.frame.specs.Frame.{checkSum, weight}
 open CRing R257 using (car, zero as 𝟘, add as _⊕_, mul as _⊗_, neg, add-neg)
 
 infixl 60 _⊕_
 infixl 70 _⊗_
--- the power of column i's locator in check sum j + 1
-abbrev pub weightAt : (i j : ℕ) → R257 .car
-weightAt i j = pow R257 (locatorAt i) (firstExponent + j)
-
 -- check sum j + 1 of a row of field elements
 abbrev pub rowSum : (n : ℕ) (d : ℕ → R257 .car) (j : ℕ) → R257 .car
 rowSum n d j = sum R257 n (λ i. d i ⊗ weightAt i j)
-
--- the row in the field
-abbrev pub symbols : List ℕ → ℕ → R257 .car
-symbols x i = res257 (getD x i 0)
 
 pub checkSum-below : (n : ℕ) (x : List ℕ) (j : ℕ) → checkSum n x j < 257
 unfolding checkSum
@@ -102,3 +98,26 @@ module _ (n : ℕ) (J : Columns) (narrow : n ≤ 256) (below : Below n J) where
       kept : (i : ℕ) → has J i ≡ false → Dec (i < n) → getD x i 0 ≡ getD y i 0
       kept i f (yes h) = outside i h f
       kept i f (no past) = List·getD-eq-default x 0 (omega arith) ∙ sym (List·getD-eq-default y 0 (omega arith))
+
+-- ---- single sums
+
+-- a check sum is 0 where it is in the field
+pub sum-is-zero : (n : ℕ) (x : List ℕ) (j : ℕ) → rowSum n (symbols x) j ≡ 𝟘 → checkSum n x (suc j) ≡ 0
+sum-is-zero n x j e = res-tells-zero (checkSum n x (suc j)) (checkSum-below n x (suc j)) (res-checkSum n x j ∙ e)
+
+pub zero-in-field : (n : ℕ) (x : List ℕ) (j : ℕ) → checkSum n x (suc j) ≡ 0 → rowSum n (symbols x) j ≡ 𝟘
+zero-in-field n x j e = sym (res-checkSum n x j) ∙ ap res257 e ∙ res-zero 257 prime-257
+
+-- a check sum is the row's value, as a polynomial, at a power of 3
+pub check-sum-value : (x : List ℕ) (j : ℕ) → value 257 x (powerOf3 j) ≡ checkSum (length x) x j
+unfolding value checkSum
+check-sum-value x j =
+    sym (total-mod (length x) 257 (λ k. getD x k 0 * powerOf3 j ^ k))
+    ∙ ap (λ (k : ℕ). k % 257) (total-ext (length x) (λ k. (getD x k 0 * powerOf3 j ^ k) % 257) (λ k. (getD x k 0 * weight k j) % 257) (λ k h. same k))
+    ∙ total-mod (length x) 257 (λ k. getD x k 0 * weight k j)
+  where
+    same : (k : ℕ) → (getD x k 0 * powerOf3 j ^ k) % 257 ≡ (getD x k 0 * weight k j) % 257
+    same k =
+        sym (mul-mod-mod (getD x k 0) (powerOf3 j ^ k) 257)
+        ∙ ap (λ (w : ℕ). (getD x k 0 * w) % 257) (sym (power-of-power j k) ∙ power-mod (k * j) ∙ sym (weight-power k j))
+        ∙ mul-mod-mod (getD x k 0) (weight k j) 257

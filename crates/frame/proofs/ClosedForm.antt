@@ -23,14 +23,16 @@ use Rattle.field.specs.Residue.{minus, times, inverse, quotient}
 use Rattle.lists.specs.Total.{total}
 use Rattle.field.proofs.Bridge.{res-zero, res-mod, res-mul, res-total, res-minus, res-times, res-inverse, res-quotient}
 use Rattle.field.proofs.Prime257.{prime-257}
-use Rattle.frame.proofs.CheckSums.{weightAt, rowSum, rowSum-members}
-use Rattle.frame.proofs.Field257.{F257, R257, res257}
-use Rattle.frame.proofs.LocatorPolynomial.{length-locatorPolynomial, locator-coefficients, res-value}
-use Rattle.frame.proofs.Locators.{locatorAt, firstExponent, res-locator, res-weight}
-use Rattle.frame.proofs.Members.{size, member, Below, member-has, member-locators-distinct, member-locators-nonzero}
+use Rattle.frame.proofs.Weights.{weightAt, firstExponent, res-weight}
+use Rattle.frame.proofs.CheckSums.{rowSum, rowSum-members}
+use Rattle.field257.proofs.Field257.{F257, R257, res257, locatorAt, res-locator}
+use Rattle.field257.proofs.LocatorPolynomial.{length-locatorPolynomial, locator-coefficients, res-value}
+use Rattle.field257.proofs.Members.{size, member, Below, member-has, member-locators-distinct, member-locators-nonzero}
 use Rattle.frame.proofs.Others.{others, others-size, members-others}
-use Rattle.frame.specs.Completion.{locatorPolynomial, without}
-use Rattle.frame.specs.Powers.{locatorOf, weight}
+use Rattle.field257.specs.LocatorPolynomial.{locatorPolynomial}
+use Rattle.frame.specs.Completion.{without}
+use Rattle.field257.specs.Powers.{locatorOf}
+use Rattle.frame.specs.Frame.{weight}
 open Field F257 using (inv)
 open CRing R257 using (car, zero as 𝟘, add as _⊕_, mul as _⊗_, neg)
 

@@ -10,7 +10,7 @@ use lib.ListN.{length, getD}
 use Rattle.columns.specs.Columns.{has}
 use Rattle.columns.specs.declared.Columns.{Columns}
 use Rattle.frame.proofs.CompletionLaws.{length-completed, completed-kept, completed-below, completed-sums, completed-only}
-use Rattle.frame.proofs.Members.{size, Below}
+use Rattle.field257.proofs.Members.{size, Below}
 use Rattle.frame.proofs.Rows.{row-end, row-cell, length-row, length-eachRow, eachRow-row, same-frames}
 use Rattle.frame.specs.Completion.{completed}
 use Rattle.frame.specs.Encode.{eachRow}

@@ -19,10 +19,10 @@ use Rattle.columns.proofs.Listing.{by-test}
 use Rattle.field.proofs.Bridge.{res-zero}
 use Rattle.field.proofs.Prime257.{prime-257}
 use Rattle.lists.proofs.Tabulated.{length-tabulate, getD-tabulate, getD-tabulate-past}
-use Rattle.frame.proofs.CheckSums.{rowSum, symbols, checkSum-below, res-checkSum, rowSum-sub, same-row}
+use Rattle.frame.proofs.CheckSums.{rowSum, checkSum-below, res-checkSum, rowSum-sub, same-row}
+use Rattle.field257.proofs.Field257.{symbols, R257, res257, res-tells-zero}
 use Rattle.frame.proofs.ClosedForm.{symbols-sum}
-use Rattle.frame.proofs.Field257.{R257, res257, res-tells-zero}
-use Rattle.frame.proofs.Members.{size, Below}
+use Rattle.field257.proofs.Members.{size, Below}
 use Rattle.frame.specs.Completion.{cleared, completion, completed}
 use Rattle.frame.specs.Frame.{checkSum}
 open CRing R257 using (car, zero as 𝟘, add as _⊕_, neg, add-neg)

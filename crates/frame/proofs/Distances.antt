@@ -18,7 +18,7 @@ use Rattle.columns.proofs.Listing.{by-test, length-listed, count-zero, count-ex
 use Rattle.columns.proofs.Marks.{has-columnsOf, has-past, columnsOf-sound, members-columnsOf}
 use Rattle.columns.proofs.Subset.{within-le}
 use Rattle.lists.proofs.Tabulated.{every-at, every-of, every-witness, every-ext}
-use Rattle.frame.proofs.Members.{size, Below}
+use Rattle.field257.proofs.Members.{size, Below}
 use Rattle.frame.proofs.Rows.{same-frames}
 use Rattle.frame.specs.Frame.{cell, differs, distance, differing}
 use Rattle.frame.specs.declared.Shape.{Shape}

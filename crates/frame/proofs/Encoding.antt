@@ -14,7 +14,7 @@ use Rattle.columns.specs.declared.Columns.{Columns}
 use Rattle.columns.proofs.Listing.{length-listed, count-below}
 use Rattle.columns.proofs.Marks.{has-columnsOf, has-past, columnsOf-sound, members-columnsOf}
 use Rattle.frame.proofs.CompletedFrames.{length-completedFrame, completedFrame-kept, completedFrame-below, completedFrame-sums, completedFrame-only}
-use Rattle.frame.proofs.Members.{size, Below}
+use Rattle.field257.proofs.Members.{size, Below}
 use Rattle.frame.proofs.Rows.{cell-place, each-symbol}
 use Rattle.frame.proofs.Shapes.{Ranges}
 use Rattle.frame.specs.Encode.{encoded, OnlyLegal}

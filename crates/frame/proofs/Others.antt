@@ -15,9 +15,8 @@ use Rattle.algebra.specs.Ring.{CRing}
 use Rattle.algebra.proofs.Completion.{Others}
 use Rattle.columns.specs.Columns.{members}
 use Rattle.columns.specs.declared.Columns.{Columns}
-use Rattle.frame.proofs.Field257.{F257, R257}
-use Rattle.frame.proofs.Locators.{locatorAt}
-use Rattle.frame.proofs.Members.{size, member, members-distinct, member-locators-distinct}
+use Rattle.field257.proofs.Field257.{F257, R257, locatorAt}
+use Rattle.field257.proofs.Members.{size, member, members-distinct, member-locators-distinct}
 use Rattle.frame.specs.Completion.{without}
 
 -- entries that all differ from i stay

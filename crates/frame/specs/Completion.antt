@@ -1,29 +1,24 @@
 -- Completing a row at a set of columns: the symbols outside the set are kept, and those in the set become the ones with which the first check sums,
 -- as many as the set has columns, are 0. What the row holds in the set before plays no part.
-use mathlib.Core.Bool.{Bool, cond}
+use mathlib.Core.Bool.{cond}
 use mathlib.Core.List.{List, [], _∷_}
-use Prim.Native.Nat.{ℕ, zero, suc, _+_, _-_, _*_, _%_}
+use Prim.Native.Nat.{ℕ, _-_, _*_, _%_}
 use lib.Dec.{eqb}
 use lib.ListN.{length, getD}
 use Rattle.columns.specs.Columns.{has, members}
 use Rattle.columns.specs.declared.Columns.{Columns}
-use Rattle.field.specs.Coefficients.{reduced, value}
+use Rattle.field.specs.Coefficients.{value}
 use Rattle.field.specs.Residue.{minus, times, inverse, quotient}
 use Rattle.lists.specs.Total.{total}
+use Rattle.field257.specs.LocatorPolynomial.{locatorPolynomial}
+use Rattle.field257.specs.Powers.{locatorOf}
 use Rattle.lists.specs.Tabulate.{tabulate}
-use Rattle.frame.specs.Frame.{checkSum}
-use Rattle.frame.specs.Powers.{locatorOf, weight}
+use Rattle.frame.specs.Frame.{checkSum, weight}
 
 -- the list without its entries that equal i
 unfoldable pub without : ℕ → List ℕ → List ℕ
 without i [] = []
 without i (k ∷ ks) = cond (eqb k i) (without i ks) (k ∷ without i ks)
-
--- the coefficients of the product of 1 − 3^i·x over the columns i of a list
-unfoldable pub locatorPolynomial : List ℕ → List ℕ
-locatorPolynomial [] = 1 ∷ []
-locatorPolynomial (i ∷ is) =
-    let f : List ℕ = locatorPolynomial is in reduced 257 (length f) f (locatorOf i) 1 f
 
 -- the row with 0 in the columns of the set
 unfoldable pub cleared : (n : ℕ) (J : Columns) (x : List ℕ) → List ℕ

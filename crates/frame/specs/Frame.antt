@@ -3,7 +3,7 @@
 use mathlib.Core.Path.{_≡_}
 use mathlib.Core.Bool.{Bool, not, _&&_}
 use mathlib.Core.List.{List, [], _∷_, _++_}
-use Prim.Native.Nat.{ℕ, suc, _+_, _-_, _*_, _%_, _≤_, _<_}
+use Prim.Native.Nat.{ℕ, suc, _+_, _-_, _*_, _%_, _^_, _≤_, _<_}
 use lib.Dec.{ltb, eqb}
 use lib.ListN.{length, getD, take, drop, replicate}
 use Rattle.columns.specs.Columns.{columnsOf}
@@ -12,7 +12,6 @@ use Rattle.columns.specs.declared.Columns.{Columns}
 use Rattle.lists.specs.Total.{total}
 use Rattle.lists.specs.Tabulate.{tabulate, every, joined}
 use Rattle.refusal.specs.Order.{Test}
-use Rattle.frame.specs.Powers.{weight}
 use Rattle.frame.specs.Shape.{checksOf}
 use Rattle.frame.specs.declared.Shape.{Shape}
 
@@ -23,6 +22,10 @@ row n f h = take n (drop (h * n) f)
 -- the symbol of row h at column i
 abbrev pub cell : (n : ℕ) (f : List ℕ) (h i : ℕ) → ℕ
 cell n f h i = getD f (h * n + i) 0
+
+-- what the symbol at column i counts in check sum j: its locator to the power j
+unfoldable pub weight : (i j : ℕ) → ℕ
+weight i j = 3 ^ (i * j)
 
 -- the check sum S_j of a row x of n columns
 unfoldable pub checkSum : (n : ℕ) (x : List ℕ) (j : ℕ) → ℕ

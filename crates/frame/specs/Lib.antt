@@ -2,5 +2,4 @@ pub mod Completion
 pub mod Demands
 pub mod Encode
 pub mod Frame
-pub mod Powers
 pub mod Shape

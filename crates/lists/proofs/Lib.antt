@@ -1,8 +1,11 @@
 pub mod Copy
+pub mod DataCells
 pub mod Entries
 pub mod Filling
 pub mod Joined
+pub mod Padding
 pub mod Parts
 pub mod Tabulated
+pub mod Testing
 pub mod Totals
 pub mod Zeros

@@ -7,7 +7,7 @@ use native.Mathlib.Omega.{arith}
 use lib.Dec.{eqb}
 use lib.ListN.{getD}
 use borrow.Author.Tests.{eq-eqb, ne-eqb}
-use Rattle.codec.proofs.Testing.{Tested, tested-none, tested-pass, tested-fail, tested-all}
+use Rattle.lists.proofs.Testing.{Tested, tested-none, tested-pass, tested-fail, tested-all}
 use Rattle.job.specs.Calls.{sameSums}
 use Rattle.calls.proofs.repair.same_sums.Statement.{statement}
 use Rattle.calls.proofs.repair.same_sums.Tie as tie

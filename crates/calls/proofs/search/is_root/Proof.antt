@@ -4,7 +4,7 @@ use Prim.Native.Nat.{ℕ}
 use denote.Ref.{now}
 use lib.Dec.{eqb}
 use Rattle.field.specs.Coefficients.{value}
-use Rattle.frame.proofs.Locators.{inverse-power}
+use Rattle.field257.proofs.Locators.{inverse-power}
 use borrow.Author.Needs.{needs}
 use Rattle.calls.proofs.search.is_root.Statement.{statement}
 use Rattle.calls.proofs.search.is_root.Tie as tie

@@ -4,7 +4,7 @@ use mathlib.Core.Bool.{Bool, true, false, not, cond}
 use borrow.Author.Tests.{not-true, not-false}
 use Rattle.frame.specs.Shape.{shapeTests}
 use Rattle.refusal.specs.Outcome.{outcome, passed, refused}
-use Rattle.codec.proofs.ShapeTests.{shape-outcome}
+use Rattle.frame.proofs.ShapeTests.{shape-outcome}
 use borrow.Author.Needs.{needs}
 use Rattle.codec.proofs.shape.check_shape.Statement.{statement}
 use Rattle.codec.proofs.shape.check_shape.Tie as tie

@@ -6,7 +6,7 @@ use native.Mathlib.Omega.{arith}
 use lib.ListN.{getD}
 use borrow.Author.Count.{below-none, below-more}
 use Rattle.frame.specs.Shape.{checksInRange}
-use Rattle.codec.proofs.ShapeTests.{countTest, no-check, many-checks, no-data, count-taken, checks-fail, checks-pass}
+use Rattle.frame.proofs.ShapeTests.{countTest, no-check, many-checks, no-data, count-taken, checks-fail, checks-pass}
 use borrow.Author.Needs.{needs}
 use Rattle.codec.proofs.shape.checks_in_range.Statement.{statement}
 use Rattle.codec.proofs.shape.checks_in_range.Tie as tie

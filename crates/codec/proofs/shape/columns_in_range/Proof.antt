@@ -1,6 +1,6 @@
 -- `codec::shape::columns_in_range` meets its contract. Assumes nothing.
 use mathlib.Core.Path.{sym}
-use Rattle.codec.proofs.ShapeTests.{few-columns, many-columns, columns-taken}
+use Rattle.frame.proofs.ShapeTests.{few-columns, many-columns, columns-taken}
 use Rattle.codec.proofs.shape.columns_in_range.Statement.{statement}
 use Rattle.codec.proofs.shape.columns_in_range.Tie as tie
 

@@ -3,7 +3,7 @@ use mathlib.Core.Path.{refl, sym, _∙_}
 use mathlib.Core.Bool.{true, false}
 use native.Mathlib.Omega.{arith}
 use borrow.Author.Tests.{not-true, not-false}
-use Rattle.codec.proofs.ShapeTests.{few-rows, is-shape-by}
+use Rattle.frame.proofs.ShapeTests.{few-rows, is-shape-by}
 use borrow.Author.Needs.{needs}
 use Rattle.codec.proofs.shape.is_shape.Statement.{statement}
 use Rattle.codec.proofs.shape.is_shape.Tie as tie

@@ -1,6 +1,6 @@
 -- `codec::shape::rows_in_range` meets its contract. Assumes nothing.
 use mathlib.Core.Path.{sym}
-use Rattle.codec.proofs.ShapeTests.{no-row, many-rows, rows-taken}
+use Rattle.frame.proofs.ShapeTests.{no-row, many-rows, rows-taken}
 use Rattle.codec.proofs.shape.rows_in_range.Statement.{statement}
 use Rattle.codec.proofs.shape.rows_in_range.Tie as tie
 

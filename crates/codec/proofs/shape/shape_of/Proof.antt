@@ -5,7 +5,7 @@ use native.Mathlib.Omega.{arith}
 use lib.ListN.{length}
 use Rattle.lists.proofs.Copy.{copied, copied-more}
 use Rattle.lists.proofs.Zeros.{zeros}
-use Rattle.codec.proofs.ShapeTests.{shape-held}
+use Rattle.frame.proofs.ShapeTests.{shape-held}
 use Rattle.codec.proofs.shape.shape_of.Statement.{statement}
 use Rattle.codec.proofs.shape.shape_of.Tie as tie
 

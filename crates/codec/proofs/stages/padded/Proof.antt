@@ -5,7 +5,7 @@ use native.Mathlib.Omega.{arith}
 use lib.ListN.{length}
 use Rattle.lists.proofs.Copy.{copied, copied-more}
 use Rattle.lists.proofs.Zeros.{zeros}
-use Rattle.codec.proofs.Padding.{padded-entries}
+use Rattle.lists.proofs.Padding.{padded-entries}
 use Rattle.codec.proofs.stages.padded.Statement.{statement}
 use Rattle.codec.proofs.stages.padded.Tie as tie
 

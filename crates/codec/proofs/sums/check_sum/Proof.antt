@@ -1,6 +1,6 @@
 -- `codec::sums::check_sum` meets its contract. Assumes nothing.
 use mathlib.Core.Path.{_∙_}
-use Rattle.codec.proofs.Accumulation.{check-sum-value}
+use Rattle.frame.proofs.CheckSums.{check-sum-value}
 use borrow.Author.Needs.{needs}
 use Rattle.codec.proofs.sums.check_sum.Statement.{statement}
 use Rattle.codec.proofs.sums.check_sum.Tie as tie

@@ -2,8 +2,8 @@
 use Prim.Native.Nat.{_-_}
 use native.Mathlib.Omega.{arith}
 use lib.ListN.{length}
-use Rattle.codec.proofs.Held.{Held, held-none, held-more, held-all, length-row}
-use Rattle.codec.proofs.RowPlace.{RowPlace, row-place}
+use Rattle.frame.proofs.Held.{Held, held-none, held-more, held-all, length-row}
+use Rattle.frame.proofs.RowPlace.{RowPlace, row-place}
 use borrow.Author.Needs.{needs}
 use Rattle.codec.proofs.sums.frame_sums.Statement.{statement}
 use Rattle.codec.proofs.sums.frame_sums.Tie as tie

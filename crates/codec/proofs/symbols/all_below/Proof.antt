@@ -7,7 +7,7 @@ use native.Mathlib.Omega.{arith}
 use lib.Dec.{ltb}
 use lib.ListN.{length, getD}
 use borrow.Author.Tests.{lt-ltb, le-ltb}
-use Rattle.codec.proofs.Testing.{Tested, tested-none, tested-pass, tested-fail, tested-all}
+use Rattle.lists.proofs.Testing.{Tested, tested-none, tested-pass, tested-fail, tested-all}
 use Rattle.codec.proofs.symbols.all_below.Statement.{statement}
 use Rattle.codec.proofs.symbols.all_below.Tie as tie
 

@@ -6,8 +6,8 @@ use native.Mathlib.Omega.{arith}
 use lib.ListN.{length}
 use borrow.Author.Count.{below-none, below-more}
 use borrow.Author.Tests.{not-true, not-false}
-use Rattle.codec.proofs.FrameTests.{rowTest, row-tested, data-fails, data-passes}
-use Rattle.codec.proofs.RowPlace.{RowPlace, row-place}
+use Rattle.frame.proofs.FrameTests.{rowTest, row-tested, data-fails, data-passes}
+use Rattle.frame.proofs.RowPlace.{RowPlace, row-place}
 use borrow.Author.Needs.{needs}
 use Rattle.codec.proofs.symbols.data_below.Statement.{statement}
 use Rattle.codec.proofs.symbols.data_below.Tie as tie

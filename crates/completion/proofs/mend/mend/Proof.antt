@@ -10,7 +10,7 @@ use Rattle.frame.proofs.HeldSums.{held-length, held-below}
 use Rattle.frame.proofs.Shapes.{shape-ranges}
 use Rattle.completion.proofs.ColumnWeights.{Weighed, weighed-column}
 use Rattle.completion.proofs.MendedFrame.{FrameMending, mending-none, mending-more, mending-all}
-use Rattle.completion.proofs.RowAlone.{row-alone, alone-completed}
+use Rattle.frame.proofs.RowAlone.{row-alone, alone-completed}
 use borrow.Author.Needs.{needs}
 use Rattle.completion.proofs.mend.mend.Statement.{statement}
 use Rattle.completion.proofs.mend.mend.Tie as tie

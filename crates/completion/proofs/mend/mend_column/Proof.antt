@@ -3,9 +3,9 @@ use Prim.Native.Nat.{ℕ, _+_, _-_, _*_, _≤_}
 use native.Mathlib.Omega.{arith}
 use lib.ListN.{length}
 use borrow.Rule.Slice.PartMut.{mid-len}
-use Rattle.codec.proofs.RowPlace.{RowPlace, row-place}
+use Rattle.frame.proofs.RowPlace.{RowPlace, row-place}
 use Rattle.completion.proofs.ColumnMending.{Mended, mended-none, mended-more, mended-all}
-use Rattle.completion.proofs.HeldParts.{part-below}
+use Rattle.frame.proofs.HeldParts.{part-below}
 use borrow.Author.Needs.{needs}
 use Rattle.completion.proofs.mend.mend_column.Statement.{statement}
 use Rattle.completion.proofs.mend.mend_column.Tie as tie

@@ -2,7 +2,7 @@
 use mathlib.Core.Path.{ap, _∙_}
 use Prim.Native.Nat.{ℕ, suc}
 use lib.ListN.{length}
-use Rattle.frame.specs.Powers.{locatorOf}
+use Rattle.field257.specs.Powers.{locatorOf}
 use Rattle.lists.specs.Tabulate.{tabulate}
 use Rattle.lists.proofs.Tabulated.{length-tabulate}
 use Rattle.completion.specs.Weights.{carried}

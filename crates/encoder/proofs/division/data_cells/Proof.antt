@@ -2,7 +2,7 @@
 use Prim.Native.Nat.{_-_}
 use native.Mathlib.Omega.{arith}
 use lib.ListN.{length}
-use Rattle.encoder.proofs.DataCells.{Copied, copied-none, copied-more, copied-all}
+use Rattle.lists.proofs.DataCells.{Copied, copied-none, copied-more, copied-all}
 use borrow.Author.Needs.{needs}
 use Rattle.encoder.proofs.division.data_cells.Statement.{statement}
 use Rattle.encoder.proofs.division.data_cells.Tie as tie

@@ -4,7 +4,7 @@ use Prim.Native.Nat.{_-_}
 use native.Mathlib.Omega.{arith}
 use borrow.Rule.Slice.PartMut.{putMid, same-len-mid}
 use lib.ListN.{length}
-use Rattle.encoder.proofs.Remainder.{length-part, part-small, completed-by-remainder}
+use Rattle.frame.proofs.Remainder.{length-part, part-small, completed-by-remainder}
 use borrow.Author.Needs.{needs}
 use Rattle.encoder.proofs.division.encode_row.Statement.{statement}
 use Rattle.encoder.proofs.division.encode_row.Tie as tie

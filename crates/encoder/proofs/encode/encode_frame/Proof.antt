@@ -4,8 +4,8 @@ use mathlib.Core.Bool.{true, false}
 use native.Mathlib.Omega.{arith}
 use borrow.Author.Tests.{eq-eqb, ne-eqb, not-true, not-false}
 use Rattle.refusal.specs.Outcome.{passed, refused}
-use Rattle.codec.proofs.FrameTests.{by-encode-tests}
-use Rattle.codec.proofs.RowPlace.{frame-small}
+use Rattle.frame.proofs.FrameTests.{by-encode-tests}
+use Rattle.frame.proofs.RowPlace.{frame-small}
 use borrow.Author.Needs.{needs}
 use Rattle.encoder.proofs.encode.encode_frame.Statement.{statement}
 use Rattle.encoder.proofs.encode.encode_frame.Tie as tie

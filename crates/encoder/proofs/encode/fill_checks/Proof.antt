@@ -3,21 +3,22 @@ use mathlib.Core.Path.{ap}
 use Prim.Native.Nat.{_-_}
 use native.Mathlib.Omega.{arith}
 use lib.ListN.{length}
-use Rattle.codec.proofs.RowPlace.{RowPlace, row-place}
+use Rattle.frame.proofs.RowPlace.{RowPlace, row-place}
 use Rattle.frame.specs.Encode.{encoded}
 use Rattle.frame.specs.Shape.{checksOf}
 use Rattle.frame.proofs.Encoding.{firstColumns}
 use Rattle.frame.proofs.Shapes.{shape-ranges}
-use Rattle.encoder.specs.Generator.{Generator}
-use Rattle.encoder.proofs.RowData.{row-small}
-use Rattle.encoder.proofs.RowsCompleted.{RowsCompleted, completed-none, completed-more, completed-all, length-part}
+use Rattle.encoder.specs.GeneratorPolynomial.{GeneratorPolynomial}
+use Rattle.frame.proofs.RowData.{row-small}
+use Rattle.frame.proofs.RowsChanged.{changed-none, changed-all, length-part}
+use Rattle.frame.proofs.RowsCompleted.{RowsCompleted, completed-more}
 use borrow.Author.Needs.{needs}
 use Rattle.encoder.proofs.encode.fill_checks.Statement.{statement}
 use Rattle.encoder.proofs.encode.fill_checks.Tie as tie
 
 abbrev Inv-loop : tie.InvT-loop
 Inv-loop frame₀ s rows columns count₀ held₀ h₀ frame count held h =
-    RowsCompleted columns rows (λ i. firstColumns (checksOf s i)) frame₀ h frame × Generator count held
+    RowsCompleted columns rows (λ i. firstColumns (checksOf s i)) frame₀ h frame × GeneratorPolynomial count held
 
 abbrev μ-loop : tie.MeasureT-loop
 μ-loop frame₀ s rows columns count₀ held₀ h₀ frame count held h = rows - h
@@ -45,7 +46,7 @@ generator-requires c κs =
     omega (arith, c .wide .ensures .0, r .checks 0 (r .rows-least) .most)
 
 loop-holds : tie.Need-loop-holds Inv-loop μ-loop
-loop-holds c = (completed-none _ _ _ _, c .generator .ensures)
+loop-holds c = (changed-none _ _ _ _, c .generator .ensures)
 
 mul-wide : tie.Need-mul-wide Inv-loop μ-loop
 mul-wide c = let p = place c in omega arith
@@ -120,7 +121,7 @@ same-length c = c .before .loop .inv .0 .size
 
 returns : tie.Need-returns Inv-loop μ-loop
 unfolding encoded
-returns c = completed-all _ _ _ _ _ _ (c .before .loop .inv .0) (c .loop-test .left)
+returns c = changed-all _ _ _ _ _ _ (c .before .loop .inv .0) (c .loop-test .left)
 
 pub fill-checks-spec : {M : Type 1} → statement M
 fill-checks-spec =

@@ -1,0 +1,115 @@
+-- `codec::locator::locator_polynomial` meets its contract. Assumes nothing.
+use mathlib.Core.Path.{_≡_, ap, _∙_}
+use mathlib.Core.List.{List}
+use Prim.Native.Nat.{ℕ, _+_, _-_, _≤_}
+use native.Mathlib.Omega.{arith}
+use lib.ListN.{length}
+use borrow.Rule.Slice.PartMut.{midOf, mid-len}
+use Rattle.columns.proofs.Walk.{Walk, walk-start, walk-next, walk-member, walk-end, walk-rises}
+use Rattle.field.specs.Coefficients.{reduced}
+use Rattle.field257.proofs.LocatorBuilding.{Building, building-none, building-more, building-all}
+use borrow.Author.Needs.{needs}
+use Rattle.field257.proofs.locator.locator_polynomial.Statement.{statement}
+use Rattle.field257.proofs.locator.locator_polynomial.Tie as tie
+
+abbrev Inv-loop : tie.InvT-loop
+Inv-loop powers set f₀ e₀ i₀ f e i = (d : ℕ) × (e ≡ d + 1) × Walk set d i × Building set d f
+
+abbrev μ-loop : tie.MeasureT-loop
+μ-loop powers set f₀ e₀ i₀ f e i = 256 - i
+
+-- one coefficient more has its place
+room : (c : tie.In-loop Inv-loop μ-loop) → (1 ≤ c .before .loop .e) × (c .before .loop .e + 1 ≤ 65)
+room c =
+    let (d, e, walk, building) = c .before .loop .inv in
+    let less = walk-member _ _ _ walk (c .loop-test .taken) .0 in
+    let few = c .before .before .before .pre .1 in
+    (omega arith, omega arith)
+
+array-write-f : tie.Need-array-write-f Inv-loop μ-loop
+array-write-f c = omega arith
+
+next-requires : tie.Need-next-requires Inv-loop μ-loop
+next-requires c κs = search needs
+
+loop-holds : tie.Need-loop-holds Inv-loop μ-loop
+loop-holds c = (0, omega arith, walk-start _ _ (c .next .ensures), building-none _)
+
+add-e : tie.Need-add-e Inv-loop μ-loop
+add-e c = let r = room c in omega arith
+
+sub-multiply : tie.Need-sub-multiply Inv-loop μ-loop
+sub-multiply c = let r = room c in omega arith
+
+part-f-start : tie.Need-part-f-start Inv-loop μ-loop
+part-f-start c = let r = room c in omega arith
+
+part-f-end : tie.Need-part-f-end Inv-loop μ-loop
+part-f-end c = let r = room c in omega arith
+
+entry-requires : tie.Need-entry-requires Inv-loop μ-loop
+entry-requires c κs = (c .before .before .before .before .pre .0, c .before .loop-test .taken)
+
+multiply-requires : tie.Need-multiply-requires Inv-loop μ-loop
+multiply-requires c κs =
+    let inside = c .before .before in
+    let at = inside .before in
+    let r = room inside in
+    let n = mid-len 0 (at .loop .e + 1) (at .loop .f) (let s = at .loop .inv .3 .size in omega arith) in
+    omega arith
+
+add-next : tie.Need-add-next Inv-loop μ-loop
+add-next c = omega arith
+
+next-requires-2 : tie.Need-next-requires-2 Inv-loop μ-loop
+next-requires-2 c κs = omega arith
+
+loop-less : tie.Need-loop-less Inv-loop μ-loop
+loop-less c =
+    let inside = c .before .before .before .before .before in
+    let r = walk-rises _ _ _ (inside .before .loop .inv .2) _ (inside .loop-test .taken) (c .next2 .ensures) in
+    let w = c .before in
+    omega arith
+
+loop-again : tie.Need-loop-again Inv-loop μ-loop
+loop-again c =
+    let entered = c .before .before .before in
+    let inside = entered .before .before in
+    let at = inside .before in
+    let set = at .before .before .args .set in
+    let front : List ℕ = midOf 0 (at .loop .e + 1 - 0) (at .loop .f) in
+    let (d, e, walk, building) = at .loop .inv in
+    let taken = inside .loop-test .taken in
+    let (less, here) = walk-member set d (at .loop .i) walk taken in (
+      d + 1,
+      omega arith,
+      walk-next set d (at .loop .i) walk (c .next2 .result) taken (c .next2 .ensures),
+      building-more set d (at .loop .f) building (at .loop .i) (at .loop .e + 1) (c .before .before .multiply .last .0) (at .before .before .pre .1) less here (omega arith)
+          (c .before .before .multiply .ensures ∙ ap (λ (x : ℕ). reduced 257 (length front - 1) front x 1 front) (entered .entry .ensures)),
+    )
+
+returns : tie.Need-returns Inv-loop μ-loop
+returns c =
+    let (d, e, walk, building) = c .before .loop .inv in
+    building-all _ d _ building (walk-end _ _ _ walk (c .loop-test .left))
+
+pub locator-polynomial-spec : {M : Type 1} → statement M
+locator-polynomial-spec =
+    tie.close
+    (tie.spec
+    Inv-loop
+    μ-loop
+    array-write-f
+    next-requires
+    loop-holds
+    add-e
+    sub-multiply
+    part-f-start
+    part-f-end
+    entry-requires
+    multiply-requires
+    add-next
+    next-requires-2
+    loop-less
+    loop-again
+    returns)

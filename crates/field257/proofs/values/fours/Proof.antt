@@ -1,0 +1,169 @@
+-- `codec::values::fours` meets its contract. Assumes nothing.
+use mathlib.Core.Path.{_≡_, ap, _∙_}
+use Prim.Native.Nat.{_+_, _-_, _*_, _%_}
+use native.Mathlib.Omega.{arith}
+use lib.ListN.{getD}
+use Rattle.field257.proofs.Accumulation.{Accumulated, none, more-block, fits, blocks-end}
+use Rattle.field257.proofs.PowerTable.{table-power, table-small}
+use Rattle.field257.specs.Table.{table}
+use Rattle.field257.specs.Powers.{powerOf3}
+use borrow.Author.Needs.{needs}
+use Rattle.field257.proofs.values.fours.Statement.{statement}
+use Rattle.field257.proofs.values.fours.Tie as tie
+
+abbrev Inv-loop : tie.InvT-loop
+Inv-loop powers f step y blocks total₀ place₀ b₀ total place b = Accumulated f step (4 * b) place total
+
+abbrev μ-loop : tie.MeasureT-loop
+μ-loop powers f step y blocks total₀ place₀ b₀ total place b = blocks - b
+
+mul-long : tie.Need-mul-long Inv-loop μ-loop
+mul-long c = let s = c .before .pre .2 in omega arith
+
+element-copy-out-long : tie.Need-element-copy-out-long Inv-loop μ-loop
+element-copy-out-long c = let s = c .before .pre .2 in omega arith
+
+long-requires : tie.Need-long-requires Inv-loop μ-loop
+long-requires c κs = search needs
+
+-- the point
+looked-up : (c : tie.After-long Inv-loop μ-loop) → c .long .result ≡ getD table (c .before .before .before .args .step) 0
+looked-up c =
+    let start = c .before .before .before in
+    c .long .ensures ∙ ap (λ l. getD l (start .args .step) 0) (start .pre .0)
+
+point : (c : tie.After-long Inv-loop μ-loop) → c .long .result ≡ powerOf3 (c .before .before .before .args .step)
+point c = looked-up c ∙ table-power _ (c .before .before .before .pre .2)
+
+loop-holds : tie.Need-loop-holds Inv-loop μ-loop
+loop-holds c = none _ _
+
+mul-k : tie.Need-mul-k Inv-loop μ-loop
+mul-k c = let t = c .loop-test .taken in omega arith
+
+mul-cubic : tie.Need-mul-cubic Inv-loop μ-loop
+mul-cubic c = let t = c .loop-test .taken in omega arith
+
+shared-slice-read-cubic : tie.Need-shared-slice-read-cubic Inv-loop μ-loop
+shared-slice-read-cubic c = let t = c .before .loop-test .taken in omega arith
+
+add-cubic : tie.Need-add-cubic Inv-loop μ-loop
+add-cubic c = let t = c .before .loop-test .taken in omega arith
+
+mul-cubic-2 : tie.Need-mul-cubic-2 Inv-loop μ-loop
+mul-cubic-2 c = let t = c .before .loop-test .taken in omega arith
+
+shared-slice-read-cubic-2 : tie.Need-shared-slice-read-cubic-2 Inv-loop μ-loop
+shared-slice-read-cubic-2 c = let t = c .before .before .loop-test .taken in omega arith
+
+add-cubic-2 : tie.Need-add-cubic-2 Inv-loop μ-loop
+add-cubic-2 c = let t = c .before .before .loop-test .taken in omega arith
+
+mul-cubic-3 : tie.Need-mul-cubic-3 Inv-loop μ-loop
+mul-cubic-3 c = let t = c .before .before .loop-test .taken in omega arith
+
+shared-slice-read-cubic-3 : tie.Need-shared-slice-read-cubic-3 Inv-loop μ-loop
+shared-slice-read-cubic-3 c = let t = c .before .before .before .loop-test .taken in omega arith
+
+add-cubic-3 : tie.Need-add-cubic-3 Inv-loop μ-loop
+add-cubic-3 c = let t = c .before .before .before .loop-test .taken in omega arith
+
+mul-cubic-4 : tie.Need-mul-cubic-4 Inv-loop μ-loop
+mul-cubic-4 c = let t = c .before .before .before .loop-test .taken in omega arith
+
+shared-slice-read-cubic-4 : tie.Need-shared-slice-read-cubic-4 Inv-loop μ-loop
+shared-slice-read-cubic-4 c = let t = c .before .before .before .before .loop-test .taken in omega arith
+
+cubic-requires : tie.Need-cubic-requires Inv-loop μ-loop
+cubic-requires c κs =
+    let made = c .before .before .before .before .before .before in
+    omega (arith, looked-up made, table-small _ (made .before .before .before .pre .2))
+
+mul-long-2 : tie.Need-mul-long-2 Inv-loop μ-loop
+mul-long-2 c = let p = c .before .before .before .before .before .before .loop .inv .place in omega arith
+
+element-copy-out-long-2 : tie.Need-element-copy-out-long-2 Inv-loop μ-loop
+element-copy-out-long-2 c = let p = c .before .before .before .before .before .before .loop .inv .place in omega arith
+
+long-requires-2 : tie.Need-long-requires-2 Inv-loop μ-loop
+long-requires-2 c κs = search needs
+
+-- one block more
+grown : (c : tie.After-long2 Inv-loop μ-loop) →
+    let loop = c .before .before .before .before .before .before .before .before .loop in
+    let args = c .before .before .before .before .before .before .before .before .before .before .before .before .args in
+    Accumulated (args .f .now) (args .step) (4 * (loop .b + 1)) ((loop .place + 4 * args .step) % 256)
+    (loop .total + c .before .before .cubic .result * c .long2 .result)
+grown c =
+    let inside = c .before .before .before .before .before .before .before in
+    let at = inside .before in
+    let made = at .before in
+    let start = made .before .before .before in
+    let part = c .before .before .cubic in
+    more-block (start .args .f .now) (start .args .step) (at .loop .b) (at .loop .place) (at .loop .total) (at .loop .inv) (start .args .powers .now) (start .pre .0)
+    (made .long .result) (part .result) (c .long2 .result) (inside .loop-test .taken) (point made) (part .ensures .0) (part .ensures .1) (c .long2 .ensures)
+
+-- the part of the block times the power looked up
+mul-total : tie.Need-mul-total Inv-loop μ-loop
+mul-total c =
+    let start = c .before .before .before .before .before .before .before .before .before .before .before .before in
+    let g = fits _ _ _ _ _ (grown c) (start .pre .1) in
+    record { fits = omega arith }
+
+add-total : tie.Need-add-total Inv-loop μ-loop
+add-total c =
+    let start = c .before .before .before .before .before .before .before .before .before .before .before .before in
+    fits _ _ _ _ _ (grown c) (start .pre .1)
+
+mul-place : tie.Need-mul-place Inv-loop μ-loop
+mul-place c = omega arith
+
+add-place : tie.Need-add-place Inv-loop μ-loop
+add-place c = omega arith
+
+add-b : tie.Need-add-b Inv-loop μ-loop
+add-b c = omega arith
+
+loop-less : tie.Need-loop-less Inv-loop μ-loop
+loop-less c = let t = c .before .before .before .before .before .before .before .loop-test .taken in omega arith
+
+loop-again : tie.Need-loop-again Inv-loop μ-loop
+loop-again c = grown c
+
+returns : tie.Need-returns Inv-loop μ-loop
+returns c = blocks-end _ _ _ _ _ (c .before .loop .inv) (c .loop-test .left)
+
+pub fours-spec : {M : Type 1} → statement M
+fours-spec =
+    tie.close
+    (tie.spec
+    Inv-loop
+    μ-loop
+    mul-long
+    element-copy-out-long
+    long-requires
+    loop-holds
+    mul-k
+    mul-cubic
+    shared-slice-read-cubic
+    add-cubic
+    mul-cubic-2
+    shared-slice-read-cubic-2
+    add-cubic-2
+    mul-cubic-3
+    shared-slice-read-cubic-3
+    add-cubic-3
+    mul-cubic-4
+    shared-slice-read-cubic-4
+    cubic-requires
+    mul-long-2
+    element-copy-out-long-2
+    long-requires-2
+    mul-total
+    add-total
+    mul-place
+    add-place
+    add-b
+    loop-less
+    loop-again
+    returns)

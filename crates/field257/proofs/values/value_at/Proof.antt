@@ -1,0 +1,110 @@
+-- `codec::values::value_at` meets its contract. Assumes nothing.
+use Prim.Native.Nat.{_+_, _-_, _*_, _/_, _%_, _≤_, _<_}
+use native.Mathlib.Nat.{mod-lt, mul-le-mul}
+use native.Mathlib.Omega.{arith}
+use lib.ListN.{length}
+use Rattle.field257.proofs.Accumulation.{Accumulated, more, fits, finished, blocks-taken}
+use borrow.Author.Needs.{needs}
+use Rattle.field257.proofs.values.value_at.Statement.{statement}
+use Rattle.field257.proofs.values.value_at.Tie as tie
+
+abbrev Inv-loop : tie.InvT-loop
+Inv-loop powers f e step total₀ k₀ place₀ total k place = Accumulated f e k place total
+
+abbrev μ-loop : tie.MeasureT-loop
+μ-loop powers f e step total₀ k₀ place₀ total k place = length f - k
+
+fours-requires : tie.Need-fours-requires Inv-loop μ-loop
+fours-requires c κs = let p = c .before .pre in (p .0, p .1, mod-lt _ (omega arith))
+
+mul-k : tie.Need-mul-k Inv-loop μ-loop
+mul-k c = let n = c .before .before .pre .1 in omega arith
+
+mul-place : tie.Need-mul-place Inv-loop μ-loop
+mul-place c =
+    let n = c .before .before .pre .1 in
+    let r : c .before .before .args .e % 256 < 256 = mod-lt _ (omega arith) in
+    let m = mul-le-mul (let k : 4 * (length (c .before .before .args .f .now) / 4) ≤ 256 = omega arith in k) (let s : c .before .before .args .e % 256 ≤ 256 = omega arith in s) in
+    record { fits = omega arith }
+
+loop-holds : tie.Need-loop-holds Inv-loop μ-loop
+loop-holds c = blocks-taken _ _ _ (c .fours .ensures .0) (c .fours .ensures .1)
+
+mul-times : tie.Need-mul-times Inv-loop μ-loop
+mul-times c = omega arith
+
+shared-slice-read-times : tie.Need-shared-slice-read-times Inv-loop μ-loop
+shared-slice-read-times c = omega arith
+
+mul-times-2 : tie.Need-mul-times-2 Inv-loop μ-loop
+mul-times-2 c = let p = c .before .before .loop .inv .place in omega arith
+
+element-copy-out-times : tie.Need-element-copy-out-times Inv-loop μ-loop
+element-copy-out-times c = let p = c .before .before .loop .inv .place in omega arith
+
+times-requires : tie.Need-times-requires Inv-loop μ-loop
+times-requires c κs = search needs
+
+-- one coefficient more
+grown : (c : tie.After-times Inv-loop μ-loop) →
+    let loop = c .before .before .before .before .loop in
+    let args = c .before .before .before .before .before .before .before .args in
+    Accumulated (args .f .now) (args .e) (loop .k + 1) ((loop .place + args .e % 256) % 256) (loop .total + c .times .result)
+grown c =
+    let at = c .before .before .before .before in
+    let known = at .before .before in
+    let start = known .before in
+    more (start .args .f .now) (start .args .e) (at .loop .k) (at .loop .place) (at .loop .total) (at .loop .inv) (start .args .powers .now) (start .pre .0)
+    (c .times .result) (c .before .before .before .loop-test .taken) (known .shared-slice-known .given (at .loop .k)) (c .times .ensures)
+
+cast-total : tie.Need-cast-total Inv-loop μ-loop
+cast-total c = omega arith
+
+add-total : tie.Need-add-total Inv-loop μ-loop
+add-total c =
+    let start = c .before .before .before .before .before .before .before in
+    fits _ _ _ _ _ (grown c) (start .pre .1)
+
+add-place : tie.Need-add-place Inv-loop μ-loop
+add-place c = omega arith
+
+add-k : tie.Need-add-k Inv-loop μ-loop
+add-k c = omega arith
+
+loop-less : tie.Need-loop-less Inv-loop μ-loop
+loop-less c = omega arith
+
+loop-again : tie.Need-loop-again Inv-loop μ-loop
+loop-again c = grown c
+
+cast-result : tie.Need-cast-result Inv-loop μ-loop
+cast-result c = omega arith
+
+returns : tie.Need-returns Inv-loop μ-loop
+returns c =
+    let start = c .before .before .before .before in
+    (finished (start .args .f .now) (start .args .e) _ _ _ (c .before .loop .inv) (c .loop-test .left), mod-lt _ (omega arith))
+
+pub value-at-spec : {M : Type 1} → statement M
+value-at-spec =
+    tie.close
+    (tie.spec
+    Inv-loop
+    μ-loop
+    fours-requires
+    mul-k
+    mul-place
+    loop-holds
+    mul-times
+    shared-slice-read-times
+    mul-times-2
+    element-copy-out-times
+    times-requires
+    cast-total
+    add-total
+    add-place
+    add-k
+    loop-less
+    loop-again
+    cast-result
+    returns)

@@ -1,0 +1,4 @@
+pub mod Inverses
+pub mod LocatorPolynomial
+pub mod Powers
+pub mod Table

@@ -1,0 +1,5 @@
+// The field of 257: powers of 3, inverses, values of polynomials, locator polynomials.
+pub mod inverses;
+pub mod locator;
+pub mod powers;
+pub mod values;

@@ -1,0 +1,84 @@
+// Values of polynomials at powers of 3.
+ghost use mathlib.Core.Path.{_≡_};
+ghost use Prim.Native.Nat.{_+_, _*_, _/_, _%_, _^_, _≤_, _<_};
+ghost use lib.ListN.{length, getD};
+ghost use Rattle.field257.specs.Table.{table};
+ghost use Rattle.field.specs.Coefficients.{value};
+ghost use Rattle.lists.specs.Total.{total};
+ghost use Rattle.field257.specs.Powers.{powerOf3};
+
+// The whole product.
+pub fn times(a: u16, b: u16) -> u32
+    ensures { λ r. ⌜ r ≡ a * b ⌝ }
+{
+    (a as u32) * (b as u32)
+}
+
+fn long(x: u16) -> u64
+    ensures { λ r. ⌜ r ≡ x ⌝ }
+{
+    x as u64
+}
+
+// A coefficient and, above it, the value at y of those that follow.
+fn above(a: u16, y: u64, rest: u64) -> u64
+    requires { ⌜ (y ≤ 256) × (rest ≤ 1099511627776) ⌝ }
+    ensures equals { λ r. ⌜ r ≡ a + y * rest ⌝ }
+    ensures bounded { λ r. ⌜ r ≤ 65535 + 256 * rest ⌝ }
+{
+    long(a) + y * rest
+}
+
+// The value at y of a polynomial of four coefficients, not reduced.
+fn cubic(a: u16, b: u16, c: u16, d: u16, y: u64) -> u64
+    requires { ⌜ y ≤ 256 ⌝ }
+    ensures equals { λ r. ⌜ r ≡ a + y * (b + y * (c + y * d)) ⌝ }
+    ensures bounded { λ r. ⌜ r ≤ 4398046511104 ⌝ }
+{
+    let two = above(c, y, long(d));
+    let three = above(b, y, two);
+    above(a, y, three)
+}
+
+// What the coefficients up to the last multiple of four add to the value at 3^step, not reduced: one power of 3 is looked up for
+// four of them.
+fn fours(powers: &[u16; 256], f: &[u16], step: usize) -> u64
+    requires { ⌜ (now powers ≡ table) × (length (now f) ≤ 256) × (step < 256) ⌝ }
+    ensures equals { λ r. ⌜
+        r % 257 ≡ total (4 * (length (now (f .entry)) / 4)) (λ k. getD (now (f .entry)) k 0 * powerOf3 step ^ k) % 257
+        ⌝ }
+    ensures bounded { λ r. ⌜ r ≤ 4 * (length (now (f .entry)) / 4) * 562949953421312 ⌝ }
+{
+    let y = long(powers[step]);
+    let blocks = f.len() / 4;
+    let mut total: u64 = 0;
+    let mut place: usize = 0;
+    let mut b = 0;
+    while b < blocks {
+        let k = 4 * b;
+        let part = cubic(f[k], f[k + 1], f[k + 2], f[k + 3], y);
+        total += part * long(powers[place]);
+        place = (place + 4 * step) % 256;
+        b += 1;
+    }
+    total
+}
+
+// The value at 3^e of the polynomial with the coefficients f. The place of the next power in the table is kept modulo 256,
+// since the powers of 3 come round; the sum fits 64 bits, so that it is reduced once.
+pub fn value_at(powers: &[u16; 256], f: &[u16], e: usize) -> u16
+    requires { ⌜ (now powers ≡ table) × (length (now f) ≤ 256) ⌝ }
+    ensures equals { λ r. ⌜ r ≡ value 257 (now (f .entry)) (powerOf3 e) ⌝ }
+    ensures below { λ r. ⌜ r < 257 ⌝ }
+{
+    let step = e % 256;
+    let mut total = fours(powers, f, step);
+    let mut k = 4 * (f.len() / 4);
+    let mut place = (k * step) % 256;
+    while k < f.len() {
+        total += times(f[k], powers[place]) as u64;
+        place = (place + step) % 256;
+        k += 1;
+    }
+    (total % 257) as u16
+}
