@@ -6,12 +6,14 @@ pub mod Demands
 pub mod Distances
 pub mod Encoding
 pub mod Field257
+pub mod HeldEntries
 pub mod HeldSequences
 pub mod HeldSums
 pub mod LocatorPolynomial
 pub mod Locators
 pub mod Members
 pub mod Others
+pub mod Padded
 pub mod Reasons
 pub mod Rows
 pub mod Shapes

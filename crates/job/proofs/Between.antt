@@ -1,12 +1,11 @@
 -- Encodes, and calls refused by numbers that are not late, leave the job as it is.
--- Assumes nothing.
 use mathlib.Core.Path.{_≡_, refl, ap, subst⁻¹, _∙_}
 use mathlib.Core.Logic.{_⊎_, inl, inr}
 use mathlib.Core.Bool.{Bool, cond}
 use mathlib.Core.List.{List, [], _∷_}
 use Rattle.job.specs.Calls.{Call, encode, reshaped, step}
-use Rattle.job.specs.Demands.{runFrom, Between, IsEncode, RefusedEarly}
 use Rattle.job.specs.Job.{Job}
+use Rattle.job.specs.Runs.{runFrom, Between, IsEncode, RefusedEarly}
 use Rattle.job.proofs.AfterRefusal.{left}
 use Rattle.job.proofs.Cases.{by-call}
 

@@ -3,8 +3,11 @@ pub mod Between
 pub mod Cases
 pub mod Demands
 pub mod Forms
+pub mod LastShape
+pub mod Left
 pub mod Locating
 pub mod NoPart
+pub mod OtherSums
 pub mod Reasons
 pub mod Refusals
 pub mod Repairing
