@@ -6,6 +6,7 @@ pub mod Demands
 pub mod Distances
 pub mod Encoding
 pub mod Field257
+pub mod GivenShapes
 pub mod HeldEntries
 pub mod HeldSequences
 pub mod HeldSums

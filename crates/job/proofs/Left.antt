@@ -10,6 +10,7 @@ use Rattle.decoding.specs.Locating.{rowsReach}
 use Rattle.frame.specs.Frame.{heldSums}
 use Rattle.frame.specs.Shape.{isShape, checksOf, shapeOf, shapeTests}
 use Rattle.frame.specs.declared.Shape.{Shape}
+use Rattle.frame.proofs.GivenShapes.{given-checks, no-checks, eight-places}
 use Rattle.frame.proofs.HeldEntries.{held-entry, held-rest}
 use Rattle.frame.proofs.HeldSums.{held-length}
 use Rattle.frame.proofs.Padded.{padded-entry, padded-length}
@@ -24,9 +25,9 @@ unfolding shapeOf
 shape-given n checks p = record {
   rows = refl;
   columns = refl;
-  each = λ h inside. padded-entry checks (8 - length checks) h;
-  rest = λ h past. padded-entry checks (8 - length checks) h ∙ List·getD-eq-default checks 0 past;
-  places = padded-length checks 8 (shape-ranges (shapeOf n checks) (shape-passes n checks p) .rows-most);
+  each = given-checks n checks;
+  rest = no-checks n checks;
+  places = eight-places n checks (shape-ranges (shapeOf n checks) (shape-passes n checks p) .rows-most);
 }
 
 pub sums-held : (s : Shape) (f : List ℕ) → isShape s ≡ true → HoldsSums s f (heldSums s f)
