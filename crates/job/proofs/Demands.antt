@@ -18,7 +18,7 @@ use Rattle.refusal.specs.Outcome.{passed}
 use Rattle.refusal.proofs.Orders.{Pass, pass-otherwise}
 use Rattle.register.specs.Register.{Shortest, Alone}
 use Rattle.job.specs.Calls.{Call, shape, encode, locate, repair, done, columns, refused, Outcome, describe, step, repairs}
-use Rattle.job.specs.Demands.{ShapeTakes, Encoded, Mended, Found, LocateExact, ChecksDiffer, OthersRefused, DamageMended, Demand2, Demand3}
+use Rattle.job.specs.Demands.{ShapeGives, Encoded, Mended, Found, LocateExact, CheckSumsDiffer, RepairExact, DamageMended, Demand2, Demand3}
 use Rattle.job.specs.Job.{Arrays, emptyJob, isEmpty, lengthOf}
 use Rattle.job.specs.Left.{Given, LeftShaped}
 use Rattle.job.specs.Refusals.{LegalAt}
@@ -77,8 +77,8 @@ module _ (a : Arrays) (calls : List Call) (f : List ℕ) where
         },
       ))
 
-shape-takes : ShapeTakes
-shape-takes a calls n checks =
+shape-gives : ShapeGives
+shape-gives a calls n checks =
     by-call (run a calls) (shape n checks)
     (λ o. Taken o → (s : Shape) × Given n checks s × (o .answer ≡ done) × LeftShaped s (run a calls .arrays) (o .job))
     (λ k m taken. absurd (taken (k, refl))) (λ k p m. absurd m) (λ p q taken. (
@@ -131,10 +131,10 @@ module _ (a : Arrays) (before : List Call) (s : Shape) (f : List ℕ) (last : la
       (by-call (run a before) (locate f) (λ o. Taken o → Locates (run a before .head .shape) f) (λ k m t. absurd (t (k, refl)))
       (λ k p m t. absurd (t (k, refl))) (λ p q t. register-passes _ f (frame-passes _ f (p .1)) q))
 
-others-refused : OthersRefused
-others-refused a before between s f g last taken kept w =
+repair-exact : RepairExact
+repair-exact a before between s f g last taken kept w =
     let l : Locates s g = locates a before s g last taken in
-    subst⁻¹ (λ j. (IsRefused (step j (repair f)) ↔ ChecksDiffer s f g) × ((step j (repair f) .answer ≡ refused 23) ↔ ChecksDiffer s f g))
+    subst⁻¹ (λ j. (IsRefused (step j (repair f)) ↔ CheckSumsDiffer s f g) × ((step j (repair f) .answer ≡ refused 23) ↔ CheckSumsDiffer s f g))
     (still-located a before s g last l between kept)
     (refused-where-differ s (run a before .arrays) f g (shaped-so a before s g last) l w)
 
@@ -156,11 +156,11 @@ pub demand-3 : Demand3
 demand-3 = record {
   reached = reached;
   shape-is-last = shape-is-last;
-  shape-takes = shape-takes;
+  shape-gives = shape-gives;
   locate-finds = finds;
   locate-exact = locate-exact;
   repair-mends = mends;
-  others-refused = others-refused;
+  repair-exact = repair-exact;
   damage-mended = damage-mended;
   arrays = play-no-part;
 }

@@ -10,7 +10,7 @@ use Rattle.job.specs.Calls.{Call, shape, encode, locate, repair, step}
 use Rattle.job.specs.Demands.{ShapeIsLast}
 use Rattle.job.specs.Job.{Arrays, Job, emptyJob}
 use Rattle.job.specs.Left.{Given}
-use Rattle.job.specs.Runs.{run, shapeAfter, lastShape, lastShapeFrom, IsRefused, Taken, IsShape, NoneShapes, afterCalls}
+use Rattle.job.specs.Runs.{run, shapeAfter, lastShape, lastShapeFrom, IsRefused, Taken, IsShapeCall, NoneShapes, afterCalls}
 use Rattle.job.proofs.AfterRefusal.{gives-no-refusal}
 use Rattle.job.proofs.Cases.{by-call, step-gives}
 use Rattle.job.proofs.Left.{shape-given}
@@ -20,7 +20,7 @@ taken-shape j n checks =
     by-call j (shape n checks) (λ o. Taken o → Pass (shapeTests n checks)) (λ k a taken. absurd (taken (k, refl))) (λ k p a. absurd a) (λ p q taken. p)
 
 -- a call that is no shape call, or a refused one, leaves the shape
-kept-shape : (s : Option Shape) (j : Job) (c : Call) → (IsShape c → IsRefused (step j c)) → shapeAfter s c ≡ s
+kept-shape : (s : Option Shape) (j : Job) (c : Call) → (IsShapeCall c → IsRefused (step j c)) → shapeAfter s c ≡ s
 kept-shape s j (shape n checks) refusal =
     by-tests (λ k. s) (some (shapeOf n checks)) (λ o. o ≡ s) (shapeTests n checks) (λ k a. refl)
     (λ p.

@@ -19,7 +19,7 @@ use Rattle.lists.specs.Tabulate.{every}
 use Rattle.lists.proofs.Tabulated.{every-at, every-witness}
 use Rattle.refusal.proofs.Orders.{pass-none}
 use Rattle.job.specs.Calls.{repair, refused, step, sameSums}
-use Rattle.job.specs.Demands.{ChecksDiffer}
+use Rattle.job.specs.Demands.{CheckSumsDiffer}
 use Rattle.job.specs.Job.{Arrays, Job, sound}
 use Rattle.job.specs.Left.{sumOf}
 use Rattle.job.specs.Refusals.{SumsDiffer}
@@ -34,7 +34,7 @@ use Rattle.job.proofs.Soundness.{form-sound}
 -- ---- the check sums of two frames
 
 module _ (s : Shape) (f g : List ℕ) where
-  differ-held : ChecksDiffer s f g → heldSums s f ≡ heldSums s g → ⊥
+  differ-held : CheckSumsDiffer s f g → heldSums s f ≡ heldSums s g → ⊥
   differ-held (h, zero, inside, first, last, differ) e = absurd (let z : ⊥ = omega arith in z)
   differ-held (h, suc j, inside, first, last, differ) e =
       differ (sym (held-entry s f h j inside last) ∙ ap (λ (x : List ℕ). getD x (sumsBefore s h + j) 0) e ∙ held-entry s g h j inside last)
@@ -45,11 +45,11 @@ module _ (s : Shape) (f g : List ℕ) where
   allSame : Bool
   allSame = every (s .rows) (λ h. every (checksOf s h) (sameAt h))
 
-  held-differ : (heldSums s f ≡ heldSums s g → ⊥) → ChecksDiffer s f g
+  held-differ : (heldSums s f ≡ heldSums s g → ⊥) → CheckSumsDiffer s f g
   unfolding allSame sameAt
   held-differ other = pick allSame refl
     where
-      pick : (b : Bool) → every (s .rows) (λ h. every (checksOf s h) (sameAt h)) ≡ b → ChecksDiffer s f g
+      pick : (b : Bool) → every (s .rows) (λ h. every (checksOf s h) (sameAt h)) ≡ b → CheckSumsDiffer s f g
       pick true e = absurd (other (same-held s f g (λ h j inside short. eqb-true _ _ (every-at (checksOf s h) _ (every-at (s .rows) _ e h inside) j short))))
       pick false e =
           let (h, inside, d) = every-witness (s .rows) (λ h. every (checksOf s h) (sameAt h)) e in
@@ -63,7 +63,7 @@ module _ (s : Shape) (a : Arrays) (f g : List ℕ) (t : isShape s ≡ true) (l :
   j = locatedFrame s a g
 
   abbrev Refuses : Type 0
-  Refuses = (IsRefused (step j (repair f)) ↔ ChecksDiffer s f g) × ((step j (repair f) .answer ≡ refused 23) ↔ ChecksDiffer s f g)
+  Refuses = (IsRefused (step j (repair f)) ↔ CheckSumsDiffer s f g) × ((step j (repair f) .answer ≡ refused 23) ↔ CheckSumsDiffer s f g)
 
   taken : heldSums s f ≡ heldSums s g → IsRefused (step j (repair f)) → ⊥
   taken e =

@@ -47,8 +47,8 @@ pub record ShapeIsLast : Type 0 where
 -- ---- shape and encode
 
 -- A shape call that is not refused leaves the job shaped, with the rows, columns and checks that are given.
-abbrev pub ShapeTakes : Type 0
-ShapeTakes =
+abbrev pub ShapeGives : Type 0
+ShapeGives =
     (a : Arrays) (calls : List Call) (n : ℕ) (checks : List ℕ) → Taken (afterCalls a calls (shape n checks)) →
     (s : Shape) × Given n checks s × (afterCalls a calls (shape n checks) .answer ≡ done) ×
     LeftShaped s (run a calls .arrays) (afterCalls a calls (shape n checks) .job)
@@ -109,18 +109,18 @@ RepairMends =
     Mended s f c (run a calls) (afterCalls a calls (repair f))
 
 -- some check sum of f differs from that of g
-abbrev pub ChecksDiffer : Shape → (f g : List ℕ) → Type 0
-ChecksDiffer s f g =
+abbrev pub CheckSumsDiffer : Shape → (f g : List ℕ) → Type 0
+CheckSumsDiffer s f g =
     (h : ℕ) × (j : ℕ) × (h < s .rows) × (1 ≤ j) × (j ≤ checksOf s h) × (sumOf s f h j ≡ sumOf s g h j → ⊥)
 
 -- After a locate of g that is not refused, with nothing but encodes and calls refused early since then, a repair of a well-formed f is refused exactly when
 -- some check sum of f differs from that of g, and then by 23.
-abbrev pub OthersRefused : Type 0
-OthersRefused =
+abbrev pub RepairExact : Type 0
+RepairExact =
     (a : Arrays) (before between : List Call) (s : Shape) (f g : List ℕ) → lastShape before ≡ some s →
     Taken (afterCalls a before (locate g)) → Between (run a (before ++ (locate g ∷ []))) between → WellFormed s f →
-    (IsRefused (afterCalls a (before ++ (locate g ∷ between)) (repair f)) ↔ ChecksDiffer s f g) ×
-    ((afterCalls a (before ++ (locate g ∷ between)) (repair f) .answer ≡ refused 23) ↔ ChecksDiffer s f g)
+    (IsRefused (afterCalls a (before ++ (locate g ∷ between)) (repair f)) ↔ CheckSumsDiffer s f g) ×
+    ((afterCalls a (before ++ (locate g ∷ between)) (repair f) .answer ≡ refused 23) ↔ CheckSumsDiffer s f g)
 
 -- Demand 3, third part. A legal frame g was sent, and f is what damage made of it: well-formed, and at most half the smallest check count of columns altered.
 -- Then locating f is not refused, nor is a later repair of f with nothing between them but encodes and calls refused early; the repair leaves g.
@@ -159,10 +159,10 @@ pub record Demand2 : Type 0 where
 pub record Demand3 : Type 0 where
   pub reached : (a : Arrays) (calls : List Call) → Reached a calls
   pub shape-is-last : ShapeIsLast
-  pub shape-takes : ShapeTakes
+  pub shape-gives : ShapeGives
   pub locate-finds : LocateFinds
   pub locate-exact : LocateExact
   pub repair-mends : RepairMends
-  pub others-refused : OthersRefused
+  pub repair-exact : RepairExact
   pub damage-mended : DamageMended
   pub arrays : ArraysPlayNoPart

@@ -1,5 +1,5 @@
--- What a call that is not refused leaves in the job, place by place and not by the definitions that the calls compute with: the shape given, the check sums
--- of the frame located, the taps of its register, the marks.
+-- What calls leave in the job, place by place and not by the definitions that they compute with: the shape given, the check sums of the frame located, the
+-- taps of its register, the marks.
 use mathlib.Core.Path.{_≡_}
 use mathlib.Core.Bool.{true}
 use mathlib.Core.List.{List}
@@ -20,7 +20,7 @@ pub record Given (n : ℕ) (checks : List ℕ) (s : Shape) : Type 0 where
   pub rest : (h : ℕ) → length checks ≤ h → checksOf s h ≡ 0
   pub places : length (s .checks) ≡ 8
 
--- the job is shaped, nothing is marked, and the arrays are those before
+-- the job is shaped, with the shape s; nothing is marked, and the arrays are as before
 pub record LeftShaped (s : Shape) (before : Arrays) (j : Job) : Type 0 where
   pub phase : j .head .phase ≡ Shaped
   pub shape : j .head .shape ≡ s

@@ -50,13 +50,13 @@ lastShape calls = lastShapeFrom none calls
 
 -- ---- calls that change little
 
-abbrev pub IsShape : Call → Type 0
-IsShape c = (n : ℕ) × (checks : List ℕ) × (c ≡ shape n checks)
+abbrev pub IsShapeCall : Call → Type 0
+IsShapeCall c = (n : ℕ) × (checks : List ℕ) × (c ≡ shape n checks)
 
 -- calls from the job j on, each shape call among them refused
 abbrev pub NoneShapes : Job → List Call → Type 0
 NoneShapes j [] = Unit {0}
-NoneShapes j (c ∷ cs) = (IsShape c → IsRefused (step j c)) × NoneShapes (step j c .job) cs
+NoneShapes j (c ∷ cs) = (IsShapeCall c → IsRefused (step j c)) × NoneShapes (step j c .job) cs
 
 abbrev pub IsEncode : Call → Type 0
 IsEncode c = (f : List ℕ) × (c ≡ encode f)
