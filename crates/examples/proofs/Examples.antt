@@ -1,6 +1,5 @@
--- The marked examples of document 01 are what the definitions compute. Assumes nothing.
-use mathlib.Core.Path.{_≡_, refl}
-use mathlib.Core.List.{map}
+-- The marked examples and the literals are what the definitions compute.
+use mathlib.Core.Path.{refl}
 use Rattle.columns.specs.Columns.{columnsOf, has, number}
 use Rattle.columns.specs.Listed.{count, listed}
 use Rattle.decoding.specs.Locating.{sizeOf, tapsOf, aloneOf, rowsReach, named, namedColumns, namesAll}
@@ -20,8 +19,17 @@ use Rattle.register.specs.Algorithm4.{start, replaced, changed, turn, rounds, i
 use Rattle.register.specs.Register.{discrepancy}
 use Rattle.register.specs.Sequences.{largest, placed, ordered, split}
 use Rattle.examples.specs.Enumeration.{residueLists, doesGenerate, kept, registers}
-use Rattle.examples.specs.Examples.{lengthOf, computed, table}
+use Rattle.examples.specs.Examples.{lengthOf, computed, table, Examples}
+use Rattle.examples.specs.Literals.{marked, refusals, Literals}
 
-pub examples : map computed table ≡ table
-unfolding table computed lengthOf registers kept doesGenerate residueLists split ordered placed largest discrepancy stepAt start replaced changed turn rounds isAlone found foundAlone tabulate every joined noColumns phaseSound headSound countsEmpty step registerTests shapeOf rowsInRange columnsInRange checksInRange isShape shapeTests weight checkSum checkSums rowSums sequences heldSums heldSequences frameTests eachRow encoded dataBelow encodeTests without locatorPolynomial cleared completion completed tests answer tapsLeft total noDivisor isPrime isModulus shifted reduced value sizeOf tapsOf aloneOf rowsReach named namedColumns namesAll count listed columnsOf has number
+pub examples : Examples
+unfolding table computed lengthOf registers kept doesGenerate residueLists split ordered placed largest discrepancy stepAt start replaced changed turn
+    rounds isAlone found foundAlone tabulate every joined noColumns phaseSound headSound countsEmpty step registerTests shapeOf rowsInRange
+    columnsInRange checksInRange isShape shapeTests weight checkSum checkSums rowSums sequences heldSums heldSequences frameTests eachRow encoded
+    dataBelow encodeTests without locatorPolynomial cleared completion completed tests answer tapsLeft total noDivisor isPrime isModulus shifted
+    reduced value sizeOf tapsOf aloneOf rowsReach named namedColumns namesAll count listed columnsOf has number
 examples = refl
+
+pub literals : Literals
+unfolding marked refusals noColumns columnsOf has number listed
+literals = record { words = refl; columns = refl; none = refl; numbers = refl }

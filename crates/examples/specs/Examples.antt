@@ -1,7 +1,9 @@
--- The marked examples A to K of document 01 as one table, with everything that it says of them. An entry holds what is given and what comes of it;
--- `computed` makes anew what comes of it, by the definitions of the finder and of the calls. The theorem, in proofs/Examples.antt, is that the table stays as it is.
+-- The marked examples (docs/SPECIFICATION.md, "Examples") as one table, with everything that is said of them. An entry holds what is given and what comes of
+-- it; `computed` makes anew what comes of it, by the definitions of the finder and of the calls. The theorem, in proofs/Examples.antt, is that the table stays
+-- as it is.
+use mathlib.Core.Path.{_≡_}
 use mathlib.Core.Bool.{Bool, true, false}
-use mathlib.Core.List.{List, [], _∷_, map}
+use mathlib.Core.List.{List, [], _∷_, _++_, map}
 use Prim.Native.Nat.{ℕ, suc, _+_}
 use lib.ListN.{length, replicate, take}
 use Rattle.columns.specs.Columns.{members}
@@ -52,7 +54,8 @@ table =
     ([] ∷ [] ∷ ((1 ∷ 0 ∷ 1 ∷ []) ∷ (1 ∷ 1 ∷ 4 ∷ []) ∷ (1 ∷ 2 ∷ 2 ∷ []) ∷ (1 ∷ 3 ∷ 0 ∷ []) ∷ (1 ∷ 4 ∷ 3 ∷ []) ∷ []) ∷ []) ∷
     -- C
     register 2 ((0 ∷ 0 ∷ 1 ∷ []) ∷ []) (Finder.register 3 false) (1 ∷ 0 ∷ 0 ∷ 0 ∷ [])
-    ([] ∷ [] ∷ [] ∷ ((1 ∷ 0 ∷ 0 ∷ 0 ∷ []) ∷ (1 ∷ 0 ∷ 0 ∷ 1 ∷ []) ∷ (1 ∷ 0 ∷ 1 ∷ 0 ∷ []) ∷ (1 ∷ 0 ∷ 1 ∷ 1 ∷ []) ∷ (1 ∷ 1 ∷ 0 ∷ 0 ∷ []) ∷ (1 ∷ 1 ∷ 0 ∷ 1 ∷ []) ∷ (1 ∷ 1 ∷ 1 ∷ 0 ∷ []) ∷ (1 ∷ 1 ∷ 1 ∷ 1 ∷ []) ∷ []) ∷ []) ∷
+    ([] ∷ [] ∷ [] ∷ ((1 ∷ 0 ∷ 0 ∷ 0 ∷ []) ∷ (1 ∷ 0 ∷ 0 ∷ 1 ∷ []) ∷ (1 ∷ 0 ∷ 1 ∷ 0 ∷ []) ∷ (1 ∷ 0 ∷ 1 ∷ 1 ∷ []) ∷
+    (1 ∷ 1 ∷ 0 ∷ 0 ∷ []) ∷ (1 ∷ 1 ∷ 0 ∷ 1 ∷ []) ∷ (1 ∷ 1 ∷ 1 ∷ 0 ∷ []) ∷ (1 ∷ 1 ∷ 1 ∷ 1 ∷ []) ∷ []) ∷ []) ∷
     -- D
     register 7 ((0 ∷ 0 ∷ 0 ∷ []) ∷ [] ∷ []) (Finder.register 0 true) (1 ∷ [])
     (((1 ∷ []) ∷ []) ∷ []) ∷
@@ -62,6 +65,13 @@ table =
     -- F
     register 2 ((1 ∷ 0 ∷ 1 ∷ 1 ∷ 0 ∷ 1 ∷ []) ∷ (0 ∷ 1 ∷ 1 ∷ 0 ∷ []) ∷ []) (Finder.register 2 true) (1 ∷ 1 ∷ 1 ∷ [])
     ([] ∷ [] ∷ ((1 ∷ 1 ∷ 1 ∷ []) ∷ []) ∷ []) ∷
+    -- the shorter sequence given first: taken in this order the taps would be 1 1 0 0
+    register 2 ((1 ∷ 1 ∷ []) ∷ (0 ∷ 0 ∷ 1 ∷ []) ∷ []) (Finder.register 3 false) (1 ∷ 0 ∷ 0 ∷ 0 ∷ [])
+    ([] ∷ [] ∷ [] ∷ ((1 ∷ 0 ∷ 0 ∷ 0 ∷ []) ∷ (1 ∷ 0 ∷ 0 ∷ 1 ∷ []) ∷ (1 ∷ 0 ∷ 1 ∷ 0 ∷ []) ∷ (1 ∷ 0 ∷ 1 ∷ 1 ∷ []) ∷
+    (1 ∷ 1 ∷ 0 ∷ 0 ∷ []) ∷ (1 ∷ 1 ∷ 0 ∷ 1 ∷ []) ∷ (1 ∷ 1 ∷ 1 ∷ 0 ∷ []) ∷ (1 ∷ 1 ∷ 1 ∷ 1 ∷ []) ∷ []) ∷ []) ∷
+    -- two sequences of one length, which keep their order: in the other one the taps would be 1 1 0
+    register 2 ((0 ∷ 1 ∷ []) ∷ (1 ∷ 1 ∷ []) ∷ []) (Finder.register 2 false) (1 ∷ 0 ∷ 0 ∷ [])
+    ([] ∷ [] ∷ ((1 ∷ 0 ∷ 0 ∷ []) ∷ (1 ∷ 0 ∷ 1 ∷ []) ∷ (1 ∷ 1 ∷ 0 ∷ []) ∷ (1 ∷ 1 ∷ 1 ∷ []) ∷ []) ∷ []) ∷
     -- G
     frame 4 (3 ∷ 2 ∷ []) (0 ∷ 0 ∷ 5 ∷ 0 ∷ 0 ∷ 0 ∷ 7 ∷ 0 ∷ []) ((45 ∷ 148 ∷ 47 ∷ []) ∷ (63 ∷ 53 ∷ []) ∷ []) 1
     (1 ∷ 248 ∷ []) true (Calls.columns 1) (2 ∷ []) ∷
@@ -76,4 +86,10 @@ table =
     (1 ∷ 253 ∷ 3 ∷ []) true (Calls.refused 25) [] ∷
     -- K
     encoded 3 (1 ∷ []) (0 ∷ 1 ∷ 1 ∷ []) (245 ∷ 1 ∷ 1 ∷ []) ∷
+    -- one row of 256 columns, damaged in column 64, the first of a word of marks, and in the last one
+    frame 256 (4 ∷ []) (replicate 64 0 ++ (1 ∷ (replicate 190 0 ++ (3 ∷ []))))
+    ((242 ∷ 85 ∷ 216 ∷ 239 ∷ []) ∷ []) 2 (1 ∷ 187 ∷ 166 ∷ []) true (Calls.columns 2) (64 ∷ 255 ∷ []) ∷
     []
+
+abbrev pub Examples : Type 0
+Examples = map computed table ≡ table

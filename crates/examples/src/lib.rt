@@ -1,1 +1,1 @@
-// The marked examples of document 01. There is no code here.
+// The marked examples. There is no code here.

@@ -51,7 +51,7 @@ held-below s f k =
 
 -- ---- the sequences of held sums
 
-sums-before : (s : Shape) (f : List ℕ) (h : ℕ) → length (joined (tabulate h (rowSums s f))) ≡ sumsBefore s h
+pub sums-before : (s : Shape) (f : List ℕ) (h : ℕ) → length (joined (tabulate h (rowSums s f))) ≡ sumsBefore s h
 sums-before s f zero = ap length (joined-zero (rowSums s f)) ∙ sym (total-zero (checksOf s))
 sums-before s f (suc h) =
     ap length (joined-more h (rowSums s f)) ∙ length-append (joined (tabulate h (rowSums s f))) (rowSums s f h)

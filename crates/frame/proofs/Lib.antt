@@ -5,12 +5,16 @@ pub mod CompletionLaws
 pub mod Demands
 pub mod Distances
 pub mod Encoding
+pub mod Field257
 pub mod FrameTests
+pub mod GivenShapes
 pub mod Held
+pub mod HeldEntries
 pub mod HeldParts
 pub mod HeldSequences
 pub mod HeldSums
 pub mod Others
+pub mod Padded
 pub mod Reasons
 pub mod Remainder
 pub mod RowAlone

@@ -1,8 +1,7 @@
 -- What a refusal leaves: the frame, no marks, and the job as it was, or shaped after a late one. What a call gives is no refusal.
--- Assumes nothing.
 use mathlib.Core.Path.{_≡_, refl, sym, ap, _∙_}
-use mathlib.Core.Logic.{_⊎_, inl, inr}
-use mathlib.Core.Bool.{Bool, true, false, cond}
+use mathlib.Core.Logic.{inl, inr}
+use mathlib.Core.Bool.{Bool, true, false, false≢true}
 use mathlib.Core.List.{List, [], _∷_}
 use Prim.Native.Nat.{ℕ}
 use native.Mathlib.Omega.{arith}
@@ -11,9 +10,9 @@ use Rattle.frame.specs.Frame.{frameTests}
 use Rattle.frame.specs.Shape.{shapeTests}
 use Rattle.refusal.specs.Order.{Test}
 use Rattle.refusal.proofs.Orders.{Among}
-use Rattle.job.specs.Calls.{Call, shape, encode, locate, repair, done, columns, refused, Outcome, reshaped, describe, registerTests, step, late}
+use Rattle.job.specs.Calls.{Call, shape, encode, locate, repair, done, columns, refused, describe, registerTests, step, late}
 use Rattle.job.specs.Job.{Job}
-use Rattle.job.specs.Refusals.{Refused}
+use Rattle.job.specs.Refusals.{Refused, lentTo}
 use Rattle.job.proofs.Cases.{by-call}
 
 -- ---- which numbers are late
@@ -60,12 +59,28 @@ gives-no-refusal j (repair f) = never-columns
 
 -- ---- what is left
 
+lent-frame : (j : Job) (c : Call) → describe j c .lent ≡ lentTo c
+lent-frame j (shape n checks) = refl
+lent-frame j (encode f) = refl
+lent-frame j (locate f) = refl
+lent-frame j (repair f) = refl
+
 pub left : (j : Job) (c : Call) (k : ℕ) → step j c .answer ≡ refused k → Refused j c k (step j c)
 left j c k =
     by-call j c (λ o. o .answer ≡ refused k → Refused j c k o)
-    (λ m a e. record { frame = refl; marks = refl; job = leaves false (late-among false m (describe j c .keeping) (keeping-early j c) a) (same-number e) })
-    (λ m p a e. record { frame = refl; marks = refl; job = leaves true (late-among true m (describe j c .shaping) (shaping-late j c) a) (same-number e) })
+    (λ m a e. record {
+      frame = lent-frame j c;
+      marks = refl;
+      shaped = λ l. absurd (false≢true (sym (number-late false m (late-among false m (describe j c .keeping) (keeping-early j c) a) e) ∙ l));
+      kept = λ l. refl;
+    })
+    (λ m p a e. record {
+      frame = lent-frame j c;
+      marks = refl;
+      shaped = λ l. record { phase = refl; shape = refl; columns = refl; arrays = refl };
+      kept = λ l. absurd (false≢true (sym l ∙ number-late true m (late-among true m (describe j c .shaping) (shaping-late j c) a) e));
+    })
     (λ p q e. absurd (gives-no-refusal j c e))
   where
-    leaves : (b : Bool) {m : ℕ} → late m ≡ b → m ≡ k → cond b (reshaped j) j ≡ cond (late k) (reshaped j) j
-    leaves b l e = ap (λ (x : Bool). cond x (reshaped j) j) (sym l ∙ ap late e)
+    number-late : (b : Bool) (m : ℕ) → late m ≡ b → refused m ≡ refused k → late k ≡ b
+    number-late b m l e = ap late (sym (same-number e)) ∙ l

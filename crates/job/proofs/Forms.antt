@@ -1,6 +1,5 @@
 -- The forms of a job that calls leave: empty, shaped, or located by a well-formed frame whose register is alone, reached by every row and names its columns.
 -- Every call keeps to them.
--- Assumes nothing.
 use mathlib.Core.Path.{_≡_, refl, sym, subst, subst⁻¹}
 use mathlib.Core.Bool.{true, false, not, _||_, and-eq-true-iff, false≢true}
 use mathlib.Core.List.{List, [], _∷_, _++_}
@@ -13,8 +12,8 @@ use Rattle.frame.proofs.HeldSums.{held-sequences}
 use Rattle.frame.proofs.Reasons.{shape-passes, frame-passes}
 use Rattle.refusal.proofs.Orders.{Among, Pass, no-fail}
 use Rattle.job.specs.Calls.{Call, shape, encode, locate, repair, Outcome, describe, step, registerTests, locatedBy, locates}
-use Rattle.job.specs.Demands.{run, runFrom}
 use Rattle.job.specs.Job.{Arrays, Job, emptyJob, shapedJob, headSound, phaseSound, findingsSound, isEmptyPhase, countsEmpty}
+use Rattle.job.specs.Runs.{run, runFrom}
 use Rattle.job.specs.declared.Head.{Head}
 use Rattle.job.specs.declared.Phase.the-variants.{Empty, Shaped, Located}
 use Rattle.job.specs.declared.Phase.{Phase}

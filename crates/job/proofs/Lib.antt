@@ -4,9 +4,12 @@ pub mod Cases
 pub mod Demands
 pub mod Emptiness
 pub mod Forms
+pub mod LastShape
+pub mod Left
 pub mod Locating
 pub mod Marked
 pub mod NoPart
+pub mod OtherSums
 pub mod Reasons
 pub mod Refusals
 pub mod Repairing

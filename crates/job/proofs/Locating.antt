@@ -1,6 +1,5 @@
 -- Locating a well-formed frame of a job that has a shape. It is taken where the register is alone, reached by every row and names its columns; and where
 -- it is alone and reached by every row, it is refused exactly when no legal frame lies at a distance of its length.
--- Assumes nothing.
 use mathlib.Core.Path.{_≡_, refl, ap, sym, subst, subst⁻¹, _∙_}
 use mathlib.Core.Bool.{Bool, true, false, not, false≢true}
 use mathlib.Core.List.{List}
@@ -9,7 +8,7 @@ use Prim.Native.Nat.{ℕ, _≤_, _<_}
 use native.Mathlib.Omega.{arith}
 use borrow.Author.Tests.{le-leb}
 use Rattle.decoding.specs.Locating.{sizeOf, tapsOf, aloneOf, rowsReach, namesAll, namedColumns, repaired}
-use Rattle.decoding.proofs.FrameRegister.{register-of-frame, same-size, alone-marked}
+use Rattle.decoding.proofs.FrameRegister.{register-of-frame, frame-taps, same-size, alone-marked}
 use Rattle.decoding.proofs.SoleNearest.{legal-at-size, mended-legal, mended-distance, mended-differing}
 use Rattle.frame.specs.Frame.{WellFormed, sequences, heldSums, heldSequences, frameTests}
 use Rattle.frame.specs.Shape.{isShape, checksOf}
@@ -20,12 +19,14 @@ use Rattle.lists.proofs.Tabulated.{every-of}
 use Rattle.refusal.proofs.Orders.{Pass, pass-otherwise}
 use Rattle.register.specs.Register.{Shortest, Alone}
 use Rattle.job.specs.Calls.{locate, refused, refusing, describe, step, registerTests, locates}
-use Rattle.job.specs.Demands.{IsRefused, Found}
+use Rattle.job.specs.Demands.{Found}
 use Rattle.job.specs.Job.{Job, isEmpty}
 use Rattle.job.specs.Refusals.{LegalAt}
+use Rattle.job.specs.Runs.{IsRefused}
 use Rattle.job.proofs.AfterRefusal.{never-columns}
 use Rattle.job.proofs.Cases.{step-gives}
 use Rattle.job.proofs.Forms.{Locates, locatesFrame, has-shape, register-passes}
+use Rattle.job.proofs.Left.{sums-held, taps-held}
 use Rattle.job.proofs.Soundness.{marked-number}
 
 module _ (j : Job) (f : List ℕ) (not-empty : isEmpty j ≡ false) where
@@ -58,7 +59,8 @@ module _ (j : Job) (f : List ℕ) (not-empty : isEmpty j ≡ false) where
       legal-there : (namesAll s (tapsOf (sequences s f)) (sizeOf (sequences s f)) ≡ true) ↔ LegalAt s f (sizeOf (sequences s f))
       legal-there = legal-at-size s t f w a
 
-      pick : (b : Bool) → namesAll s (tapsOf (sequences s f)) (sizeOf (sequences s f)) ≡ b → IsRefused (step j (locate f)) ↔ (LegalAt s f (sizeOf (sequences s f)) → ⊥)
+      pick : (b : Bool) → namesAll s (tapsOf (sequences s f)) (sizeOf (sequences s f)) ≡ b
+          → IsRefused (step j (locate f)) ↔ (LegalAt s f (sizeOf (sequences s f)) → ⊥)
       pick true n =
           let taken = locate-takes (record { well-formed = w; alone = a; reach = r; names = n }) in (
             λ (k, refusal). absurd (never-columns (sym (ap (λ o. o .answer) taken) ∙ refusal)),
@@ -80,7 +82,9 @@ module _ (j : Job) (f : List ℕ) (not-empty : isEmpty j ≡ false) where
   located-found l =
       let r = register-of-frame s f t in
       record {
-        register = (tapsOf (sequences s f), r .shortest, r .alone (l .alone));
+        taps = tapsOf (sequences s f);
+        shortest = r .shortest;
+        alone = r .alone (l .alone);
         legal-at = (
           repaired s (namedColumns s (tapsOf (sequences s f))) f,
           mended-legal s t f (l .well-formed) (l .names),
@@ -89,7 +93,13 @@ module _ (j : Job) (f : List ℕ) (not-empty : isEmpty j ≡ false) where
         );
         number = marked-number s f t l;
         frame = refl;
-        phase = refl;
+        job = record {
+          phase = refl;
+          shape = refl;
+          columns = refl;
+          sums = sums-held s f t;
+          taps = taps-held s (sizeOf (sequences s f)) (tapsOf (sequences s f)) t (l .reach) (frame-taps s f t);
+        };
       }
 
   pub found : Pass (frameTests s f) → Pass (describe j (locate f) .shaping)

@@ -1,6 +1,5 @@
 -- The tests of the calls on a job say their reasons: each fails exactly where its reason holds; those of the register in turn, where the tests before
 -- them pass.
--- Assumes nothing.
 use mathlib.Core.Path.{_≡_, refl, sym, subst, subst⁻¹, _∙_}
 use mathlib.Core.Logic.{_⊎_, inl, inr}
 use mathlib.Core.Bool.{Bool, true, false, not, _||_, or-true, false≢true}
@@ -24,7 +23,8 @@ use Rattle.register.specs.EachRound.{IsShortest}
 use Rattle.register.specs.Register.{Generator}
 use Rattle.job.specs.Calls.{Call, shape, encode, locate, repair, describe, emptyTest, notLocatedTest, sameSums, sumsTest, registerTests}
 use Rattle.job.specs.Job.{Job, sound, isEmptyPhase, isLocatedPhase, countsEmpty}
-use Rattle.job.specs.Refusals.{LegalAt, emptyReason, notLocatedReason, sumsReason, notAloneReason, shortRowReason, noFrameReason, registerReasons, reasons}
+use Rattle.job.specs.Refusals.{LegalAt, emptyReason, notLocatedReason, sumsReason, reasons}
+use Rattle.job.specs.Refusals.{notAloneReason, shortRowReason, noFrameReason, registerReasons}
 use Rattle.job.specs.declared.Phase.the-variants.{Empty, Shaped, Located}
 use Rattle.job.specs.declared.Phase.{Phase}
 use Rattle.job.proofs.Forms.{has-shape}

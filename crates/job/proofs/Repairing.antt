@@ -1,5 +1,4 @@
 -- Repairing: a frame with the sums of the frame that was located has its register, so that the repair mends it; and the located frame itself is taken.
--- Assumes nothing.
 use mathlib.Core.Path.{_≡_, refl, sym, ap, ap₂, subst, _∙_}
 use mathlib.Core.Bool.{true, not, false≢true}
 use mathlib.Core.List.{List}
@@ -26,7 +25,7 @@ use Rattle.job.proofs.Soundness.{form-sound}
 
 -- ---- the same sums
 
-same-sums : (a b : List ℕ) → length a ≡ 512 → length b ≡ 512 → sameSums a b ≡ true → a ≡ b
+pub same-sums : (a b : List ℕ) → length a ≡ 512 → length b ≡ 512 → sameSums a b ≡ true → a ≡ b
 unfolding sameSums
 same-sums a b m n e =
     ext-getD 0 a b (m ∙ sym n) (λ k h. eqb-true _ _ (every-at 512 _ e k (let l : k < 512 = omega arith in l)))
@@ -35,10 +34,10 @@ module _ (s : Shape) (f g : List ℕ) (e : heldSums s f ≡ heldSums s g) where
   same-sequences : sequences s f ≡ sequences s g
   same-sequences = sym (held-sequences s f) ∙ ap (heldSequences s) e ∙ held-sequences s g
 
-  same-located : (a : Arrays) → locatedFrame s a f ≡ locatedFrame s a g
+  pub same-located : (a : Arrays) → locatedFrame s a f ≡ locatedFrame s a g
   same-located a = ap₂ (locatedBy s a) same-sequences e
 
-  same-locates : WellFormed s f → Locates s g → Locates s f
+  pub same-locates : WellFormed s f → Locates s g → Locates s f
   same-locates w l = record {
     well-formed = w;
     alone = ap aloneOf same-sequences ∙ l .alone;
@@ -48,27 +47,31 @@ module _ (s : Shape) (f g : List ℕ) (e : heldSums s f ≡ heldSums s g) where
 
 -- ---- the frame that is left
 
-located-mended : (s : Shape) (a : Arrays) (f : List ℕ) → isShape s ≡ true → Locates s f → Mended s f (sizeOf (sequences s f)) (repairs (locatedFrame s a f) f)
+located-mended : (s : Shape) (a : Arrays) (f : List ℕ) → isShape s ≡ true → Locates s f
+    → Mended s f (sizeOf (sequences s f)) (locatedFrame s a f) (repairs (locatedFrame s a f) f)
 located-mended s a f t l = record {
   legal = mended-legal s t f (l .well-formed) (l .names);
   count = mended-distance s t f (l .well-formed) (l .names);
   marks = sym (mended-differing s t f (l .well-formed) (l .names));
   nearest = λ g legal other. sole-nearest s t f (l .well-formed) (l .alone) (l .reach) g legal other;
+  job = record { phase = refl; shape = refl; columns = refl; arrays = refl };
 }
 
-pub repair-mended : (j : Job) (f : List ℕ) → Form j → Pass (describe j (repair f) .keeping) → Mended (j .head .shape) f (lengthOf (j .head .phase)) (repairs j f)
+pub repair-mended : (j : Job) (f : List ℕ) → Form j → Pass (describe j (repair f) .keeping)
+    → Mended (j .head .shape) f (lengthOf (j .head .phase)) j (repairs j f)
 unfolding frameTests
 repair-mended _ f (empty a) p = absurd (false≢true (sym (p .1 .0)))
 repair-mended _ f (shaped s a t) p = absurd (false≢true (sym (p .1 .0)))
 repair-mended _ f (located s a g t l) (e, (h, (size, (symbols, (sums, u))))) =
     let w : WellFormed s f = frame-passes s f (size, (symbols, tt)) in
     let same : heldSums s f ≡ heldSums s g = same-sums _ _ (held-length s f t) (held-length s g t) (no-fail _ sums) in
-    subst (λ j. Mended s f (lengthOf (j .head .phase)) (repairs j f)) (same-located s f g same a)
+    subst (λ j. Mended s f (lengthOf (j .head .phase)) j (repairs j f)) (same-located s f g same a)
     (located-mended s a f t (same-locates s f g same w l))
 
 -- ---- the frame that was located
 
-pub repair-takes : (s : Shape) (a : Arrays) (f : List ℕ) → isShape s ≡ true → Locates s f → step (locatedFrame s a f) (repair f) ≡ repairs (locatedFrame s a f) f
+pub repair-takes : (s : Shape) (a : Arrays) (f : List ℕ) → isShape s ≡ true → Locates s f
+    → step (locatedFrame s a f) (repair f) ≡ repairs (locatedFrame s a f) f
 unfolding frameTests countsEmpty sameSums
 repair-takes s a f t l =
     let (size, (symbols, u)) = well-formed-passes s f (l .well-formed) in

@@ -1,5 +1,4 @@
 -- Every job that calls leave is sound, holds the shape of the last shape call that is not refused, and no marks where it is not located.
--- Assumes nothing.
 use mathlib.Core.Path.{_≡_, refl, sym, ap, ap₂, _∙_}
 use mathlib.Core.Bool.{Bool, true, false, not, _&&_, _||_, or-true, false≢true}
 use mathlib.Core.List.{List, [], _∷_}
@@ -19,8 +18,10 @@ use Rattle.frame.specs.declared.Shape.{Shape}
 use Rattle.lists.proofs.Tabulated.{every-of}
 use Rattle.refusal.proofs.Orders.{Among, Pass, firstOf-map}
 use Rattle.job.specs.Calls.{Call, shape, encode, locate, repair, refusing, describe, step, shapes}
-use Rattle.job.specs.Demands.{run, runFrom, shapeAfter, lastShape, lastShapeFrom, heldShape, Reached}
-use Rattle.job.specs.Job.{Arrays, Job, emptyJob, noColumns, sound, headSound, phaseSound, findingsSound, isEmpty, isEmptyPhase, isLocatedPhase, countsEmpty}
+use Rattle.job.specs.Demands.{heldShape, Reached}
+use Rattle.job.specs.Job.{Arrays, Job, emptyJob, noColumns, sound, headSound, phaseSound, findingsSound}
+use Rattle.job.specs.Job.{isEmpty, isEmptyPhase, isLocatedPhase, countsEmpty}
+use Rattle.job.specs.Runs.{run, runFrom, shapeAfter, lastShape, lastShapeFrom}
 use Rattle.job.specs.declared.Phase.the-variants.{Empty, Shaped, Located}
 use Rattle.job.specs.declared.Phase.{Phase}
 use Rattle.job.proofs.Cases.{by-call}
@@ -81,7 +82,8 @@ marked-inside s σ i h = rw (has-named s σ i h) (inside (ltb i (s .columns)) _)
     inside false b = refl
 
 -- as many columns are marked as the register is long
-pub marked-number : (s : Shape) (f : List ℕ) → isShape s ≡ true → Locates s f → length (members (namedColumns s (tapsOf (sequences s f)))) ≡ sizeOf (sequences s f)
+pub marked-number : (s : Shape) (f : List ℕ) → isShape s ≡ true → Locates s f
+    → length (members (namedColumns s (tapsOf (sequences s f)))) ≡ sizeOf (sequences s f)
 marked-number s f t l = size-named s (tapsOf (sequences s f)) t ∙ names-count s t f (l .well-formed) (l .names)
 
 located-sound : (s : Shape) (f : List ℕ) → isShape s ≡ true → Locates s f

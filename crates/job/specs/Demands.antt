@@ -1,46 +1,27 @@
--- Demand 3, about every list of calls on one job from an empty one. Proved in proofs/Demands.antt.
+-- Demands 2 and 3 about every list of calls on one job from an empty one: what each call does that is not refused, which locates and repairs are refused, and
+-- what is mended. Proved in proofs/Demands.antt.
 use mathlib.Core.Path.{_≡_}
-use mathlib.Core.Logic.{_⊎_, _↔_}
+use mathlib.Core.Logic.{_↔_}
 use mathlib.Core.Bool.{true, false}
 use mathlib.Core.List.{List, [], _∷_, _++_}
 use mathlib.Core.Option.{Option, none, some}
 use Prim.Native.Nat.{ℕ, _*_, _≤_, _<_}
 use lib.ListN.{length}
 use Rattle.columns.specs.Columns.{members}
+use Rattle.frame.specs.Encode.{OnlyLegal}
 use Rattle.frame.specs.Frame.{WellFormed, Legal, sequences, distance, differing}
-use Rattle.frame.specs.Shape.{checksOf, shapeOf, shapeTests}
+use Rattle.frame.specs.Shape.{checksOf}
 use Rattle.frame.specs.declared.Shape.{Shape}
-use Rattle.refusal.specs.Order.{firstOf}
 use Rattle.register.specs.Register.{Shortest, Alone}
-use Rattle.job.specs.Calls.{Call, shape, encode, locate, repair, columns, refused, Outcome, step, late}
+use Rattle.job.specs.Calls.{Call, shape, encode, locate, repair, done, columns, refused, Outcome, step}
 use Rattle.job.specs.Job.{Arrays, Job, emptyJob, isLocatedPhase, sound, noColumns}
+use Rattle.job.specs.Left.{Given, LeftShaped, LeftLocated, sumOf}
 use Rattle.job.specs.Refusals.{LegalAt}
+use Rattle.job.specs.Runs.{run, afterCalls, lastShape, IsRefused, Taken, NoneShapes, Between}
 use Rattle.job.specs.declared.Phase.{Phase}
 use Rattle.job.specs.declared.Phase.the-variants.{Empty, Shaped, Located}
 
--- the job after a list of calls, each on the job that the call before it returned or left
-unfoldable pub runFrom : Job → List Call → Job
-runFrom j [] = j
-runFrom j (c ∷ cs) = runFrom (step j c .job) cs
-
--- the job after a list of calls, the first on an empty job beside the arrays a, which may hold anything
-abbrev pub run : Arrays → List Call → Job
-run a calls = runFrom (emptyJob a) calls
-
--- the shape that a job has after the call: that of a shape call that is not refused, whatever the job, and after every other call the one given
-abbrev pub shapeAfter : Option Shape → Call → Option Shape
-shapeAfter s (shape n checks) = firstOf (λ k. s) (shapeTests n checks) (some (shapeOf n checks))
-shapeAfter s (encode f) = s
-shapeAfter s (locate f) = s
-shapeAfter s (repair f) = s
-
--- the shape of the last shape call that is not refused, or the one given where there is none
-unfoldable pub lastShapeFrom : Option Shape → List Call → Option Shape
-lastShapeFrom s [] = s
-lastShapeFrom s (c ∷ cs) = lastShapeFrom (shapeAfter s c) cs
-
-abbrev pub lastShape : List Call → Option Shape
-lastShape calls = lastShapeFrom none calls
+-- ---- what every job holds
 
 -- the shape that a job holds
 abbrev pub heldShape : Phase → Shape → Option Shape
@@ -54,37 +35,53 @@ pub record Reached (a : Arrays) (calls : List Call) : Type 0 where
   pub shape : heldShape (run a calls .head .phase) (run a calls .head .shape) ≡ lastShape calls
   pub unmarked : isLocatedPhase (run a calls .head .phase) ≡ false → run a calls .head .columns ≡ noColumns
 
--- Demand 3, first part. A repair of the frame f that answers c leaves a legal frame; c is its distance from f, the marked columns are those that this
--- distance counts, and every other legal frame lies farther from f.
-pub record Mended (s : Shape) (f : List ℕ) (c : ℕ) (after : Outcome) : Type 0 where
-  pub legal : Legal s (after .frame)
-  pub count : distance s (after .frame) f ≡ c
-  pub marks : after .marks ≡ differing s (after .frame) f
-  pub nearest : (g : List ℕ) → Legal s g → (g ≡ after .frame → ⊥) → c < distance s g f
+-- The shape of a list of calls is the one given by a shape call that is not refused and after which every other shape call is refused; and there is none
+-- where every shape call is refused.
+pub record ShapeIsLast : Type 0 where
+  pub given :
+      (a : Arrays) (before after : List Call) (n : ℕ) (checks : List ℕ) → Taken (afterCalls a before (shape n checks)) →
+      NoneShapes (run a (before ++ (shape n checks ∷ []))) after →
+      (s : Shape) × Given n checks s × (lastShape (before ++ (shape n checks ∷ after)) ≡ some s)
+  pub none : (a : Arrays) (calls : List Call) → NoneShapes (emptyJob a) calls → lastShape calls ≡ none
 
-abbrev pub IsRefused : Outcome → Type 0
-IsRefused o = (k : ℕ) × (o .answer ≡ refused k)
+-- ---- shape and encode
 
-abbrev pub RepairMends : Type 0
-RepairMends =
-    (a : Arrays) (calls : List Call) (f : List ℕ) → (IsRefused (step (run a calls) (repair f)) → ⊥) →
-    (s : Shape) × (c : ℕ) × (lastShape calls ≡ some s) × (step (run a calls) (repair f) .answer ≡ columns c) ×
-    Mended s f c (step (run a calls) (repair f))
+-- A shape call that is not refused leaves the job shaped, with the rows, columns and checks that are given.
+abbrev pub ShapeGives : Type 0
+ShapeGives =
+    (a : Arrays) (calls : List Call) (n : ℕ) (checks : List ℕ) → Taken (afterCalls a calls (shape n checks)) →
+    (s : Shape) × Given n checks s × (afterCalls a calls (shape n checks) .answer ≡ done) ×
+    LeftShaped s (run a calls .arrays) (afterCalls a calls (shape n checks) .job)
+
+-- Demand 2 of the encoder. An encode of the frame f that is not refused leaves the only legal frame that has the data of f, and the job as it was.
+pub record Encoded (s : Shape) (f : List ℕ) (before : Job) (after : Outcome) : Type 0 where
+  pub answer : after .answer ≡ done
+  pub frame : OnlyLegal s f (after .frame)
+  pub job : after .job ≡ before
+
+abbrev pub EncodeFills : Type 0
+EncodeFills =
+    (a : Arrays) (calls : List Call) (f : List ℕ) → Taken (afterCalls a calls (encode f)) →
+    (s : Shape) × (lastShape calls ≡ some s) × Encoded s f (run a calls) (afterCalls a calls (encode f))
+
+-- ---- locate
 
 -- What c is of a locate that answers it: the length of the only shortest register; a legal frame lies at distance c, and the marked columns are those that this
--- distance counts, c in number. The frame is only read, and the job is located.
+-- distance counts, c in number. The frame is only read; the job is located, and holds the frame's sums, the register and the marks.
 pub record Found (s : Shape) (f : List ℕ) (c : ℕ) (after : Outcome) : Type 0 where
-  pub register : (σ : List ℕ) × Shortest 257 c (sequences s f) σ × Alone 257 c (sequences s f) σ
+  pub taps : List ℕ
+  pub shortest : Shortest 257 c (sequences s f) taps
+  pub alone : Alone 257 c (sequences s f) taps
   pub legal-at : (g : List ℕ) × Legal s g × (distance s g f ≡ c) × (after .marks ≡ differing s g f)
   pub number : length (members (after .marks)) ≡ c
   pub frame : after .frame ≡ f
-  pub phase : after .job .head .phase ≡ Located c true
+  pub job : LeftLocated s f c taps (after .marks) (after .job)
 
 abbrev pub LocateFinds : Type 0
 LocateFinds =
-    (a : Arrays) (calls : List Call) (f : List ℕ) → (IsRefused (step (run a calls) (locate f)) → ⊥) →
-    (s : Shape) × (c : ℕ) × (lastShape calls ≡ some s) × (step (run a calls) (locate f) .answer ≡ columns c) ×
-    Found s f c (step (run a calls) (locate f))
+    (a : Arrays) (calls : List Call) (f : List ℕ) → Taken (afterCalls a calls (locate f)) →
+    (s : Shape) × (c : ℕ) × (lastShape calls ≡ some s) × (afterCalls a calls (locate f) .answer ≡ columns c) ×
+    Found s f c (afterCalls a calls (locate f))
 
 -- Demand 3, second part. Locating a well-formed frame whose shortest register, of length c, is alone, with no row having fewer checks than c, is
 -- refused exactly when no legal frame lies at distance c.
@@ -92,31 +89,53 @@ abbrev pub LocateExact : Type 0
 LocateExact =
     (a : Arrays) (calls : List Call) (s : Shape) (f : List ℕ) (c : ℕ) (σ : List ℕ) → lastShape calls ≡ some s → WellFormed s f →
     Shortest 257 c (sequences s f) σ → Alone 257 c (sequences s f) σ → ((h : ℕ) → h < s .rows → c ≤ checksOf s h) →
-    IsRefused (step (run a calls) (locate f)) ↔ (LegalAt s f c → ⊥)
+    IsRefused (afterCalls a calls (locate f)) ↔ (LegalAt s f c → ⊥)
 
-abbrev pub IsEncode : Call → Type 0
-IsEncode c = (f : List ℕ) × (c ≡ encode f)
+-- ---- repair
 
-abbrev pub RefusedEarly : Outcome → Type 0
-RefusedEarly o = (k : ℕ) × (o .answer ≡ refused k) × (late k ≡ false)
+-- Demand 3, first part. A repair of the frame f that answers c leaves a legal frame; c is its distance from f, the marked columns are those that this
+-- distance counts, and every other legal frame lies farther from f. The job is shaped.
+pub record Mended (s : Shape) (f : List ℕ) (c : ℕ) (before : Job) (after : Outcome) : Type 0 where
+  pub legal : Legal s (after .frame)
+  pub count : distance s (after .frame) f ≡ c
+  pub marks : after .marks ≡ differing s (after .frame) f
+  pub nearest : (g : List ℕ) → Legal s g → (g ≡ after .frame → ⊥) → c < distance s g f
+  pub job : LeftShaped s (before .arrays) (after .job)
 
--- calls from the job j on that are encodes, or refused by other numbers than 24, 25, 26
-abbrev pub Between : Job → List Call → Type 0
-Between j [] = Unit {0}
-Between j (c ∷ cs) = (IsEncode c ⊎ RefusedEarly (step j c)) × Between (step j c .job) cs
+abbrev pub RepairMends : Type 0
+RepairMends =
+    (a : Arrays) (calls : List Call) (f : List ℕ) → Taken (afterCalls a calls (repair f)) →
+    (s : Shape) × (c : ℕ) × (lastShape calls ≡ some s) × (afterCalls a calls (repair f) .answer ≡ columns c) ×
+    Mended s f c (run a calls) (afterCalls a calls (repair f))
+
+-- some check sum of f differs from that of g
+abbrev pub CheckSumsDiffer : Shape → (f g : List ℕ) → Type 0
+CheckSumsDiffer s f g =
+    (h : ℕ) × (j : ℕ) × (h < s .rows) × (1 ≤ j) × (j ≤ checksOf s h) × (sumOf s f h j ≡ sumOf s g h j → ⊥)
+
+-- After a locate of g that is not refused, with nothing but encodes and calls refused early since then, a repair of a well-formed f is refused exactly when
+-- some check sum of f differs from that of g, and then by 23.
+abbrev pub RepairExact : Type 0
+RepairExact =
+    (a : Arrays) (before between : List Call) (s : Shape) (f g : List ℕ) → lastShape before ≡ some s →
+    Taken (afterCalls a before (locate g)) → Between (run a (before ++ (locate g ∷ []))) between → WellFormed s f →
+    (IsRefused (afterCalls a (before ++ (locate g ∷ between)) (repair f)) ↔ CheckSumsDiffer s f g) ×
+    ((afterCalls a (before ++ (locate g ∷ between)) (repair f) .answer ≡ refused 23) ↔ CheckSumsDiffer s f g)
 
 -- Demand 3, third part. A legal frame g was sent, and f is what damage made of it: well-formed, and at most half the smallest check count of columns altered.
 -- Then locating f is not refused, nor is a later repair of f with nothing between them but encodes and calls refused early; the repair leaves g.
 pub record Recovered (a : Arrays) (before between : List Call) (f g : List ℕ) : Type 0 where
-  pub located : IsRefused (step (run a before) (locate f)) → ⊥
-  pub mended : IsRefused (step (run a (before ++ (locate f ∷ between))) (repair f)) → ⊥
-  pub frame : step (run a (before ++ (locate f ∷ between))) (repair f) .frame ≡ g
+  pub located : Taken (afterCalls a before (locate f))
+  pub mended : Taken (afterCalls a (before ++ (locate f ∷ between)) (repair f))
+  pub frame : afterCalls a (before ++ (locate f ∷ between)) (repair f) .frame ≡ g
 
 abbrev pub DamageMended : Type 0
 DamageMended =
     (a : Arrays) (before between : List Call) (s : Shape) (f g : List ℕ) → lastShape before ≡ some s → Legal s g → WellFormed s f →
     ((h : ℕ) → h < s .rows → 2 * distance s g f ≤ checksOf s h) → Between (run a (before ++ (locate f ∷ []))) between →
     Recovered a before between f g
+
+-- ---- arrays
 
 -- What an array holds that the phase does not speak for plays no part: two jobs are alike that have one head and, where it is located, the same arrays.
 abbrev pub Alike : Job → Job → Type 0
@@ -132,10 +151,18 @@ pub record SameOutcome (o p : Outcome) : Type 0 where
 abbrev pub ArraysPlayNoPart : Type 0
 ArraysPlayNoPart = (i j : Job) (c : Call) → Alike i j → SameOutcome (step i c) (step j c)
 
+-- ---- the demands
+
+pub record Demand2 : Type 0 where
+  pub encode-fills : EncodeFills
+
 pub record Demand3 : Type 0 where
   pub reached : (a : Arrays) (calls : List Call) → Reached a calls
-  pub repair-mends : RepairMends
+  pub shape-is-last : ShapeIsLast
+  pub shape-gives : ShapeGives
   pub locate-finds : LocateFinds
   pub locate-exact : LocateExact
+  pub repair-mends : RepairMends
+  pub repair-exact : RepairExact
   pub damage-mended : DamageMended
   pub arrays : ArraysPlayNoPart

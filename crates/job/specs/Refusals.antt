@@ -2,7 +2,7 @@
 -- Proved in proofs/Refusals.antt.
 use mathlib.Core.Path.{_≡_}
 use mathlib.Core.Logic.{_⊎_, _↔_}
-use mathlib.Core.Bool.{false, cond}
+use mathlib.Core.Bool.{true, false}
 use mathlib.Core.List.{List, [], _∷_, _++_}
 use Prim.Native.Nat.{ℕ, _<_}
 use lib.ListN.{getD}
@@ -12,8 +12,9 @@ use Rattle.frame.specs.Shape.{checksOf}
 use Rattle.frame.specs.declared.Shape.{Shape}
 use Rattle.refusal.specs.Order.{Reason, First}
 use Rattle.register.specs.Register.{Generator, Shortest, Alone}
-use Rattle.job.specs.Calls.{Call, shape, encode, locate, repair, refused, Outcome, reshaped, describe, step, late}
+use Rattle.job.specs.Calls.{Call, shape, encode, locate, repair, refused, Outcome, step, late}
 use Rattle.job.specs.Job.{Job, noColumns, isLocatedPhase, sound}
+use Rattle.job.specs.Left.{LeftShaped}
 use Rattle.job.specs.declared.Phase.the-variants.{Empty}
 
 -- a legal frame lies at distance c from f
@@ -78,11 +79,19 @@ reasons j (repair f) =
       shaping = [];
     }
 
+-- the frame that is lent to a call, none to shape
+abbrev pub lentTo : Call → List ℕ
+lentTo (shape n checks) = []
+lentTo (encode f) = f
+lentTo (locate f) = f
+lentTo (repair f) = f
+
 -- a call refused by the number k leaves the frame as it was lent and marks nothing; the job is shaped after a late refusal, and as it was after any other
 pub record Refused (j : Job) (c : Call) (k : ℕ) (o : Outcome) : Type 0 where
-  pub frame : o .frame ≡ describe j c .lent
+  pub frame : o .frame ≡ lentTo c
   pub marks : o .marks ≡ noColumns
-  pub job : o .job ≡ cond (late k) (reshaped j) j
+  pub shaped : late k ≡ true → LeftShaped (j .head .shape) (j .arrays) (o .job)
+  pub kept : late k ≡ false → o .job ≡ j
 
 pub record Demand1 : Type 0 where
   pub exact : (j : Job) (c : Call) (k : ℕ) → (step j c .answer ≡ refused k) ↔ First k (reasons j c .keeping ++ reasons j c .shaping)
