@@ -5,7 +5,6 @@ pub mod CompletionLaws
 pub mod Demands
 pub mod Distances
 pub mod Encoding
-pub mod Field257
 pub mod FrameTests
 pub mod GivenShapes
 pub mod Held
