@@ -1,0 +1,158 @@
+-- A list of calls through the C interface answers and leaves what the list of calls does: call by call what the exported function promises is what the call
+-- does on the job that the struct stands for, and a head that comes back is the one that went.
+use mathlib.Core.Path.{_≡_, refl, sym, ap, ap₂, subst, subst⁻¹, _∙_}
+use mathlib.Core.Logic.{_⊎_, inl, inr, _↔_}
+use mathlib.Core.List.{List, [], _∷_}
+use Prim.Native.Nat.{ℕ, suc}
+use native.Mathlib.Omega.{arith}
+use Rattle.frame.specs.Encode.{encodeTests}
+use Rattle.frame.specs.Frame.{frameTests}
+use Rattle.frame.specs.Shape.{shapeTests}
+use Rattle.refusal.specs.Order.{Test}
+use Rattle.refusal.proofs.Orders.{Among}
+use Rattle.job.specs.Calls.{Call, shape, encode, locate, repair, Answer, done, columns, refused, Outcome, describe, registerTests, step}
+use Rattle.job.specs.Demands.{runFrom, run, IsRefused}
+use Rattle.job.specs.Job.{Arrays, Job, beside, withFound, emptyJob}
+use Rattle.job.specs.declared.Head.{Head}
+use Rattle.job.proofs.AfterRefusal.{same-number, gives-no-refusal}
+use Rattle.job.proofs.Cases.{by-call}
+use Rattle.capi.specs.Exports.{CShapes, CEncodes, CLocates, CRepairs}
+use Rattle.capi.specs.Mirror.{mirrorOf, refusalOf}
+use Rattle.capi.specs.Runs.{CJob, CReply, number, answer, CReturn, CStep, CRun, emptied, jobOf, mirrorJob, replyOf, returnOf, Given, CEdge}
+use Rattle.capi.specs.declared.CAnswered.{CAnswered}
+use Rattle.capi.specs.declared.CHead.{CHead}
+use Rattle.capi.specs.declared.CShaped.{CShaped}
+use Rattle.capi.proofs.RoundTrip.{there-and-back}
+
+-- the job that a mirror stands for is the job
+same-job : (j : Job) → jobOf (mirrorJob j) ≡ j
+same-job j = ap (λ (h : Head). beside h (j .arrays)) (there-and-back (j .head))
+
+-- a struct by its head and its arrays
+struct : CHead → Arrays → CJob
+struct h a = record { head = h; arrays = a }
+
+-- What a step on the struct m of the job j gives: the mirror of what the call does; or, of encode, the struct itself.
+record Gives (m : CJob) (j : Job) (c : Call) (r : CReturn) : Type 0 where
+  reply : r .reply ≡ replyOf c (step j c)
+  job : (r .job ≡ mirrorJob (step j c .job)) ⊎ ((r .job ≡ m) × (step j c .job ≡ j))
+  frame : r .frame ≡ step j c .frame
+
+gives : (m : CJob) (c : Call) (r : CReturn) → CStep m c r → Gives m (jobOf m) c r
+unfolding struct
+gives m (shape n checks) r (s, p, e) =
+    let q : CShapes (m .arrays) (step (jobOf m) (shape n checks)) s = p (m .arrays) in
+    subst⁻¹ (Gives m (jobOf m) (shape n checks)) e
+    (record {
+      reply = ap (λ (x : CShaped). number (x .refusal)) (q .answers);
+      job = inl (ap₂ struct (ap (λ (x : CShaped). x .head) (q .answers)) (sym (q .arrays)));
+      frame = by-call (jobOf m) (shape n checks) (λ o. [] ≡ o .frame) (λ k a. refl) (λ k l a. refl) (λ k l. refl);
+    })
+gives m (encode f) r (k, left, p, e) =
+    let q : CEncodes (jobOf m) (step (jobOf m) (encode f)) k left = p (m .arrays) in
+    subst⁻¹ (Gives m (jobOf m) (encode f)) e
+    (record { reply = ap number (q .answers); job = inr (refl, q .job); frame = q .leaves })
+gives m (locate f) r (s, sums, taps, p, e) =
+    let q : CLocates (step (jobOf m) (locate f)) s (withFound (m .arrays) sums taps) = p (m .arrays) in
+    subst⁻¹ (Gives m (jobOf m) (locate f)) e
+    (record {
+      reply = ap (λ (x : CAnswered). answer (x .answer)) (q .answers);
+      job = inl (ap₂ struct (ap (λ (x : CAnswered). x .head) (q .answers)) (q .arrays));
+      frame = by-call (jobOf m) (locate f) (λ o. f ≡ o .frame) (λ k a. refl) (λ k l a. refl) (λ k l. refl);
+    })
+gives m (repair f) r (s, left, p, e) =
+    let q : CRepairs (m .arrays) (step (jobOf m) (repair f)) s left = p (m .arrays) in
+    subst⁻¹ (Gives m (jobOf m) (repair f)) e
+    (record {
+      reply = ap (λ (x : CAnswered). answer (x .answer)) (q .answers);
+      job = inl (ap₂ struct (ap (λ (x : CAnswered). x .head) (q .answers)) (sym (q .arrays)));
+      frame = q .leaves;
+    })
+
+given : (m : CJob) (c : Call) (r : CReturn) → CStep m c r → Given m c r
+given m c r s =
+    let g : Gives m (jobOf m) c r = gives m c r s in
+    record { reply = g .reply; job = stands (g .job); frame = g .frame }
+  where
+    stands : (r .job ≡ mirrorJob (step (jobOf m) c .job)) ⊎ ((r .job ≡ m) × (step (jobOf m) c .job ≡ jobOf m)) → jobOf (r .job) ≡ step (jobOf m) c .job
+    stands (inl e) = ap jobOf e ∙ same-job (step (jobOf m) c .job)
+    stands (inr (e, k)) = ap jobOf e ∙ sym k
+
+-- from the mirror of a job
+result : CReply → CJob → List ℕ → CReturn
+result x m f = record { reply = x; job = m; frame = f }
+
+returned-from : (j : Job) (c : Call) (r : CReturn) → CStep (mirrorJob j) c r → r ≡ returnOf c (step j c)
+unfolding result
+returned-from j c r s =
+    let g : Gives (mirrorJob j) j c r = subst (λ (i : Job). Gives (mirrorJob j) i c r) (same-job j) (gives (mirrorJob j) c r s) in
+    ap (λ (x : CReply). result x (r .job) (r .frame)) (g .reply) ∙ ap₂ (result (replyOf c (step j c))) (mirrored (g .job)) (g .frame)
+  where
+    mirrored : (r .job ≡ mirrorJob (step j c .job)) ⊎ ((r .job ≡ mirrorJob j) × (step j c .job ≡ j)) → r .job ≡ mirrorJob (step j c .job)
+    mirrored (inl e) = e
+    mirrored (inr (e, k)) = e ∙ ap mirrorJob (sym k)
+
+left : (m : CJob) (calls : List Call) (after : CJob) → CRun m calls after → jobOf after ≡ runFrom (jobOf m) calls
+unfolding runFrom
+left m [] after e = ap jobOf e
+left m (c ∷ cs) after (r, s, rest) = left (r .job) cs after rest ∙ ap (λ (j : Job). runFrom j cs) (given m c r s .job)
+
+job-from : (j : Job) (calls : List Call) (m : CJob) → CRun (mirrorJob j) calls m → m ≡ mirrorJob (runFrom j calls)
+unfolding runFrom
+job-from j [] m e = e
+job-from j (c ∷ cs) m (r, s, rest) =
+    job-from (step j c .job) cs m (subst (λ (x : CReturn). CRun (x .job) cs m) (returned-from j c r s) rest)
+
+job : (a : Arrays) (calls : List Call) (m : CJob) → CRun (emptied a) calls m → m ≡ mirrorJob (run a calls)
+job a calls m s = job-from (emptyJob a) calls m s
+
+returned : (a : Arrays) (calls : List Call) (m : CJob) (c : Call) (r : CReturn) → CRun (emptied a) calls m → CStep m c r
+    → r ≡ returnOf c (step (run a calls) c)
+returned a calls m c r s t = returned-from (run a calls) c r (subst (λ (x : CJob). CStep x c r) (job a calls m s) t)
+
+-- ---- 0 for a call that is not refused
+
+abbrev Numbered : List Test → Type 0
+Numbered [] = Unit {0}
+Numbered (t ∷ ts) = (t .number ≡ 0 → ⊥) × Numbered ts
+
+numbered-among : (k : ℕ) (ts : List Test) → Numbered ts → Among k ts → k ≡ 0 → ⊥
+numbered-among k [] n a e = absurd a
+numbered-among k (t ∷ ts) n (inl a) e = n .0 (sym a ∙ e)
+numbered-among k (t ∷ ts) n (inr a) e = numbered-among k ts (n .1) a e
+
+nonzero : (k : ℕ) → suc k ≡ 0 → ⊥
+nonzero k e = omega arith
+
+keeping-numbered : (j : Job) (c : Call) → Numbered (describe j c .keeping)
+unfolding shapeTests encodeTests frameTests
+keeping-numbered j (shape n checks) = (nonzero _, (nonzero _, (nonzero _, tt)))
+keeping-numbered j (encode f) = (nonzero _, (nonzero _, (nonzero _, tt)))
+keeping-numbered j (locate f) = (nonzero _, (nonzero _, (nonzero _, tt)))
+keeping-numbered j (repair f) = (nonzero _, (nonzero _, (nonzero _, (nonzero _, (nonzero _, tt)))))
+
+shaping-numbered : (j : Job) (c : Call) → Numbered (describe j c .shaping)
+unfolding registerTests
+shaping-numbered j (shape n checks) = tt
+shaping-numbered j (encode f) = tt
+shaping-numbered j (locate f) = (nonzero _, (nonzero _, (nonzero _, tt)))
+shaping-numbered j (repair f) = tt
+
+refused-nonzero : (j : Job) (c : Call) (k : ℕ) → step j c .answer ≡ refused k → k ≡ 0 → ⊥
+refused-nonzero j c k =
+    by-call j c (λ o. o .answer ≡ refused k → k ≡ 0 → ⊥)
+    (λ m a e z. numbered-among m (describe j c .keeping) (keeping-numbered j c) a (same-number e ∙ z))
+    (λ m p a e z. numbered-among m (describe j c .shaping) (shaping-numbered j c) a (same-number e ∙ z))
+    (λ p q e z. gives-no-refusal j c e)
+
+not-refused : (x : Answer) → ((k : ℕ) → x ≡ refused k → ⊥) → refusalOf x ≡ 0
+not-refused done n = refl
+not-refused (columns c) n = refl
+not-refused (refused k) n = absurd (n k refl)
+
+zero : (j : Job) (c : Call) → (refusalOf (step j c .answer) ≡ 0) ↔ (IsRefused (step j c) → ⊥)
+zero j c =
+    (λ e (k, a). refused-nonzero j c k a (sym (ap refusalOf a) ∙ e), λ n. not-refused (step j c .answer) (λ k a. n (k, a)))
+
+pub c-edge : CEdge
+c-edge = record { given = given; left = left; job = job; returned = returned; zero = zero }
