@@ -1,23 +1,18 @@
 -- A list of calls through the C interface answers and leaves what the list of calls does: call by call what the exported function promises is what the call
 -- does on the job that the struct stands for, and a head that comes back is the one that went.
 use mathlib.Core.Path.{_≡_, refl, sym, ap, ap₂, subst, subst⁻¹, _∙_}
-use mathlib.Core.Logic.{_⊎_, inl, inr, _↔_}
+use mathlib.Core.Logic.{_⊎_, inl, inr}
 use mathlib.Core.List.{List, [], _∷_}
-use Prim.Native.Nat.{ℕ, suc}
-use native.Mathlib.Omega.{arith}
-use Rattle.frame.specs.Encode.{encodeTests}
-use Rattle.frame.specs.Frame.{frameTests}
-use Rattle.frame.specs.Shape.{shapeTests}
-use Rattle.refusal.specs.Order.{Test}
-use Rattle.refusal.proofs.Orders.{Among}
-use Rattle.job.specs.Calls.{Call, shape, encode, locate, repair, Answer, done, columns, refused, Outcome, describe, registerTests, step}
-use Rattle.job.specs.Demands.{runFrom, run, IsRefused}
-use Rattle.job.specs.Job.{Arrays, Job, beside, withFound, emptyJob}
+use Prim.Native.Nat.{ℕ}
+use Rattle.refusal.specs.Order.{firstOf}
+use Rattle.refusal.proofs.Orders.{firstOf-map}
+use Rattle.job.specs.Calls.{Call, shape, encode, locate, repair, Outcome, describe, refusing, reshaped, step}
+use Rattle.job.specs.Demands.{runFrom, run}
+use Rattle.job.specs.Job.{Arrays, Job, beside, withSums, withFound, emptyJob}
 use Rattle.job.specs.declared.Head.{Head}
-use Rattle.job.proofs.AfterRefusal.{same-number, gives-no-refusal}
 use Rattle.job.proofs.Cases.{by-call}
 use Rattle.capi.specs.Exports.{CShapes, CEncodes, CLocates, CRepairs}
-use Rattle.capi.specs.Mirror.{mirrorOf, refusalOf}
+use Rattle.capi.specs.Mirror.{headOf, mirrorOf, refusalOf, shapedOf, answeredOf}
 use Rattle.capi.specs.Runs.{CJob, CReply, number, answer, CReturn, CStep, CRun, emptied, jobOf, mirrorJob, replyOf, returnOf, Given, CEdge}
 use Rattle.capi.specs.declared.CAnswered.{CAnswered}
 use Rattle.capi.specs.declared.CHead.{CHead}
@@ -110,49 +105,42 @@ returned : (a : Arrays) (calls : List Call) (m : CJob) (c : Call) (r : CReturn) 
     → r ≡ returnOf c (step (run a calls) c)
 returned a calls m c r s t = returned-from (run a calls) c r (subst (λ (x : CJob). CStep x c r) (job a calls m s) t)
 
--- ---- 0 for a call that is not refused
+-- ---- what is promised can be given
 
-abbrev Numbered : List Test → Type 0
-Numbered [] = Unit {0}
-Numbered (t ∷ ts) = (t .number ≡ 0 → ⊥) × Numbered ts
+-- what is seen of a call that has only refusals that leave the job is told by what is seen of these and of what is given
+module _ {A : Type 0} (seen : Outcome → A) where
+  seen-of : (j : Job) (c : Call) → describe j c .shaping ≡ []
+      → seen (step j c) ≡ firstOf (λ k. seen (refusing j (describe j c .lent) k)) (describe j c .keeping) (seen (describe j c .gives))
+  unfolding step
+  seen-of j c e =
+      firstOf-map seen (refusing j (describe j c .lent)) (describe j c .keeping) _
+      ∙ ap (λ ts. firstOf (λ k. seen (refusing j (describe j c .lent) k)) (describe j c .keeping)
+      (seen (firstOf (refusing (reshaped j) (describe j c .lent)) ts (describe j c .gives)))) e
 
-numbered-among : (k : ℕ) (ts : List Test) → Numbered ts → Among k ts → k ≡ 0 → ⊥
-numbered-among k [] n a e = absurd a
-numbered-among k (t ∷ ts) n (inl a) e = n .0 (sym a ∙ e)
-numbered-among k (t ∷ ts) n (inr a) e = numbered-among k ts (n .1) a e
-
-nonzero : (k : ℕ) → suc k ≡ 0 → ⊥
-nonzero k e = omega arith
-
-keeping-numbered : (j : Job) (c : Call) → Numbered (describe j c .keeping)
-unfolding shapeTests encodeTests frameTests
-keeping-numbered j (shape n checks) = (nonzero _, (nonzero _, (nonzero _, tt)))
-keeping-numbered j (encode f) = (nonzero _, (nonzero _, (nonzero _, tt)))
-keeping-numbered j (locate f) = (nonzero _, (nonzero _, (nonzero _, tt)))
-keeping-numbered j (repair f) = (nonzero _, (nonzero _, (nonzero _, (nonzero _, (nonzero _, tt)))))
-
-shaping-numbered : (j : Job) (c : Call) → Numbered (describe j c .shaping)
-unfolding registerTests
-shaping-numbered j (shape n checks) = tt
-shaping-numbered j (encode f) = tt
-shaping-numbered j (locate f) = (nonzero _, (nonzero _, (nonzero _, tt)))
-shaping-numbered j (repair f) = tt
-
-refused-nonzero : (j : Job) (c : Call) (k : ℕ) → step j c .answer ≡ refused k → k ≡ 0 → ⊥
-refused-nonzero j c k =
-    by-call j c (λ o. o .answer ≡ refused k → k ≡ 0 → ⊥)
-    (λ m a e z. numbered-among m (describe j c .keeping) (keeping-numbered j c) a (same-number e ∙ z))
-    (λ m p a e z. numbered-among m (describe j c .shaping) (shaping-numbered j c) a (same-number e ∙ z))
-    (λ p q e z. gives-no-refusal j c e)
-
-not-refused : (x : Answer) → ((k : ℕ) → x ≡ refused k → ⊥) → refusalOf x ≡ 0
-not-refused done n = refl
-not-refused (columns c) n = refl
-not-refused (refused k) n = absurd (n k refl)
-
-zero : (j : Job) (c : Call) → (refusalOf (step j c .answer) ≡ 0) ↔ (IsRefused (step j c) → ⊥)
-zero j c =
-    (λ e (k, a). refused-nonzero j c k a (sym (ap refusalOf a) ∙ e), λ n. not-refused (step j c .answer) (λ k a. n (k, a)))
+total : (m : CJob) (c : Call) → (r : CReturn) × CStep m c r
+total m (shape n checks) =
+    (_, (shapedOf (step (jobOf m) (shape n checks)), λ a. record {
+      answers = seen-of shapedOf (jobOf m) (shape n checks) refl ∙ sym (seen-of shapedOf (beside (headOf (m .head)) a) (shape n checks) refl);
+      arrays = by-call (beside (headOf (m .head)) a) (shape n checks) (λ o. o .job .arrays ≡ a) (λ k b. refl) (λ k l b. absurd b) (λ k l. refl);
+    }, refl))
+total m (encode f) =
+    let o = step (jobOf m) (encode f) in
+    (_, (refusalOf (o .answer), o .frame, λ a. record {
+      answers = seen-of (λ x. refusalOf (x .answer)) (jobOf m) (encode f) refl
+          ∙ sym (seen-of (λ x. refusalOf (x .answer)) (beside (headOf (m .head)) a) (encode f) refl);
+      job = by-call (beside (headOf (m .head)) a) (encode f) (λ x. x .job ≡ beside (headOf (m .head)) a) (λ k b. refl) (λ k l b. absurd b) (λ k l. refl);
+      leaves = seen-of (λ x. x .frame) (jobOf m) (encode f) refl ∙ sym (seen-of (λ x. x .frame) (beside (headOf (m .head)) a) (encode f) refl);
+    }, refl))
+total m (locate f) =
+    let o = step (jobOf m) (locate f) in
+    (_, (answeredOf o, o .job .arrays .sums, o .job .arrays .taps, λ a. record { answers = refl; arrays = refl }, refl))
+total m (repair f) =
+    let o = step (jobOf m) (repair f) in
+    (_, (answeredOf o, o .frame, λ a. let j : Job = beside (headOf (m .head)) (withSums a (m .arrays .sums)) in record {
+      answers = seen-of answeredOf (jobOf m) (repair f) refl ∙ sym (seen-of answeredOf j (repair f) refl);
+      arrays = by-call j (repair f) (λ x. x .job .arrays ≡ j .arrays) (λ k b. refl) (λ k l b. absurd b) (λ k l. refl);
+      leaves = seen-of (λ x. x .frame) (jobOf m) (repair f) refl ∙ sym (seen-of (λ x. x .frame) j (repair f) refl);
+    }, refl))
 
 pub c-edge : CEdge
-c-edge = record { given = given; left = left; job = job; returned = returned; zero = zero }
+c-edge = record { total = total; given = given; left = left; job = job; returned = returned }

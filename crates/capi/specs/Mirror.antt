@@ -1,5 +1,6 @@
 -- How heads of jobs and answers cross the C interface: as structs of numbers and arrays. An exported function can return no enum, so the phase is a number.
 use mathlib.Core.Path.{_≡_}
+use mathlib.Core.Logic.{_↔_}
 use mathlib.Core.Bool.{Bool, true, false, cond, _||_}
 use mathlib.Core.List.{List, [], _∷_}
 use Prim.Native.Nat.{ℕ}
@@ -8,8 +9,9 @@ use Rattle.columns.specs.Columns.{columnsOf}
 use Rattle.finder.specs.Finder as Finder
 use Rattle.job.specs.Calls as Calls
 use Rattle.frame.specs.Shape.{shapeOf}
-use Rattle.job.specs.Calls.{Outcome}
-use Rattle.job.specs.Job.{emptyHead, locatedHead}
+use Rattle.job.specs.Calls.{Call, Outcome, step}
+use Rattle.job.specs.Demands.{IsRefused}
+use Rattle.job.specs.Job.{Job, emptyHead, locatedHead}
 use Rattle.job.specs.declared.Head.{Head}
 use Rattle.job.specs.declared.Phase.{Phase}
 use Rattle.job.specs.declared.Phase.the-variants.{Empty, Shaped, Located}
@@ -117,3 +119,9 @@ answeredOf o =
       answer = record { refusal = refusalOf (o .answer); count = countOf (o .answer); marks = o .marks .words };
       head = mirrorOf (o .job .head);
     }
+
+-- C reads off the number whether something is refused: it is 0 exactly where nothing is. Proved in proofs/Zero.antt.
+pub record ZeroIsNoRefusal : Type 0 where
+  pub call : (j : Job) (c : Call) → (refusalOf (step j c .answer) ≡ 0) ↔ (IsRefused (step j c) → ⊥)
+  pub find : (p : ℕ) (lengths symbols : List ℕ) (room : ℕ) →
+      (registerOf (Finder.answer p lengths symbols room) .refusal ≡ 0) ↔ ((k : ℕ) → Finder.answer p lengths symbols room ≡ Finder.refused k → ⊥)

@@ -2,11 +2,10 @@
 -- calls promises; that the header's text is these steps is read, and tried by tests/. A list of steps answers and leaves what the list of calls does.
 -- Proved in proofs/Runs.antt.
 use mathlib.Core.Path.{_≡_}
-use mathlib.Core.Logic.{_↔_}
 use mathlib.Core.List.{List, [], _∷_}
 use Prim.Native.Nat.{ℕ}
 use Rattle.job.specs.Calls.{Call, shape, encode, locate, repair, Outcome, step}
-use Rattle.job.specs.Demands.{runFrom, run, IsRefused}
+use Rattle.job.specs.Demands.{runFrom, run}
 use Rattle.job.specs.Job.{Arrays, Job, beside, withFound, emptyHead}
 use Rattle.capi.specs.Exports.{HeadShapes, HeadEncodes, HeadLocates, HeadRepairs}
 use Rattle.capi.specs.Mirror.{headOf, mirrorOf, refusalOf, answeredOf}
@@ -81,6 +80,8 @@ pub record Given (m : CJob) (c : Call) (r : CReturn) : Type 0 where
   pub frame : r .frame ≡ step (jobOf m) c .frame
 
 pub record CEdge : Type 0 where
+  -- what the exported functions promise can be given, whatever the struct
+  pub total : (m : CJob) (c : Call) → (r : CReturn) × CStep m c r
   -- from any struct
   pub given : (m : CJob) (c : Call) (r : CReturn) → CStep m c r → Given m c r
   pub left : (m : CJob) (calls : List Call) (after : CJob) → CRun m calls after → jobOf after ≡ runFrom (jobOf m) calls
@@ -88,5 +89,3 @@ pub record CEdge : Type 0 where
   pub job : (a : Arrays) (calls : List Call) (m : CJob) → CRun (emptied a) calls m → m ≡ mirrorJob (run a calls)
   pub returned : (a : Arrays) (calls : List Call) (m : CJob) (c : Call) (r : CReturn) → CRun (emptied a) calls m → CStep m c r →
       r ≡ returnOf c (step (run a calls) c)
-  -- C reads off the number whether a call was refused
-  pub zero : (j : Job) (c : Call) → (refusalOf (step j c .answer) ≡ 0) ↔ (IsRefused (step j c) → ⊥)
