@@ -11,7 +11,7 @@ use Rattle.job.specs.Demands.{runFrom, run}
 use Rattle.job.specs.Job.{Arrays, Job, beside, withSums, withFound, emptyJob}
 use Rattle.job.specs.declared.Head.{Head}
 use Rattle.job.proofs.Cases.{by-call}
-use Rattle.capi.specs.Exports.{CShapes, CEncodes, CLocates, CRepairs}
+use Rattle.capi.specs.Exports.{CShapes, CEncodes, CLocates, CRepairs, HeadShapes, HeadEncodes, HeadRepairs}
 use Rattle.capi.specs.Mirror.{headOf, mirrorOf, refusalOf, shapedOf, answeredOf}
 use Rattle.capi.specs.Runs.{CJob, CReply, number, answer, CReturn, CStep, CRun, emptied, jobOf, mirrorJob, replyOf, returnOf, Given, CEdge}
 use Rattle.capi.specs.declared.CAnswered.{CAnswered}
@@ -117,30 +117,40 @@ module _ {A : Type 0} (seen : Outcome → A) where
       ∙ ap (λ ts. firstOf (λ k. seen (refusing j (describe j c .lent) k)) (describe j c .keeping)
       (seen (firstOf (refusing (reshaped j) (describe j c .lent)) ts (describe j c .gives)))) e
 
-total : (m : CJob) (c : Call) → (r : CReturn) × CStep m c r
-total m (shape n checks) =
-    (_, (shapedOf (step (jobOf m) (shape n checks)), λ a. record {
-      answers = seen-of shapedOf (jobOf m) (shape n checks) refl ∙ sym (seen-of shapedOf (beside (headOf (m .head)) a) (shape n checks) refl);
-      arrays = by-call (beside (headOf (m .head)) a) (shape n checks) (λ o. o .job .arrays ≡ a) (λ k b. refl) (λ k l b. absurd b) (λ k l. refl);
-    }, refl))
-total m (encode f) =
-    let o = step (jobOf m) (encode f) in
-    (_, (refusalOf (o .answer), o .frame, λ a. record {
-      answers = seen-of (λ x. refusalOf (x .answer)) (jobOf m) (encode f) refl
-          ∙ sym (seen-of (λ x. refusalOf (x .answer)) (beside (headOf (m .head)) a) (encode f) refl);
-      job = by-call (beside (headOf (m .head)) a) (encode f) (λ x. x .job ≡ beside (headOf (m .head)) a) (λ k b. refl) (λ k l b. absurd b) (λ k l. refl);
-      leaves = seen-of (λ x. x .frame) (jobOf m) (encode f) refl ∙ sym (seen-of (λ x. x .frame) (beside (headOf (m .head)) a) (encode f) refl);
-    }, refl))
-total m (locate f) =
-    let o = step (jobOf m) (locate f) in
-    (_, (answeredOf o, o .job .arrays .sums, o .job .arrays .taps, λ a. record { answers = refl; arrays = refl }, refl))
-total m (repair f) =
-    let o = step (jobOf m) (repair f) in
-    (_, (answeredOf o, o .frame, λ a. let j : Job = beside (headOf (m .head)) (withSums a (m .arrays .sums)) in record {
-      answers = seen-of answeredOf (jobOf m) (repair f) refl ∙ sym (seen-of answeredOf j (repair f) refl);
-      arrays = by-call j (repair f) (λ x. x .job .arrays ≡ j .arrays) (λ k b. refl) (λ k l b. absurd b) (λ k l. refl);
-      leaves = seen-of (λ x. x .frame) (jobOf m) (repair f) refl ∙ sym (seen-of (λ x. x .frame) j (repair f) refl);
-    }, refl))
+module _ (m : CJob) where
+  can-shape : (n : ℕ) (checks : List ℕ) → HeadShapes (m .head) n checks (shapedOf (step (jobOf m) (shape n checks)))
+  can-shape n checks a =
+      let j : Job = beside (headOf (m .head)) a in
+      record {
+        answers = seen-of shapedOf (jobOf m) (shape n checks) refl ∙ sym (seen-of shapedOf j (shape n checks) refl);
+        arrays = by-call j (shape n checks) (λ o. o .job .arrays ≡ a) (λ k b. refl) (λ k p b. absurd b) (λ p q. refl);
+      }
+
+  can-encode : (f : List ℕ) → HeadEncodes (m .head) f (refusalOf (step (jobOf m) (encode f) .answer)) (step (jobOf m) (encode f) .frame)
+  can-encode f a =
+      let j : Job = beside (headOf (m .head)) a in
+      record {
+        answers = seen-of (λ o. refusalOf (o .answer)) (jobOf m) (encode f) refl ∙ sym (seen-of (λ o. refusalOf (o .answer)) j (encode f) refl);
+        job = by-call j (encode f) (λ o. o .job ≡ j) (λ k b. refl) (λ k p b. absurd b) (λ p q. refl);
+        leaves = seen-of (λ o. o .frame) (jobOf m) (encode f) refl ∙ sym (seen-of (λ o. o .frame) j (encode f) refl);
+      }
+
+  can-repair : (f : List ℕ) → HeadRepairs (m .head) (m .arrays .sums) f (answeredOf (step (jobOf m) (repair f))) (step (jobOf m) (repair f) .frame)
+  can-repair f a =
+      let j : Job = beside (headOf (m .head)) (withSums a (m .arrays .sums)) in
+      record {
+        answers = seen-of answeredOf (jobOf m) (repair f) refl ∙ sym (seen-of answeredOf j (repair f) refl);
+        arrays = by-call j (repair f) (λ o. o .job .arrays ≡ j .arrays) (λ k b. refl) (λ k p b. absurd b) (λ p q. refl);
+        leaves = seen-of (λ o. o .frame) (jobOf m) (repair f) refl ∙ sym (seen-of (λ o. o .frame) j (repair f) refl);
+      }
+
+  total : (c : Call) → (r : CReturn) × CStep m c r
+  total (shape n checks) = (_, (_, can-shape n checks, refl))
+  total (encode f) = (_, (_, _, can-encode f, refl))
+  total (locate f) =
+      let o : Outcome = step (jobOf m) (locate f) in
+      (_, (answeredOf o, o .job .arrays .sums, o .job .arrays .taps, λ a. record { answers = refl; arrays = refl }, refl))
+  total (repair f) = (_, (_, _, can-repair f, refl))
 
 pub c-edge : CEdge
 c-edge = record { total = total; given = given; left = left; job = job; returned = returned }

@@ -76,7 +76,11 @@ abbrev pub EmptyMirror : Type 0
 EmptyMirror =
     mirrorOf emptyHead ≡
     record {
-      phase = 0; alone = 0; length = 0; rows = 0; columns = 0;
+      phase = 0;
+      alone = 0;
+      length = 0;
+      rows = 0;
+      columns = 0;
       marks = 0 ∷ 0 ∷ 0 ∷ 0 ∷ [];
       checks = 0 ∷ 0 ∷ 0 ∷ 0 ∷ 0 ∷ 0 ∷ 0 ∷ 0 ∷ [];
     }
@@ -86,7 +90,11 @@ abbrev pub LocatedMirror : Type 0
 LocatedMirror =
     mirrorOf (locatedHead (shapeOf 256 (4 ∷ 64 ∷ [])) 3 (columnsOf (λ i. eqb i 0 || (eqb i 65 || eqb i 255)))) ≡
     record {
-      phase = 2; alone = 1; length = 3; rows = 2; columns = 256;
+      phase = 2;
+      alone = 1;
+      length = 3;
+      rows = 2;
+      columns = 256;
       marks = 1 ∷ 2 ∷ 0 ∷ 9223372036854775808 ∷ [];
       checks = 4 ∷ 64 ∷ 0 ∷ 0 ∷ 0 ∷ 0 ∷ 0 ∷ 0 ∷ [];
     }
