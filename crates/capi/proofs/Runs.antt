@@ -12,7 +12,7 @@ use Rattle.job.specs.Job.{Arrays, Job, beside, withSums, withFound, emptyJob}
 use Rattle.job.specs.declared.Head.{Head}
 use Rattle.job.proofs.Cases.{by-call}
 use Rattle.capi.specs.Exports.{CShapes, CEncodes, CLocates, CRepairs, HeadShapes, HeadEncodes, HeadRepairs}
-use Rattle.capi.specs.Mirror.{headOf, mirrorOf, refusalOf, shapedOf, answeredOf}
+use Rattle.capi.specs.Mirror.{headOf, refusalOf, shapedOf, answeredOf}
 use Rattle.capi.specs.Runs.{CJob, CReply, number, answer, CReturn, CStep, CRun, emptied, jobOf, mirrorJob, replyOf, returnOf, Given, CEdge}
 use Rattle.capi.specs.declared.CAnswered.{CAnswered}
 use Rattle.capi.specs.declared.CHead.{CHead}
@@ -73,10 +73,11 @@ given m c r s =
     stands (inl e) = ap jobOf e ∙ same-job (step (jobOf m) c .job)
     stands (inr (e, k)) = ap jobOf e ∙ sym k
 
--- from the mirror of a job
+-- a return by its parts
 result : CReply → CJob → List ℕ → CReturn
 result x m f = record { reply = x; job = m; frame = f }
 
+-- on the mirror of a job all that is given is the mirror, since encode leaves the job too
 returned-from : (j : Job) (c : Call) (r : CReturn) → CStep (mirrorJob j) c r → r ≡ returnOf c (step j c)
 unfolding result
 returned-from j c r s =

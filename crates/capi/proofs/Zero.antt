@@ -1,6 +1,6 @@
 -- The number that C reads is 0 exactly where nothing is refused: no test of an order has the number 0.
 use mathlib.Core.Path.{_≡_, refl, sym, ap, _∙_}
-use mathlib.Core.Logic.{_⊎_, inl, inr, _↔_}
+use mathlib.Core.Logic.{inl, inr, _↔_}
 use mathlib.Core.List.{List, [], _∷_}
 use Prim.Native.Nat.{ℕ, suc}
 use native.Mathlib.Omega.{arith}
@@ -17,6 +17,7 @@ use Rattle.job.proofs.AfterRefusal.{same-number, gives-no-refusal}
 use Rattle.job.proofs.Cases.{by-call}
 use Rattle.capi.specs.Mirror.{refusalOf, registerOf, ZeroIsNoRefusal}
 
+-- no test has the number 0
 abbrev Numbered : List Test → Type 0
 Numbered [] = Unit {0}
 Numbered (t ∷ ts) = (t .number ≡ 0 → ⊥) × Numbered ts
@@ -28,6 +29,8 @@ numbered-among k (t ∷ ts) n (inr a) e = numbered-among k ts (n .1) a e
 
 nonzero : (k : ℕ) → suc k ≡ 0 → ⊥
 nonzero k e = omega arith
+
+-- ---- the calls on a job
 
 keeping-numbered : (j : Job) (c : Call) → Numbered (describe j c .keeping)
 unfolding shapeTests encodeTests frameTests
