@@ -2,15 +2,21 @@
  *
  * Link with target/staticlib/libcapi.a, which 'rt staticlib capi' builds. Every call is total: it answers for every argument, and a refusal is the number
  * that the documentation gives it; 0 means that nothing is refused. Nothing here allocates, blocks or keeps state: what a call knows stands in the job
- * and in what is lent. A refused call writes nothing to what is lent and leaves the job as it was, but that locate refused by 24, 25 or 26 leaves it
- * shaped. A pointer must be valid for the count of 16-bit numbers that follows it, and what is written must not overlap the job or anything else lent.
+ * and in what is lent. A pointer must be valid for the count of 16-bit numbers that follows it, and what is written must not overlap the job or anything
+ * else lent.
  *
- * The calls on a job, which is empty, shaped or located
- *   tomkhadi_empty    makes it empty, whatever it was
- *   tomkhadi_shape    gives it a shape: it is shaped
- *   tomkhadi_encode   makes a frame legal; the job is left
- *   tomkhadi_locate   finds the damaged columns of a frame: the job is located
- *   tomkhadi_repair   wants a located job and the frame that was located, and mends it: the job is shaped
+ * The calls on a job, which is empty, shaped or located: what each wants, and how it leaves the job
+ *   tomkhadi_empty    wants nothing; the job is empty, whatever it was
+ *   tomkhadi_shape    wants nothing; the job is shaped, whatever it was, and nothing is located any more
+ *   tomkhadi_encode   wants a job that is shaped or located, and makes a frame legal; the job is as it was
+ *   tomkhadi_locate   wants a job that is shaped or located, and finds the damaged columns of a frame; the job is located by this frame
+ *   tomkhadi_repair   wants a job that is located, and a frame with the check sums of the frame that it is located by, and mends it; the job is shaped
+ * A refused call writes nothing to what is lent and leaves the job as it was, but that locate refused by 24, 25 or 26 leaves it shaped. So between a locate
+ * and its repair there may be encodes, and calls that are refused by other numbers.
+ *
+ * What is proved: the functions of the archive do what is said here, whatever they are given (crates/capi/src). The calls on a job are inline functions of
+ * one to three lines over them, and C is not proved: that such lines, in a list of any length, do what is said here is proved of their description
+ * (crates/capi/specs/Runs.antt), and that they are as described is tested (tests/src/prototypes.c, and all of tests/src/trials).
  *
  * Refusals because of the input
  *    1  p is below 2, above 65521 or not prime
@@ -98,32 +104,34 @@ uint32_t tomkhadi_head_encode(tomkhadi_head head, uint16_t *frame, size_t size);
 tomkhadi_head_answered tomkhadi_head_locate(tomkhadi_head head, uint16_t sums[512], uint16_t taps[65], const uint16_t *frame, size_t size);
 tomkhadi_head_answered tomkhadi_head_repair(tomkhadi_head head, const uint16_t sums[512], uint16_t *frame, size_t size);
 
-/* Makes the job empty, and its arrays zeros. */
+/* Makes the job empty, and its arrays zeros. Refuses nothing. */
 static inline void tomkhadi_empty(tomkhadi_job *job) {
   memset(job, 0, sizeof *job);
   job->head = tomkhadi_head_empty();
 }
 
-/* Gives the job its shape: `columns` columns and one row for each of the check counts. Answers the refusal or 0. Refusals: 2, 5, 6. */
+/* Gives the job its shape: `columns` columns and one row for each of the check counts. Leaves it shaped. Answers the refusal or 0. Refusals: 2, 5, 6. */
 static inline uint32_t tomkhadi_shape(tomkhadi_job *job, size_t columns, const uint16_t *checks, size_t rows) {
   tomkhadi_head_shaped shaped = tomkhadi_head_shape(job->head, columns, checks, rows);
   job->head = shaped.head;
   return shaped.refusal;
 }
 
-/* Fills the check cells of a frame from its data cells. Answers the refusal or 0. Refusals: 21, 7, 4. */
+/* Fills the check cells of a frame from its data cells. Leaves the job as it is. Answers the refusal or 0. Refusals: 21, 7, 4. */
 static inline uint32_t tomkhadi_encode(const tomkhadi_job *job, uint16_t *frame, size_t size) {
   return tomkhadi_head_encode(job->head, frame, size);
 }
 
-/* Finds the damaged columns of a frame, which it only reads. Refusals: 21, 7, 4, 24, 25, 26. */
+/* Finds the damaged columns of a frame, which it only reads. Leaves the job located; refused by 24, 25 or 26, shaped. Answers the number of columns to mend,
+ * and the columns. Refusals: 21, 7, 4, 24, 25, 26. */
 static inline tomkhadi_answer tomkhadi_locate(tomkhadi_job *job, const uint16_t *frame, size_t size) {
   tomkhadi_head_answered located = tomkhadi_head_locate(job->head, job->sums, job->taps, frame, size);
   job->head = located.head;
   return located.answer;
 }
 
-/* Mends the located columns of a frame, which must have the check sums of the frame located. Refusals: 21, 22, 7, 4, 23. */
+/* Mends the located columns of a frame, which must have the check sums of the frame located. Leaves the job shaped; refused, as it was. Answers the number of
+ * columns mended, and the columns. Refusals: 21, 22, 7, 4, 23. */
 static inline tomkhadi_answer tomkhadi_repair(tomkhadi_job *job, uint16_t *frame, size_t size) {
   tomkhadi_head_answered repaired = tomkhadi_head_repair(job->head, job->sums, frame, size);
   job->head = repaired.head;

@@ -37,3 +37,8 @@ compile_c() {
   gcc -std=c11 -Wall -Wextra -Werror -O2 -Iinclude -c "$1" -o "$object"
   linked+=(-C "link-arg=$object")
 }
+
+# program_c SOURCE: a program over the library
+program_c() {
+  gcc -std=c11 -Wall -Wextra -Werror -pedantic -O2 -Iinclude "$1" target/staticlib/libcapi.a -o "$out/$(basename "$1" .c)"
+}

@@ -28,8 +28,9 @@ fn subject() -> Box<dyn Calls> {
 
 type Trial = fn(&mut Judge);
 
-const TRIALS: [(&str, Trial); 8] = [
+const TRIALS: [(&str, Trial); 9] = [
     ("layout", trials::layout::run),
+    ("prototypes", trials::prototypes::run),
     ("examples", trials::examples::run),
     ("vectors", trials::vectors::run),
     ("finder", trials::finder::run),

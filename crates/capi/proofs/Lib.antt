@@ -1,1 +1,3 @@
 pub mod RoundTrip
+pub mod Runs
+pub mod Zero

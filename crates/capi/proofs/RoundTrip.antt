@@ -1,10 +1,12 @@
--- A head that goes through the C interface and comes back is the same head, whatever it holds. Assumes nothing.
+-- A head that goes through the C interface and comes back is the same head, whatever it holds; and two mirrors to the number.
 use mathlib.Core.Path.{_≡_, refl, ap}
 use mathlib.Core.Bool.{true, false}
-use Rattle.job.specs.declared.Head.{Head}
+use Rattle.columns.specs.Columns.{columnsOf, number}
+use Rattle.frame.specs.Shape.{shapeOf}
+use Rattle.job.specs.Job.{noColumns}
 use Rattle.job.specs.declared.Phase.{Phase}
 use Rattle.job.specs.declared.Phase.the-variants.{Empty, Shaped, Located}
-use Rattle.capi.specs.Mirror.{phaseOf, phaseNumber, phaseLength, phaseAlone, headOf, mirrorOf}
+use Rattle.capi.specs.Mirror.{phaseOf, phaseNumber, phaseLength, phaseAlone, ThereAndBack, EmptyMirror, LocatedMirror}
 
 same-phase : (p : Phase) → phaseOf (phaseNumber p) (phaseLength p) (phaseAlone p) ≡ p
 same-phase Empty = refl
@@ -12,6 +14,14 @@ same-phase Shaped = refl
 same-phase (Located c true) = refl
 same-phase (Located c false) = refl
 
-pub there-and-back : (j : Head) → headOf (mirrorOf j) ≡ j
+pub there-and-back : ThereAndBack
 there-and-back j =
     ap (λ (p : Phase). record { phase = p; shape = j .shape; columns = j .columns }) (same-phase (j .phase))
+
+pub empty-mirror : EmptyMirror
+unfolding noColumns columnsOf number
+empty-mirror = refl
+
+pub located-mirror : LocatedMirror
+unfolding shapeOf columnsOf number
+located-mirror = refl

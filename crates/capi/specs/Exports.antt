@@ -5,10 +5,11 @@ use mathlib.Core.List.{List}
 use Prim.Native.Nat.{ℕ}
 use lib.ListN.{length}
 use Rattle.finder.specs.Finder.{answer, tapsLeft}
-use Rattle.job.specs.Calls.{Outcome}
-use Rattle.job.specs.Job.{Arrays, Job}
-use Rattle.capi.specs.Mirror.{registerOf, refusalOf, shapedOf, answeredOf}
+use Rattle.job.specs.Calls.{Outcome, step, shape, encode, locate, repair}
+use Rattle.job.specs.Job.{Arrays, Job, beside, withSums, withFound}
+use Rattle.capi.specs.Mirror.{headOf, registerOf, refusalOf, shapedOf, answeredOf}
 use Rattle.capi.specs.declared.CAnswered.{CAnswered}
+use Rattle.capi.specs.declared.CHead.{CHead}
 use Rattle.capi.specs.declared.CRegister.{CRegister}
 use Rattle.capi.specs.declared.CShaped.{CShaped}
 
@@ -39,3 +40,18 @@ pub record CRepairs (a : Arrays) (o : Outcome) (r : CAnswered) (left : List ℕ)
   pub answers : r ≡ answeredOf o
   pub arrays : o .job .arrays ≡ a
   pub leaves : left ≡ o .frame
+
+-- What each function promises of the head that it is given, of what it is lent and of what it returns and leaves, whatever the arrays are that it is not lent
+abbrev pub HeadShapes : (head : CHead) (n : ℕ) (checks : List ℕ) (r : CShaped) → Type 0
+HeadShapes m n checks r = (a : Arrays) → CShapes a (step (beside (headOf m) a) (shape n checks)) r
+
+abbrev pub HeadEncodes : (head : CHead) (frame : List ℕ) (r : ℕ) (left : List ℕ) → Type 0
+HeadEncodes m f r left = (a : Arrays) → CEncodes (beside (headOf m) a) (step (beside (headOf m) a) (encode f)) r left
+
+abbrev pub HeadLocates : (head : CHead) (sums taps frame : List ℕ) (r : CAnswered) (sumsLeft tapsLeft : List ℕ) → Type 0
+HeadLocates m sums taps f r sumsLeft tapsLeft =
+    (a : Arrays) → CLocates (step (beside (headOf m) (withFound a sums taps)) (locate f)) r (withFound a sumsLeft tapsLeft)
+
+abbrev pub HeadRepairs : (head : CHead) (sums frame : List ℕ) (r : CAnswered) (left : List ℕ) → Type 0
+HeadRepairs m sums f r left =
+    (a : Arrays) → CRepairs (withSums a sums) (step (beside (headOf m) (withSums a sums)) (repair f)) r left

@@ -1,10 +1,17 @@
 -- How heads of jobs and answers cross the C interface: as structs of numbers and arrays. An exported function can return no enum, so the phase is a number.
-use mathlib.Core.Bool.{Bool, true, false, cond}
+use mathlib.Core.Path.{_≡_}
+use mathlib.Core.Logic.{_↔_}
+use mathlib.Core.Bool.{Bool, true, false, cond, _||_}
+use mathlib.Core.List.{List, [], _∷_}
 use Prim.Native.Nat.{ℕ}
 use lib.Dec.{eqb}
+use Rattle.columns.specs.Columns.{columnsOf}
 use Rattle.finder.specs.Finder as Finder
 use Rattle.job.specs.Calls as Calls
-use Rattle.job.specs.Calls.{Outcome}
+use Rattle.frame.specs.Shape.{shapeOf}
+use Rattle.job.specs.Calls.{Call, Outcome, step}
+use Rattle.job.specs.Demands.{IsRefused}
+use Rattle.job.specs.Job.{Job, emptyHead, locatedHead}
 use Rattle.job.specs.declared.Head.{Head}
 use Rattle.job.specs.declared.Phase.{Phase}
 use Rattle.job.specs.declared.Phase.the-variants.{Empty, Shaped, Located}
@@ -47,7 +54,7 @@ phaseAlone Empty = 0
 phaseAlone Shaped = 0
 phaseAlone (Located c a) = markOf a
 
--- the struct of C that stands for a head; `headOf` gives the head back (proofs/RoundTrip.antt)
+-- the struct of C that stands for a head
 abbrev pub mirrorOf : Head → CHead
 mirrorOf j =
     record {
@@ -58,6 +65,38 @@ mirrorOf j =
       columns = j .shape .columns;
       marks = j .columns .words;
       checks = j .shape .checks;
+    }
+
+-- A head that goes through the C interface and comes back is the same head, whatever it holds. Proved, as the two mirrors below, in proofs/RoundTrip.antt.
+abbrev pub ThereAndBack : Type 0
+ThereAndBack = (j : Head) → headOf (mirrorOf j) ≡ j
+
+-- an empty head is zeros
+abbrev pub EmptyMirror : Type 0
+EmptyMirror =
+    mirrorOf emptyHead ≡
+    record {
+      phase = 0;
+      alone = 0;
+      length = 0;
+      rows = 0;
+      columns = 0;
+      marks = 0 ∷ 0 ∷ 0 ∷ 0 ∷ [];
+      checks = 0 ∷ 0 ∷ 0 ∷ 0 ∷ 0 ∷ 0 ∷ 0 ∷ 0 ∷ [];
+    }
+
+-- a head of two rows and 256 columns, located at the columns 0, 65 and 255
+abbrev pub LocatedMirror : Type 0
+LocatedMirror =
+    mirrorOf (locatedHead (shapeOf 256 (4 ∷ 64 ∷ [])) 3 (columnsOf (λ i. eqb i 0 || (eqb i 65 || eqb i 255)))) ≡
+    record {
+      phase = 2;
+      alone = 1;
+      length = 3;
+      rows = 2;
+      columns = 256;
+      marks = 1 ∷ 2 ∷ 0 ∷ 9223372036854775808 ∷ [];
+      checks = 4 ∷ 64 ∷ 0 ∷ 0 ∷ 0 ∷ 0 ∷ 0 ∷ 0 ∷ [];
     }
 
 -- the number of a refusal, and 0 where nothing is refused
@@ -88,3 +127,9 @@ answeredOf o =
       answer = record { refusal = refusalOf (o .answer); count = countOf (o .answer); marks = o .marks .words };
       head = mirrorOf (o .job .head);
     }
+
+-- C reads off the number whether something is refused: it is 0 exactly where nothing is. Proved in proofs/Zero.antt.
+pub record ZeroIsNoRefusal : Type 0 where
+  pub call : (j : Job) (c : Call) → (refusalOf (step j c .answer) ≡ 0) ↔ (IsRefused (step j c) → ⊥)
+  pub find : (p : ℕ) (lengths symbols : List ℕ) (room : ℕ) →
+      (registerOf (Finder.answer p lengths symbols room) .refusal ≡ 0) ↔ ((k : ℕ) → Finder.answer p lengths symbols room ≡ Finder.refused k → ⊥)

@@ -17,11 +17,10 @@ use refusal::number_of;
 ghost use mathlib.Core.List.{List};
 ghost use mathlib.Core.Path.{_≡_};
 ghost use Prim.Native.Nat.{ℕ};
-ghost use Rattle.capi.specs.Exports.{CShapes, CEncodes, CLocates, CRepairs};
-ghost use Rattle.capi.specs.Mirror.{headOf, mirrorOf, refusalOf, countOf, answeredOf};
+ghost use Rattle.capi.specs.Exports.{HeadShapes, HeadEncodes, HeadLocates, HeadRepairs};
+ghost use Rattle.capi.specs.Mirror.{mirrorOf, refusalOf, countOf, answeredOf};
 ghost use Rattle.job.specs.Answers.{checkedAnswer, replyAnswer, answeredOutcome};
-ghost use Rattle.job.specs.Calls.{step, shape, encode, locate, repair};
-ghost use Rattle.job.specs.Job.{Arrays, beside, withSums, withFound, emptyHead};
+ghost use Rattle.job.specs.Job.{Arrays, emptyHead};
 
 fn refusal_of(v: Checked) -> u32
     ensures { λ r. ⌜ r ≡ refusalOf (checkedAnswer v) ⌝ }
@@ -74,7 +73,7 @@ pub extern "C" fn tomkhadi_head_empty() -> CHead
 
 #[no_mangle]
 pub extern "C" fn tomkhadi_head_shape(head: CHead, columns: usize, checks: &[u16]) -> CShaped
-    ensures { λ r. ⌜ ((a : Arrays) → CShapes a (step (beside (headOf head) a) (shape columns (now (checks .entry)))) r) ⌝ }
+    ensures { λ r. ⌜ HeadShapes head columns (now (checks .entry)) r ⌝ }
 {
     let made = shape(head_of(head), columns, checks);
     let checked = made.checked;
@@ -87,7 +86,7 @@ pub extern "C" fn tomkhadi_head_shape(head: CHead, columns: usize, checks: &[u16
 
 #[no_mangle]
 pub extern "C" fn tomkhadi_head_encode(head: CHead, frame: &mut [u16]) -> u32
-    ensures { λ r. ⌜ ((a : Arrays) → CEncodes (beside (headOf head) a) (step (beside (headOf head) a) (encode (now (frame .entry)))) r (now (frame .exit))) ⌝ }
+    ensures { λ r. ⌜ HeadEncodes head (now (frame .entry)) r (now (frame .exit)) ⌝ }
 {
     refusal_of(encode(head_of(head), frame))
 }
@@ -99,8 +98,7 @@ pub extern "C" fn tomkhadi_head_locate(
     taps: &mut [u16; 65],
     frame: &[u16],
 ) -> CAnswered
-    ensures { λ r. ⌜ ((a : Arrays) → CLocates (step (beside (headOf head) (withFound a (now (sums .entry)) (now (taps .entry)))) (locate (now (frame .entry)))) r
-        (withFound a (now (sums .exit)) (now (taps .exit)))) ⌝ }
+    ensures { λ r. ⌜ HeadLocates head (now (sums .entry)) (now (taps .entry)) (now (frame .entry)) r (now (sums .exit)) (now (taps .exit)) ⌝ }
 {
     answered_of(locate(head_of(head), sums, taps, frame))
 }
@@ -111,8 +109,7 @@ pub extern "C" fn tomkhadi_head_repair(
     sums: &[u16; 512],
     frame: &mut [u16],
 ) -> CAnswered
-    ensures { λ r. ⌜ ((a : Arrays) → CRepairs (withSums a (now (sums .entry)))
-        (step (beside (headOf head) (withSums a (now (sums .entry)))) (repair (now (frame .entry)))) r (now (frame .exit))) ⌝ }
+    ensures { λ r. ⌜ HeadRepairs head (now (sums .entry)) (now (frame .entry)) r (now (frame .exit)) ⌝ }
 {
     answered_of(repair(head_of(head), sums, frame))
 }

@@ -1,4 +1,4 @@
-// The C interface, declared in include/tomkhadi.h: each call over numbers, slices and structs of numbers, refusals as the numbers of document 01.
+// The C interface, declared in include/tomkhadi.h: each call over numbers, slices and structs of numbers, refusals as their numbers.
 mod find;
 mod jobs;
 mod mirror;

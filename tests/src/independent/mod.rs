@@ -1,6 +1,6 @@
-//! The calls of the library from their definitions in document 01, by elimination and direct
+//! The calls of the library from what docs/SPECIFICATION.md says of them, by elimination and direct
 //! sums. It shares no method with the library, but for the taps of a register that is not alone,
-//! which document 01 defines by Algorithm 4.
+//! which are defined by Algorithm 4.
 
 mod elimination;
 pub mod frames;

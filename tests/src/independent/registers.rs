@@ -1,5 +1,6 @@
 //! Registers by their definition: which generate the sequences, the shortest by solving for the
-//! taps at each length in turn, and the taps of Algorithm 4, step by step as document 01 gives it.
+//! taps at each length in turn, and the taps of Algorithm 4, step by step (docs/SPECIFICATION.md,
+//! "Registers").
 
 use super::elimination::{System, inverse};
 

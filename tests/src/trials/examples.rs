@@ -1,17 +1,22 @@
-//! Examples A to K of document 01, with the answers that stand there.
+//! The marked examples (docs/SPECIFICATION.md, "Examples"), with the answers that stand there.
+
+use common::interface::Marks;
 
 use crate::judge::Judge;
 
 /// p, the sequences, the taps, and whether they are alone.
 type Sequences = (u32, &'static [&'static [u16]], &'static [u16], bool);
 
-const REGISTERS: [Sequences; 6] = [
+const REGISTERS: [Sequences; 8] = [
     (5, &[&[1, 2, 4, 3]], &[1, 3], true),
     (5, &[&[1, 2, 4, 3], &[1, 1]], &[1, 3, 0], false),
     (2, &[&[0, 0, 1]], &[1, 0, 0, 0], false),
     (7, &[&[0, 0, 0], &[]], &[1], true),
     (5, &[&[3]], &[1, 0], false),
     (2, &[&[1, 0, 1, 1, 0, 1], &[0, 1, 1, 0]], &[1, 1, 1], true),
+    // The order of the sequences: the longer first, and equal ones as given.
+    (2, &[&[1, 1], &[0, 0, 1]], &[1, 0, 0, 0], false),
+    (2, &[&[0, 1], &[1, 1]], &[1, 0, 0], false),
 ];
 
 /// Columns, checks, the cells that are not 0, and the answer.
@@ -24,17 +29,17 @@ struct Frame {
 
 struct Located {
     sums: &'static [u16],
-    marks: u64,
+    marks: Marks,
 }
 
-const FRAMES: [Frame; 4] = [
+const FRAMES: [Frame; 5] = [
     Frame {
         columns: 4,
         checks: &[3, 2],
         cells: &[(2, 5), (6, 7)],
         located: Ok(Located {
             sums: &[45, 148, 47, 63, 53],
-            marks: 1 << 2,
+            marks: [1 << 2, 0, 0, 0],
         }),
     },
     Frame {
@@ -54,6 +59,16 @@ const FRAMES: [Frame; 4] = [
         checks: &[4, 1],
         cells: &[(0, 1), (1, 1)],
         located: Err(25),
+    },
+    // The last column, whose locator is the inverse of 3.
+    Frame {
+        columns: 256,
+        checks: &[2],
+        cells: &[(255, 1)],
+        located: Ok(Located {
+            sums: &[86, 200],
+            marks: [0, 0, 0, 1 << 63],
+        }),
     },
 ];
 
@@ -96,7 +111,7 @@ pub fn run(judge: &mut Judge) {
                 judge.compare(
                     "the columns of an example",
                     &example.cells,
-                    [marks, 0, 0, 0],
+                    marks,
                     answer.marks,
                 );
                 judge.compare(

@@ -103,7 +103,7 @@ fn against_enumeration(judge: &mut Judge, random: &mut Random) {
     }
 }
 
-/// The edges of document 01, and the first value beyond each.
+/// The edge of each range, and the first value beyond it.
 fn edges(judge: &mut Judge) {
     let mut refusal = |number: u32, p: u32, lengths: &[u16], symbols: &[u16], taps: usize| {
         let (register, _) = judge.find(p, lengths, symbols, taps);

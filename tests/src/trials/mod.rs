@@ -7,6 +7,7 @@ pub mod frames;
 pub mod layout;
 pub mod lists;
 pub mod program;
+pub mod prototypes;
 pub mod shapes;
 pub mod vectors;
 

@@ -1,0 +1,84 @@
+-- The number that C reads is 0 exactly where nothing is refused: no test of an order has the number 0.
+use mathlib.Core.Path.{_≡_, refl, sym, ap, _∙_}
+use mathlib.Core.Logic.{inl, inr, _↔_}
+use mathlib.Core.List.{List, [], _∷_}
+use Prim.Native.Nat.{ℕ, suc}
+use native.Mathlib.Omega.{arith}
+use Rattle.finder.specs.Finder as Finder
+use Rattle.finder.specs.Finder.{tests, answer}
+use Rattle.frame.specs.Encode.{encodeTests}
+use Rattle.frame.specs.Frame.{frameTests}
+use Rattle.frame.specs.Shape.{shapeTests}
+use Rattle.refusal.specs.Order.{Test}
+use Rattle.refusal.proofs.Orders.{Among, by-tests}
+use Rattle.job.specs.Calls.{Call, shape, encode, locate, repair, Answer, done, columns, refused, describe, registerTests, step}
+use Rattle.job.specs.Job.{Job}
+use Rattle.job.proofs.AfterRefusal.{same-number, gives-no-refusal}
+use Rattle.job.proofs.Cases.{by-call}
+use Rattle.capi.specs.Mirror.{refusalOf, registerOf, ZeroIsNoRefusal}
+
+-- no test has the number 0
+abbrev Numbered : List Test → Type 0
+Numbered [] = Unit {0}
+Numbered (t ∷ ts) = (t .number ≡ 0 → ⊥) × Numbered ts
+
+numbered-among : (k : ℕ) (ts : List Test) → Numbered ts → Among k ts → k ≡ 0 → ⊥
+numbered-among k [] n a e = absurd a
+numbered-among k (t ∷ ts) n (inl a) e = n .0 (sym a ∙ e)
+numbered-among k (t ∷ ts) n (inr a) e = numbered-among k ts (n .1) a e
+
+nonzero : (k : ℕ) → suc k ≡ 0 → ⊥
+nonzero k e = omega arith
+
+-- ---- the calls on a job
+
+keeping-numbered : (j : Job) (c : Call) → Numbered (describe j c .keeping)
+unfolding shapeTests encodeTests frameTests
+keeping-numbered j (shape n checks) = (nonzero _, (nonzero _, (nonzero _, tt)))
+keeping-numbered j (encode f) = (nonzero _, (nonzero _, (nonzero _, tt)))
+keeping-numbered j (locate f) = (nonzero _, (nonzero _, (nonzero _, tt)))
+keeping-numbered j (repair f) = (nonzero _, (nonzero _, (nonzero _, (nonzero _, (nonzero _, tt)))))
+
+shaping-numbered : (j : Job) (c : Call) → Numbered (describe j c .shaping)
+unfolding registerTests
+shaping-numbered j (shape n checks) = tt
+shaping-numbered j (encode f) = tt
+shaping-numbered j (locate f) = (nonzero _, (nonzero _, (nonzero _, tt)))
+shaping-numbered j (repair f) = tt
+
+refused-nonzero : (j : Job) (c : Call) (k : ℕ) → step j c .answer ≡ refused k → k ≡ 0 → ⊥
+refused-nonzero j c k =
+    by-call j c (λ o. o .answer ≡ refused k → k ≡ 0 → ⊥)
+    (λ m a e z. numbered-among m (describe j c .keeping) (keeping-numbered j c) a (same-number e ∙ z))
+    (λ m p a e z. numbered-among m (describe j c .shaping) (shaping-numbered j c) a (same-number e ∙ z))
+    (λ p q e z. gives-no-refusal j c e)
+
+not-refused : (x : Answer) → ((k : ℕ) → x ≡ refused k → ⊥) → refusalOf x ≡ 0
+not-refused done n = refl
+not-refused (columns c) n = refl
+not-refused (refused k) n = absurd (n k refl)
+
+-- ---- the finder
+
+tests-numbered : (p : ℕ) (lengths symbols : List ℕ) (room : ℕ) → Numbered (tests p lengths symbols room)
+unfolding tests
+tests-numbered p lengths symbols room = (nonzero _, (nonzero _, (nonzero _, (nonzero _, (nonzero _, tt)))))
+
+find-zero : (p : ℕ) (lengths symbols : List ℕ) (room : ℕ) → answer p lengths symbols room ≡ Finder.refused 0 → ⊥
+unfolding answer
+find-zero p lengths symbols room =
+    by-tests Finder.refused _ (λ x. x ≡ Finder.refused 0 → ⊥) (tests p lengths symbols room)
+    (λ k a e. numbered-among k (tests p lengths symbols room) (tests-numbered p lengths symbols room) a cc)
+    (λ p e. let z : _≡_ {A = ℕ} 0 1 = cc in omega arith)
+
+found : (x : Finder.Answer) → (x ≡ Finder.refused 0 → ⊥) → (registerOf x .refusal ≡ 0) ↔ ((k : ℕ) → x ≡ Finder.refused k → ⊥)
+found (Finder.register l a) n = (λ e k f. let z : _≡_ {A = ℕ} 0 1 = cc in omega arith, λ f. refl)
+found (Finder.refused k) n = (λ e m f. n (ap Finder.refused e), λ f. absurd (f k refl))
+
+pub zero-is-no-refusal : ZeroIsNoRefusal
+zero-is-no-refusal =
+    record {
+      call = λ j c.
+          (λ e (k, a). refused-nonzero j c k a (sym (ap refusalOf a) ∙ e), λ n. not-refused (step j c .answer) (λ k a. n (k, a)));
+      find = λ p lengths symbols room. found (answer p lengths symbols room) (find-zero p lengths symbols room);
+    }

@@ -1,0 +1,164 @@
+/* Calls every function of the header through a pointer of the type that is promised, so that a prototype with another type does not compile. No two arguments
+ * of a call can change places without another answer. The frame is that of examples/c/repair.c; its check sums and taps were worked out by hand.
+ * tests/run builds and runs it. */
+#include <stdio.h>
+
+#include "tomkhadi.h"
+
+/* Those of the archive. */
+static tomkhadi_register (*const find)(uint32_t, const uint16_t *, size_t, const uint16_t *, size_t, uint16_t *, size_t) = tomkhadi_find;
+static tomkhadi_head (*const head_empty)(void) = tomkhadi_head_empty;
+static tomkhadi_head_shaped (*const head_shape)(tomkhadi_head, size_t, const uint16_t *, size_t) = tomkhadi_head_shape;
+static uint32_t (*const head_encode)(tomkhadi_head, uint16_t *, size_t) = tomkhadi_head_encode;
+static tomkhadi_head_answered (*const head_locate)(tomkhadi_head, uint16_t *, uint16_t *, const uint16_t *, size_t) = tomkhadi_head_locate;
+static tomkhadi_head_answered (*const head_repair)(tomkhadi_head, const uint16_t *, uint16_t *, size_t) = tomkhadi_head_repair;
+
+/* Those of the header. */
+static void (*const empty)(tomkhadi_job *) = tomkhadi_empty;
+static uint32_t (*const shape)(tomkhadi_job *, size_t, const uint16_t *, size_t) = tomkhadi_shape;
+static uint32_t (*const encode)(const tomkhadi_job *, uint16_t *, size_t) = tomkhadi_encode;
+static tomkhadi_answer (*const locate)(tomkhadi_job *, const uint16_t *, size_t) = tomkhadi_locate;
+static tomkhadi_answer (*const repair)(tomkhadi_job *, uint16_t *, size_t) = tomkhadi_repair;
+
+enum { ROWS = 2, COLUMNS = 8, SIZE = ROWS * COLUMNS };
+
+static const uint16_t checks[ROWS] = {4, 2};
+static const uint16_t data[SIZE] = {0, 0, 0, 0, 10, 20, 30, 40, 0, 0, 1, 2, 3, 4, 5, 6};
+static const uint16_t sent[SIZE] = {119, 79, 107, 241, 10, 20, 30, 40, 122, 198, 1, 2, 3, 4, 5, 6};
+static const uint16_t received[SIZE] = {119, 79, 107, 241, 10, 256, 30, 40, 122, 198, 1, 2, 3, 0, 5, 6};
+
+/* Column 5 is damaged by 236 and by -4, and its locator 3^5 is 243: four sums of row 1 and two of row 2, and the taps 1 and -243. */
+static const uint16_t sums[512] = {37, 253, 56, 244, 56, 244};
+static const uint16_t taps[65] = {1, 14};
+
+static const tomkhadi_head zeros;
+static const tomkhadi_head shaped = {.phase = 1, .rows = ROWS, .columns = COLUMNS, .checks = {4, 2}};
+static const tomkhadi_head located = {.phase = 2, .alone = 1, .length = 1, .rows = ROWS, .columns = COLUMNS, .marks = {1 << 5}, .checks = {4, 2}};
+
+static int checked;
+static int failed;
+
+static void check(int holds, int line) {
+  checked++;
+  if (holds) return;
+  failed++;
+  printf("tests/src/prototypes.c:%d: does not hold\n", line);
+}
+
+#define CHECK(holds) check(holds, __LINE__)
+#define SAME(a, b) CHECK(memcmp(a, b, sizeof(b)) == 0)
+
+static int is_head(tomkhadi_head head, tomkhadi_head other) {
+  return memcmp(&head, &other, sizeof head) == 0;
+}
+
+/* The refusal, or one column, which is column 5. */
+static int is_answer(tomkhadi_answer answer, uint32_t refusal) {
+  uint64_t count = refusal == 0;
+  return answer.refusal == refusal && answer.count == count && answer.marks[0] == count << 5 && !answer.marks[1] && !answer.marks[2] && !answer.marks[3];
+}
+
+static int is_register(tomkhadi_register found, uint32_t refusal, uint32_t alone, uint64_t length) {
+  return found.refusal == refusal && found.alone == alone && found.length == length;
+}
+
+static void registers(void) {
+  const uint16_t lengths[2] = {4, 2};
+  const uint16_t symbols[6] = {1, 2, 4, 3, 1, 1};
+  uint16_t buffer[8] = {9, 9, 9, 9, 9, 9, 9, 9};
+  const uint16_t kept[8] = {9, 9, 9, 9, 9, 9, 9, 9};
+  CHECK(is_register(find(4, lengths, 2, symbols, 6, buffer, 7), 1, 0, 0));
+  CHECK(is_register(find(5, lengths, 0, symbols, 6, buffer, 7), 2, 0, 0));
+  CHECK(is_register(find(5, lengths, 2, symbols, 5, buffer, 7), 3, 0, 0));
+  CHECK(is_register(find(5, lengths, 2, symbols, 6, buffer, 4), 8, 0, 0));
+  CHECK(is_register(find(3, lengths, 2, symbols, 6, buffer, 7), 4, 0, 0));
+  SAME(buffer, kept);
+  CHECK(is_register(find(5, lengths, 2, symbols, 6, buffer, 7), 0, 0, 2));
+  const uint16_t several[8] = {1, 3, 0, 9, 9, 9, 9, 9};
+  SAME(buffer, several);
+  CHECK(is_register(find(5, lengths, 1, symbols, 4, buffer + 3, 5), 0, 1, 1));
+  const uint16_t single[8] = {1, 3, 0, 1, 3, 9, 9, 9};
+  SAME(buffer, single);
+}
+
+static void heads(void) {
+  CHECK(is_head(head_empty(), zeros));
+  tomkhadi_head_shaped made = head_shape(zeros, COLUMNS, checks, ROWS);
+  CHECK(made.refusal == 0 && is_head(made.head, shaped));
+  made = head_shape(shaped, 4, checks, ROWS);
+  CHECK(made.refusal == 6 && is_head(made.head, shaped));
+
+  uint16_t frame[SIZE];
+  memcpy(frame, data, sizeof frame);
+  CHECK(head_encode(zeros, frame, SIZE) == 21);
+  SAME(frame, data);
+  CHECK(head_encode(shaped, frame, SIZE) == 0);
+  SAME(frame, sent);
+
+  uint16_t held_sums[512] = {0};
+  uint16_t held_taps[65] = {0};
+  tomkhadi_head_answered answered = head_locate(shaped, held_sums, held_taps, received, SIZE);
+  CHECK(is_answer(answered.answer, 0) && is_head(answered.head, located));
+  SAME(held_sums, sums);
+  SAME(held_taps, taps);
+
+  memcpy(frame, received, sizeof frame);
+  answered = head_repair(shaped, sums, frame, SIZE);
+  CHECK(is_answer(answered.answer, 22) && is_head(answered.head, shaped));
+  SAME(frame, received);
+  answered = head_repair(located, sums, frame, SIZE);
+  CHECK(is_answer(answered.answer, 0) && is_head(answered.head, shaped));
+  SAME(frame, sent);
+}
+
+/* The job has the head and, where the last locate that was not refused left them, the arrays. */
+static int is_job(const tomkhadi_job *job, tomkhadi_head head, int held) {
+  static const tomkhadi_job none;
+  return is_head(job->head, head) && memcmp(job->sums, held ? sums : none.sums, sizeof sums) == 0 &&
+         memcmp(job->taps, held ? taps : none.taps, sizeof taps) == 0;
+}
+
+static void jobs(void) {
+  tomkhadi_job job;
+  memset(&job, 0xa5, sizeof job);
+  empty(&job);
+  CHECK(is_job(&job, zeros, 0));
+  CHECK(shape(&job, COLUMNS, checks, ROWS) == 0);
+  CHECK(is_job(&job, shaped, 0));
+
+  uint16_t frame[SIZE];
+  memcpy(frame, data, sizeof frame);
+  CHECK(encode(&job, frame, SIZE) == 0);
+  SAME(frame, sent);
+  CHECK(is_job(&job, shaped, 0));
+  CHECK(is_answer(repair(&job, frame, SIZE), 22));
+  CHECK(is_job(&job, shaped, 0));
+
+  memcpy(frame, received, sizeof frame);
+  CHECK(is_answer(locate(&job, frame, SIZE), 0));
+  SAME(frame, received);
+  CHECK(is_job(&job, located, 1));
+  CHECK(shape(&job, 4, checks, ROWS) == 6);
+  CHECK(is_job(&job, located, 1));
+  frame[0]++;
+  CHECK(is_answer(repair(&job, frame, SIZE), 23));
+  CHECK(is_job(&job, located, 1));
+  frame[0]--;
+  CHECK(is_answer(repair(&job, frame, SIZE), 0));
+  SAME(frame, sent);
+  CHECK(is_job(&job, shaped, 1));
+
+  /* Three columns of row 1: the only shortest register of its four sums has length 2, and no root. */
+  CHECK(is_answer(locate(&job, received, SIZE), 0));
+  frame[1]++, frame[2]++, frame[3]++;
+  CHECK(is_answer(locate(&job, frame, SIZE), 26));
+  CHECK(is_job(&job, shaped, 1));
+}
+
+int main(void) {
+  registers();
+  heads();
+  jobs();
+  printf("tests/src/prototypes.c: %d checks, %d failed\n", checked, failed);
+  return failed != 0;
+}
