@@ -193,6 +193,7 @@ class Declared(NamedTuple):
     """A struct, an enum or a constant."""
     path: str
     name: str
+    text: str
     bare: str
 
 
@@ -246,17 +247,28 @@ def declared(path, text):
         else:
             end = text.find(";", end) + 1
         bare = re.sub(r"//[^\n]*", "", text[m.start():end])
-        found.append(Declared(path, module_of(path) + "::" + m.group(2), folded(bare)))
+        found.append(Declared(path, module_of(path) + "::" + m.group(2), text[m.start():end], folded(bare)))
     return found
 
 
-# ---- what is what
+# ---- entry points and demands
 
-# Spec files that state a demand which no rule below finds.
-MORE_DEMANDS = ["crates/examples/specs/Examples.antt"]
+# Whoever calls these need know nothing: they answer for every input.
+ENTRY_POINTS = [
+    "finder::find::find",
+    "calls::states::empty",
+    "calls::shape::shape",
+    "calls::encode::encode",
+    "calls::locate::locate",
+    "calls::repair::repair",
+]
 
-# Single definitions of other spec files that are part of a demand.
-PARTS_OF_DEMANDS = {"crates/frame/specs/Encode.antt": ["SameData", "OnlyLegal"]}
+# What the program does with the bytes that it is given. Its callers meet what these ask for.
+PROGRAM = ["record::line::line"]
+
+
+# Spec files that state a demand, or a part of one, and that the rule below does not find.
+MORE_DEMANDS = ["crates/examples/specs/Examples.antt", "crates/job/specs/Left.antt"]
 
 
 def all_items(files, folder):
@@ -285,5 +297,113 @@ def demand_paths(files, definitions, laws):
     return paths
 
 
-def is_demand(item, paths):
-    return item.path in paths or item.name in PARTS_OF_DEMANDS.get(item.path, [])
+# ---- what a text names
+
+IMPORT = re.compile(r"^\s*(?:pub )?(?:ghost )?use ([^\s{;]+?)\.\{([^}]*)\}", re.M)
+MODULE = re.compile(r"^\s*(?:ghost )?use (\S+) as (\w+)", re.M)
+WORD = re.compile(r"[^\s(){}\[\],;.⌜⌝]+")
+
+
+def imported(text):
+    """Each name that the text brings in from a module: the module, the name there, the name here."""
+    for m in IMPORT.finditer(text):
+        for part in m.group(2).split(","):
+            words = part.split()
+            if words:
+                yield m.group(1), words[0], words[-1]
+
+
+def spec_path(module):
+    """The file of a module such as Rattle.frame.specs.Frame, of this repository; of a type declared in code the crate."""
+    m = re.match(r"Rattle·(\w+)(?:·specs)?\.specs\.(.+)$", module)
+    if not m:
+        return None
+    parts = m.group(2).split(".")
+    return f"crates/{m.group(1)}/src" if parts[0] == "declared" else f"crates/{m.group(1)}/specs/{'/'.join(parts)}.antt"
+
+
+class Names:
+    """Which definition a name stands for, in each file."""
+
+    def __init__(self, files):
+        self.files = files
+        self.definitions = {}
+        for item in all_items(files, "specs"):
+            self.definitions[item.path, item.name] = item
+            if item.kind == "data":
+                for m in re.finditer(r"^\s+(?:pub )?(\S+) : ", item.text, re.M):
+                    self.definitions.setdefault((item.path, m.group(1)), item)
+        for d in all_declared(files):
+            self.definitions[f"crates/{crate_of(d.path)}/src", d.name.split("::")[-1]] = d
+        self.scopes = {}
+
+    def scope(self, path):
+        """The names of a file: what it imports, what it defines, and whole modules under a name of their own."""
+        if path not in self.scopes:
+            names = {}
+            text = self.files[path]
+            for module, name, here in imported(text):
+                names[here] = self.find(spec_path(module), module, name)
+            for where, name in self.definitions:
+                if where == path:
+                    names[name] = self.definitions[where, name]
+            for m in MODULE.finditer(text):
+                where = spec_path(m.group(1))
+                for there, name in self.definitions:
+                    if where and there == where:
+                        names[m.group(2) + "." + name] = self.definitions[there, name]
+            self.scopes[path] = {k: v for k, v in names.items() if v}
+        return self.scopes[path]
+
+    def find(self, where, module, name):
+        if where is None:
+            return None
+        if where.endswith("/src"):
+            kind = module.split("declared.", 1)[1].split(".")
+            owner = next((k for k in reversed(kind) if k != "the-variants"), name)
+            return self.definitions.get((where, name)) or self.definitions.get((where, owner))
+        return self.definitions.get((where, name))
+
+    def named(self, path, text):
+        scope = self.scope(path)
+        found = set()
+        qualified = set(re.findall(r"\b\w+\.[^\s(){}\[\],;.]+", text))
+        for word in set(WORD.findall(text)) | qualified:
+            if word in scope:
+                found.add(scope[word])
+        return found
+
+    def reached(self, roots):
+        """All definitions that the roots, pairs of a path and a text, name; and those that these name; and so on."""
+        seen = set()
+        waiting = list(roots)
+        while waiting:
+            path, text = waiting.pop()
+            if path.endswith(".antt") or path in self.files:
+                for d in self.named(path, text):
+                    if d not in seen:
+                        seen.add(d)
+                        if isinstance(d, Item):
+                            waiting.append((d.path, d.bare))
+                        else:
+                            seen.update(self.held(d))
+        return seen
+
+    def held(self, d):
+        """The declared types that a struct or an enum holds, and what these hold."""
+        crates = [crate_of(d.path)] + re.findall(r"^use (\w+)::", self.files[d.path], re.M)
+        found = set()
+        for word in set(re.findall(r"\b[A-Z]\w+", d.bare)):
+            inner = next((self.definitions[f"crates/{c}/src", word] for c in crates if (f"crates/{c}/src", word) in self.definitions), None)
+            if inner and inner != d:
+                found |= {inner} | self.held(inner)
+        return found
+
+
+def is_predicate(item):
+    """Whether a definition is a proposition about its parameters, and no type of data."""
+    if not isinstance(item, Item):
+        return False
+    if item.kind == "record":
+        return re.search(r"\brecord " + re.escape(item.name) + r"\s*[({]", item.bare) is not None
+    return item.kind == "abbrev" and item.type.endswith("Type 0") or item.kind == "data" and "→ Type 0 where" in item.bare
