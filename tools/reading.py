@@ -264,11 +264,11 @@ ENTRY_POINTS = [
 ]
 
 # What the program does with the bytes that it is given. Its callers meet what these ask for.
-PROGRAM = ["record::line::line"]
+PROGRAM = ["record::line::line", "tomkhadi::input::filled", "tomkhadi::output::put_lines", "tomkhadi::turn"]
 
 
 # Spec files that state a demand, or a part of one, and that the rule below does not find.
-MORE_DEMANDS = ["crates/examples/specs/Examples.antt", "crates/job/specs/Left.antt"]
+MORE_DEMANDS = ["crates/examples/specs/Examples.antt", "crates/job/specs/Left.antt", "crates/lines/specs/Examples.antt"]
 
 
 def all_items(files, folder):
