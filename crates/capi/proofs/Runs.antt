@@ -7,7 +7,7 @@ use Prim.Native.Nat.{ℕ}
 use Rattle.refusal.specs.Order.{firstOf}
 use Rattle.refusal.proofs.Orders.{firstOf-map}
 use Rattle.job.specs.Calls.{Call, shape, encode, locate, repair, Outcome, describe, refusing, reshaped, step}
-use Rattle.job.specs.Demands.{runFrom, run}
+use Rattle.job.specs.Runs.{runFrom, run}
 use Rattle.job.specs.Job.{Arrays, Job, beside, withSums, withFound, emptyJob}
 use Rattle.job.specs.declared.Head.{Head}
 use Rattle.job.proofs.Cases.{by-call}

@@ -10,7 +10,7 @@ use Rattle.finder.specs.Finder as Finder
 use Rattle.job.specs.Calls as Calls
 use Rattle.frame.specs.Shape.{shapeOf}
 use Rattle.job.specs.Calls.{Call, Outcome, step}
-use Rattle.job.specs.Demands.{IsRefused}
+use Rattle.job.specs.Runs.{IsRefused}
 use Rattle.job.specs.Job.{Job, emptyHead, locatedHead}
 use Rattle.job.specs.declared.Head.{Head}
 use Rattle.job.specs.declared.Phase.{Phase}

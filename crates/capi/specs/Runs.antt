@@ -5,7 +5,7 @@ use mathlib.Core.Path.{_≡_}
 use mathlib.Core.List.{List, [], _∷_}
 use Prim.Native.Nat.{ℕ}
 use Rattle.job.specs.Calls.{Call, shape, encode, locate, repair, Outcome, step}
-use Rattle.job.specs.Demands.{runFrom, run}
+use Rattle.job.specs.Runs.{runFrom, run}
 use Rattle.job.specs.Job.{Arrays, Job, beside, withFound, emptyHead}
 use Rattle.capi.specs.Exports.{HeadShapes, HeadEncodes, HeadLocates, HeadRepairs}
 use Rattle.capi.specs.Mirror.{headOf, mirrorOf, refusalOf, answeredOf}
