@@ -7,7 +7,8 @@ use Rattle.decoding.specs.Locating.{sizeOf, tapsOf, aloneOf, rowsReach, named, 
 use Rattle.field.specs.Coefficients.{shifted, reduced, value}
 use Rattle.field.specs.Prime.{noDivisor, isPrime, isModulus}
 use Rattle.lists.specs.Total.{total}
-use Rattle.finder.specs.Finder.{tests, answer, tapsLeft}
+use Rattle.sequences.specs.Tests.{tests}
+use Rattle.finder.specs.Finder.{answer, tapsLeft}
 use Rattle.frame.specs.Completion.{without, locatorPolynomial, cleared, completion, completed}
 use Rattle.frame.specs.Encode.{eachRow, encoded, dataBelow, encodeTests}
 use Rattle.frame.specs.Frame.{checkSum, checkSums, rowSums, sequences, heldSums, heldSequences, frameTests}

@@ -4,5 +4,6 @@ pub mod Filling
 pub mod Joined
 pub mod Parts
 pub mod Tabulated
+pub mod Testing
 pub mod Totals
 pub mod Zeros
