@@ -42,7 +42,7 @@ module _ (R : CRing) where
       ∙ sum-ext R (suc m) (λ i. c ⊗ f i ⊗ g (m - i)) (λ i. c ⊗ (f i ⊗ g (m - i))) (λ i h. mul-assoc c (f i) (g (m - i)))
       ∙ sum-mul R (suc m) c (λ i. f i ⊗ g (m - i)) ∙ sym (ap (λ x. c ⊗ x) (conv-sum f g m))
 
-  pub conv-neg : (f g : ℕ → car) (m : ℕ) → conv R (λ i. neg (f i)) g m ≡ neg (conv R f g m)
+  conv-neg : (f g : ℕ → car) (m : ℕ) → conv R (λ i. neg (f i)) g m ≡ neg (conv R f g m)
   conv-neg f g m =
       conv-sum (λ i. neg (f i)) g m
       ∙ sum-ext R (suc m) (λ i. neg (f i) ⊗ g (m - i)) (λ i. neg (f i ⊗ g (m - i))) (λ i h. neg-mul R (f i) (g (m - i)))
@@ -58,13 +58,6 @@ module _ (R : CRing) where
       (λ i h. mul-add (f i) (g (m - i)) (g' (m - i)))
       ∙ sum-add R (suc m) (λ i. f i ⊗ g (m - i)) (λ i. f i ⊗ g' (m - i))
       ∙ sym (ap₂ _⊕_ (conv-sum f g m) (conv-sum f g' m))
-
-  pub conv-mul-right : (c : car) (f g : ℕ → car) (m : ℕ) → conv R f (λ i. c ⊗ g i) m ≡ c ⊗ conv R f g m
-  conv-mul-right c f g m =
-      conv-sum f (λ i. c ⊗ g i) m
-      ∙ sum-ext R (suc m) (λ i. f i ⊗ (c ⊗ g (m - i))) (λ i. c ⊗ (f i ⊗ g (m - i)))
-      (λ i h. mul-left-comm R (f i) c (g (m - i)))
-      ∙ sum-mul R (suc m) c (λ i. f i ⊗ g (m - i)) ∙ sym (ap (λ x. c ⊗ x) (conv-sum f g m))
 
   pub conv-zero : (f g : ℕ → car) (m : ℕ) → ((i : ℕ) → i ≤ m → f i ≡ 𝟘) → conv R f g m ≡ 𝟘
   conv-zero f g m e =
@@ -104,9 +97,6 @@ module _ (R : CRing) where
 
   pub shift-degree : (e l : ℕ) (f : ℕ → car) → Degree R l f → Degree R (l + e) (shift R e f)
   shift-degree e l f d i h = shift-above e f i (omega arith) ∙ d (i - e) (omega arith)
-
-  pub conv-shift-below : (e : ℕ) (f g : ℕ → car) (m : ℕ) → m < e → conv R (shift R e f) g m ≡ 𝟘
-  conv-shift-below e f g m h = conv-zero (shift R e f) g m (λ i l. shift-below e f i (omega arith))
 
   pub conv-shift : (e : ℕ) (f g : ℕ → car) (m : ℕ) → e ≤ m → conv R (shift R e f) g m ≡ conv R f g (m - e)
   conv-shift e f g m h =

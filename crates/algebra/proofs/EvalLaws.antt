@@ -20,7 +20,7 @@ module _ (R : CRing) where
 
   infixl 60 _⊕_
   infixl 70 _⊗_
-  pub eval-higher : (l : ℕ) (f : ℕ → car) (x : car) → Degree R l f → eval R (suc l) f x ≡ eval R l f x
+  eval-higher : (l : ℕ) (f : ℕ → car) (x : car) → Degree R l f → eval R (suc l) f x ≡ eval R l f x
   eval-higher l f x d =
       eval-sum R (suc l) f x ∙ sum-suc R (suc l) (λ i. f i ⊗ pow R x i)
       ∙ ap₂ _⊕_ (sym (eval-sum R l f x))

@@ -23,10 +23,10 @@ module _ (R : CRing) where
   unfolding eval
   eval-sum l f x = refl
 
-  pub pow-inverse : (x y : car) → x ⊗ y ≡ 𝟙 → (n : ℕ) → pow R x n ⊗ pow R y n ≡ 𝟙
+  pow-inverse : (x y : car) → x ⊗ y ≡ 𝟙 → (n : ℕ) → pow R x n ⊗ pow R y n ≡ 𝟙
   pow-inverse x y e n = sym (pow-mul R x y n) ∙ ap (λ z. pow R z n) e ∙ pow-one R n
 
-  pub pow-sub : (x y : car) → x ⊗ y ≡ 𝟙 → (j k : ℕ) → k ≤ j → pow R x (j - k) ≡ pow R x j ⊗ pow R y k
+  pow-sub : (x y : car) → x ⊗ y ≡ 𝟙 → (j k : ℕ) → k ≤ j → pow R x (j - k) ≡ pow R x j ⊗ pow R y k
   pow-sub x y e j k h =
       sym (mul-one (pow R x (j - k))) ∙ ap (λ z. pow R x (j - k) ⊗ z) (sym (pow-inverse x y e k))
       ∙ sym (mul-assoc (pow R x (j - k)) (pow R x k) (pow R y k))

@@ -16,7 +16,7 @@ module _ (F : Field) where
 
   infixl 60 _⊕_
   infixl 70 _⊗_
-  pub inverse-nonzero : (a b : car) → a ⊗ b ≡ 𝟙 → b ≢ 𝟘
+  inverse-nonzero : (a b : car) → a ⊗ b ≡ 𝟙 → b ≢ 𝟘
   inverse-nonzero a b e z = one-ne-zero (sym e ∙ ap (λ x. a ⊗ x) z ∙ mul-zero R a)
 
   pub inv-nonzero : (a : car) → a ≢ 𝟘 → inv a ≢ 𝟘

@@ -1,7 +1,5 @@
 -- The locator polynomial of a list of locators: its constant term is 1, its degree at most their number (exactly that
--- where all are nonzero), and its roots are exactly their inverses. So it is the one polynomial of that degree and constant
--- term that vanishes at these inverses.
--- Assumes nothing.
+-- where all are nonzero), and its roots are exactly their inverses.
 use mathlib.Core.Path.{_≡_, refl, sym, ap, ap₂, _∙_}
 use mathlib.Core.Logic.{_≢_}
 use mathlib.Core.List.{List, [], _∷_}
@@ -63,7 +61,7 @@ module _ (F : Field) where
 
   infixl 60 _⊕_
   infixl 70 _⊗_
-  pub locator-top : (xs : List car) → Nonzero R (length xs) (λ i. getD xs i 𝟘) → locator R xs (length xs) ≢ 𝟘
+  locator-top : (xs : List car) → Nonzero R (length xs) (λ i. getD xs i 𝟘) → locator R xs (length xs) ≢ 𝟘
   locator-top [] n e = one-ne-zero (sym (locator-constant R []) ∙ e)
   locator-top (x ∷ xs) n e =
       locator-top xs (λ i h. n (suc i) (suc-le-suc h))
@@ -92,12 +90,3 @@ module _ (F : Field) where
 
   pub inverses-distinct : (m : ℕ) (X : ℕ → car) → Distinct R m X → Nonzero R m X → Distinct R m (λ i. inv (X i))
   inverses-distinct m X d n i j hi hj e = d i j hi hj (inv-injective F (X i) (X j) (n i hi) (n j hj) e)
-
-  module _ (xs : List car) (distinct : Distinct R (length xs) (λ i. getD xs i 𝟘))
-      (nonzero : Nonzero R (length xs) (λ i. getD xs i 𝟘)) where
-    pub locator-unique : (f : ℕ → car) → Degree R (length xs) f → f 0 ≡ 𝟙
-        → ((i : ℕ) → i < length xs → eval R (length xs) f (inv (getD xs i 𝟘)) ≡ 𝟘) → (k : ℕ) → f k ≡ locator R xs k
-    locator-unique f degree constant root =
-        roots-unique F (length xs) f (locator R xs) (λ i. inv (getD xs i 𝟘)) degree (locator-degree R xs)
-        constant (locator-constant R xs) (inverses-distinct (length xs) (λ i. getD xs i 𝟘) distinct nonzero) root
-        (λ i h. locator-root R xs (inv (getD xs i 𝟘)) i h (mul-inv (getD xs i 𝟘) (nonzero i h)))

@@ -26,7 +26,7 @@ module _ (R : CRing) where
   pub zero-add : (a : car) → 𝟘 ⊕ a ≡ a
   zero-add a = add-comm 𝟘 a ∙ add-zero a
 
-  pub neg-add : (a : car) → neg a ⊕ a ≡ 𝟘
+  neg-add : (a : car) → neg a ⊕ a ≡ 𝟘
   neg-add a = add-comm (neg a) a ∙ add-neg a
 
   pub one-mul : (a : car) → 𝟙 ⊗ a ≡ a
@@ -57,7 +57,7 @@ module _ (R : CRing) where
       drop x = sym (add-assoc (neg a) a x) ∙ ap (λ y. y ⊕ x) (neg-add a) ∙ zero-add x
 
   -- an element that adds up to 0 with a is the negative of a
-  pub neg-unique : (a b : car) → a ⊕ b ≡ 𝟘 → b ≡ neg a
+  neg-unique : (a b : car) → a ⊕ b ≡ 𝟘 → b ≡ neg a
   neg-unique a b e = add-cancel a b (neg a) (e ∙ sym (add-neg a))
 
   pub eq-of-sub-zero : (a b : car) → a ⊕ neg b ≡ 𝟘 → a ≡ b

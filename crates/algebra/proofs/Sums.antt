@@ -45,10 +45,6 @@ module _ (R : CRing) where
       sum-suc n (λ i. c ⊗ f i) ∙ ap (λ x. x ⊕ c ⊗ f n) (sum-mul n c f)
       ∙ sym (ap (λ x. c ⊗ x) (sum-suc n f) ∙ mul-add c (sum R n f) (f n))
 
-  pub sum-mul-right : (n : ℕ) (c : car) (f : ℕ → car) → sum R n (λ i. f i ⊗ c) ≡ sum R n f ⊗ c
-  sum-mul-right n c f =
-      sum-ext n (λ i. f i ⊗ c) (λ i. c ⊗ f i) (λ i _. mul-comm (f i) c) ∙ sum-mul n c f ∙ mul-comm c (sum R n f)
-
   pub sum-neg : (n : ℕ) (f : ℕ → car) → sum R n (λ i. neg (f i)) ≡ neg (sum R n f)
   sum-neg zero f = sum-zero (λ i. neg (f i)) ∙ sym (ap neg (sum-zero f) ∙ neg-zero R)
   sum-neg (suc n) f =

@@ -14,7 +14,8 @@ use Rattle.decoding.proofs.SequenceRegister.{length-taps}
 use Rattle.field.specs.Prime.{isModulus, isPrime, noDivisor}
 use Rattle.lists.specs.Total.{total}
 use Rattle.lists.proofs.Totals.{total-ext, total-bound}
-use Rattle.finder.specs.Finder.{tests, answer, tapsLeft, register}
+use Rattle.sequences.specs.Tests.{tests}
+use Rattle.finder.specs.Finder.{answer, tapsLeft, register}
 use Rattle.frame.specs.Frame.{heldSequences}
 use Rattle.frame.specs.Shape.{checksOf, isShape}
 use Rattle.frame.specs.declared.Shape.{Shape}

@@ -22,10 +22,10 @@ use Rattle.columns.proofs.Least.{least-ext, least-is}
 pub bit-shr : (x a k : ℕ) → bit (x / 2 ^ a) k ≡ bit x (a + k)
 bit-shr x a k = ap (λ (y : ℕ). eqb (y % 2) 1) (shr-shr x a k)
 
-pub bit-low : (x : ℕ) → bit x 0 ≡ eqb (x % 2) 1
+bit-low : (x : ℕ) → bit x 0 ≡ eqb (x % 2) 1
 bit-low x = ap (λ (y : ℕ). eqb (y % 2) 1) (div-one x)
 
-pub bit-half : (x k : ℕ) → bit (x / 2) k ≡ bit x (suc k)
+bit-half : (x k : ℕ) → bit (x / 2) k ≡ bit x (suc k)
 bit-half x k = bit-shr x 1 k ∙ ap (bit x) (one-add k)
 
 pub bit-of-zero : (k : ℕ) → bit 0 k ≡ false

@@ -20,11 +20,11 @@ pub count-zero : (P : ℕ → Bool) → count 0 P ≡ 0
 unfolding count
 count-zero P = refl
 
-pub count-suc : (n : ℕ) (P : ℕ → Bool) → count (suc n) P ≡ count n P + cond (P n) 1 0
+count-suc : (n : ℕ) (P : ℕ → Bool) → count (suc n) P ≡ count n P + cond (P n) 1 0
 unfolding count
 count-suc n P = refl
 
-pub listed-suc : (n : ℕ) (P : ℕ → Bool) → listed (suc n) P ≡ listed n P ++ cond (P n) (n ∷ []) []
+listed-suc : (n : ℕ) (P : ℕ → Bool) → listed (suc n) P ≡ listed n P ++ cond (P n) (n ∷ []) []
 unfolding listed
 listed-suc n P = refl
 
@@ -47,7 +47,7 @@ by-test false = inr refl
 
 -- ---- counts
 
-pub count-le : (n : ℕ) (P : ℕ → Bool) → count n P ≤ n
+count-le : (n : ℕ) (P : ℕ → Bool) → count n P ≤ n
 unfolding count
 count-le zero P = zero-le
 count-le (suc n) P = step (count-le n P) (by-test (P n))
@@ -91,7 +91,7 @@ count-skip a (suc b) P h none = step (λ l. count-skip a b P l (λ k p q. none k
         count-fail b P (none b p (omega arith)) ∙ ih p
 
 -- where all pass, the count is the bound
-pub count-all : (n : ℕ) (P : ℕ → Bool) → ((k : ℕ) → k < n → P k ≡ true) → count n P ≡ n
+count-all : (n : ℕ) (P : ℕ → Bool) → ((k : ℕ) → k < n → P k ≡ true) → count n P ≡ n
 unfolding count
 count-all zero P h = refl
 count-all (suc n) P h = count-pass n P (h n (omega arith)) ∙ ap suc (count-all n P (λ k l. h k (omega arith)))
@@ -131,11 +131,6 @@ listed-prefix k n P =
     le-ind (λ (m : ℕ). (rest : List ℕ) × (listed m P ≡ listed k P ++ rest)) ([], sym (append-nil (listed k P)))
     (λ m h ih. let last : List ℕ = cond (P m) (m ∷ []) [] in
     (ih .0 ++ last, listed-suc m P ∙ ap (λ (l : List ℕ). l ++ last) (ih .1) ∙ append-assoc (listed k P) (ih .0) last)) n
-
-pub take-count : (k n : ℕ) (P : ℕ → Bool) → k ≤ n → take (count k P) (listed n P) ≡ listed k P
-take-count k n P h =
-    let p = listed-prefix k n P h in
-    ap (take (count k P)) (p .1) ∙ take-at (listed k P) (p .0) (count k P) (length-listed k P)
 
 -- a number that passes stands at the place that counts those below it
 pub listed-at : (k n : ℕ) (P : ℕ → Bool) → k < n → P k ≡ true → getD (listed n P) (count k P) 0 ≡ k
@@ -193,9 +188,3 @@ listed-holds n P k h = (
 
 pub count-below : (m n : ℕ) → m ≤ n → count n (λ k. ltb k m) ≡ m
 count-below m n h = count-skip m n (λ k. ltb k m) h (λ k p q. le-ltb k m p) ∙ count-all m (λ k. ltb k m) (λ k l. lt-ltb k m l)
-
-pub listed-below : (m n k : ℕ) → m ≤ n → k < m → getD (listed n (λ i. ltb i m)) k 0 ≡ k
-listed-below m n k h l =
-    ap (λ (i : ℕ). getD (listed n (λ i. ltb i m)) i 0)
-    (sym (count-all k (λ i. ltb i m) (λ i p. lt-ltb i m (let q : i < m = omega arith in q))))
-    ∙ listed-at k n (λ i. ltb i m) (let q : k < n = omega arith in q) (lt-ltb k m l)

@@ -84,10 +84,6 @@ columnsOf-has c s =
     word (has c) w l ∙ number-ext 64 (λ k. has c (64 * w + k)) (bit (getD (c .words) w 0)) (λ k m. has-word c w k m)
     ∙ number-bit 64 (getD (c .words) w 0) (s .small w))
 
--- two values with the same marks are equal
-pub same-marks : (c d : Columns) → Sound c → Sound d → ((k : ℕ) → k < 256 → has c k ≡ has d k) → c ≡ d
-same-marks c d s t h = sym (columnsOf-has c s) ∙ columnsOf-ext (has c) (has d) h ∙ columnsOf-has d t
-
 -- ---- members
 
 pub members-columnsOf : (P : ℕ → Bool) → members (columnsOf P) ≡ listed 256 P

@@ -6,7 +6,8 @@ use Rattle.decoding.specs.Locating.{sizeOf, tapsOf, aloneOf, rowsReach, named, 
 use Rattle.field.specs.Coefficients.{shifted, reduced, value}
 use Rattle.field.specs.Prime.{noDivisor, isPrime, isModulus}
 use Rattle.lists.specs.Total.{total}
-use Rattle.finder.specs.Finder.{tests, answer, tapsLeft}
+use Rattle.sequences.specs.Tests.{tests}
+use Rattle.finder.specs.Finder.{answer, tapsLeft}
 use Rattle.frame.specs.Completion.{without, cleared, completion, completed}
 use Rattle.field257.specs.LocatorPolynomial.{locatorPolynomial}
 use Rattle.frame.specs.Encode.{eachRow, encoded, dataBelow, encodeTests}

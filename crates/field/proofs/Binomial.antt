@@ -62,8 +62,16 @@ binomial a (suc n) =
     let last : term a n (suc n) ≡ 0 = rw (choose-above n (suc n) (omega arith), zero-mul) in
     let first : term a (suc n) 0 ≡ term a n 0 = rw (choose-none (suc n), choose-none n) in
     rw (pow-suc, binomial a n)
-    (omega
-    (arith, steps, last, first, total-mul (suc n) a (term a n), total-head (suc n) (term a (suc n)), total-head (suc n) (term a n), total-suc (suc n) (term a n)))
+    (omega (
+      arith,
+      steps,
+      last,
+      first,
+      total-mul (suc n) a (term a n),
+      total-head (suc n) (term a (suc n)),
+      total-head (suc n) (term a n),
+      total-suc (suc n) (term a n),
+    ))
 
 module _ (p : ℕ) (prime : Prime p) where
   pub coefficient-divided : (n k : ℕ) → suc n ≡ p → k < n → choose p (suc k) % p ≡ 0

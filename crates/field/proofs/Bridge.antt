@@ -33,7 +33,7 @@ module _ (p : ℕ) (prime : Prime p) where
   unfolding residues residue-ring
   value a = a .0
 
-  pub value-res : (n : ℕ) → value (res n) ≡ n % p
+  value-res : (n : ℕ) → value (res n) ≡ n % p
   unfolding res value residues residue-ring
   value-res n = refl
 
@@ -76,7 +76,8 @@ module _ (p : ℕ) (prime : Prime p) where
   pub res-sub : (a b : ℕ) → b ≤ a → res (a - b) ≡ res a ⊕ neg (res b)
   res-sub a b le =
       let whole = ap res (sym (sub-add-cancel le)) ∙ res-add (a - b) b in
-      sym (ap (λ x. x ⊕ neg (res b)) whole ∙ add-assoc (res (a - b)) (res b) (neg (res b)) ∙ ap (λ x. res (a - b) ⊕ x) (add-neg (res b)) ∙ add-zero (res (a - b)))
+      sym (ap (λ x. x ⊕ neg (res b)) whole ∙ add-assoc (res (a - b)) (res b) (neg (res b)) ∙ ap (λ x. res (a - b) ⊕ x) (add-neg (res b))
+      ∙ add-zero (res (a - b)))
 
   pub res-pow : (a e : ℕ) → res (a ^ e) ≡ pow R (res a) e
   res-pow a zero = ap res (pow-zero a) ∙ res-one ∙ sym (ring-pow-zero R (res a))
@@ -89,9 +90,6 @@ module _ (p : ℕ) (prime : Prime p) where
       ap res (total-suc n f) ∙ res-add (total n f) (f n) ∙ ap (λ x. x ⊕ res (f n)) (res-total n f) ∙ sym (sum-suc R n (λ k. res (f k)))
 
   -- ---- the operations on residues
-
-  pub res-plus : (a b : ℕ) → res (plus p a b) ≡ res a ⊕ res b
-  res-plus a b = res-mod (a + b) ∙ res-add a b
 
   pub res-minus : (a b : ℕ) → b ≤ p → res (minus p a b) ≡ res a ⊕ neg (res b)
   res-minus a b le =

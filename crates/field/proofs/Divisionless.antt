@@ -2,7 +2,22 @@
 -- right or one too small, so at most one p is left to take off; and a difference of residues goes below 0 by less than p. Assumes nothing.
 use mathlib.Core.Path.{_≡_, refl, sym, ap, _∙_}
 use Prim.Native.Nat.{ℕ, _+_, _-_, _*_, _/_, _%_, _≤_, _<_}
-use native.Mathlib.Nat.{add-mul-mod-self-right, div-add-mod', div-le-self, div-lt-iff-lt-mul, div-mul-le-self, le-of-mul-le-mul-right, lt-div-mul-add, lt-of-mul-lt-mul-right, mod-eq-of-lt, mod-lt, mul-le-mul, mul-le-mul-left, mul-le-mul-right, one-mul}
+use native.Mathlib.Nat.{
+  add-mul-mod-self-right,
+  div-add-mod',
+  div-le-self,
+  div-lt-iff-lt-mul,
+  div-mul-le-self,
+  le-of-mul-le-mul-right,
+  lt-div-mul-add,
+  lt-of-mul-lt-mul-right,
+  mod-eq-of-lt,
+  mod-lt,
+  mul-le-mul,
+  mul-le-mul-left,
+  mul-le-mul-right,
+  one-mul,
+}
 use native.Mathlib.Omega.{arith}
 
 -- a number below p that differs from v by a multiple of p is the remainder

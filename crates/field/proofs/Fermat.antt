@@ -2,7 +2,21 @@
 -- not divide. By induction on a: of the terms of (a + 1)^p only the first and the last are not divided by p. Assumes nothing.
 use mathlib.Core.Path.{_≡_, sym, ap, _∙_}
 use Prim.Native.Nat.{ℕ, zero, suc, pred, _+_, _-_, _*_, _%_, _^_, _<_}
-use native.Mathlib.Nat.{pow-zero, pow-suc, pow-succ', mod-eq-of-lt, mod-add-mod, mul-zero, mul-one, one-mul, mul-comm, suc-pred-eq-of-pos, le-step, lt-suc-self, zero-mod}
+use native.Mathlib.Nat.{
+  pow-zero,
+  pow-suc,
+  pow-succ',
+  mod-eq-of-lt,
+  mod-add-mod,
+  mul-zero,
+  mul-one,
+  one-mul,
+  mul-comm,
+  suc-pred-eq-of-pos,
+  le-step,
+  lt-suc-self,
+  zero-mod,
+}
 use native.Mathlib.Numerals.{add-one}
 use native.Mathlib.Omega.{arith}
 use Rattle.field.specs.Prime.{Prime}
@@ -40,7 +54,7 @@ module _ (p : ℕ) (prime : Prime p) where
       let parts : suc a ^ p ≡ a ^ p + 1 + between = rw (binomial a p, total-suc p (λ k. choose p k * a ^ k)) (omega arith) in
       ap (λ (x : ℕ). x % p) parts ∙ mod-add-zero (a ^ p + 1) between p (middle a (pred p) e)
 
-  pub fermat : (a : ℕ) → (a ^ p) % p ≡ a % p
+  fermat : (a : ℕ) → (a ^ p) % p ≡ a % p
   fermat zero = rw (zero-power p (omega (arith, prime .two-or-more)))
   fermat (suc a) =
       power-of-next a ∙ sym (mod-add-mod (a ^ p) p 1) ∙ ap (λ (x : ℕ). (x + 1) % p) (fermat a) ∙ mod-add-mod a p 1 ∙ rw (add-one a)

@@ -17,7 +17,8 @@ square-power : (a k : ℕ) → (a * a) ^ k ≡ a ^ (k + k)
 square-power a zero = pow-zero (a * a) ∙ sym (pow-zero a)
 square-power a (suc k) =
     pow-suc (a * a) k ∙ ap (λ (x : ℕ). x * (a * a)) (square-power a k) ∙ sym (mul-assoc (a ^ (k + k)) a a)
-    ∙ ap (λ (x : ℕ). x * a) (sym (pow-suc a (k + k))) ∙ sym (pow-suc a (suc (k + k))) ∙ ap (λ (x : ℕ). a ^ x) (let e : suc (suc (k + k)) ≡ suc k + suc k = omega arith in e)
+    ∙ ap (λ (x : ℕ). x * a) (sym (pow-suc a (k + k))) ∙ sym (pow-suc a (suc (k + k)))
+    ∙ ap (λ (x : ℕ). a ^ x) (let e : suc (suc (k + k)) ≡ suc k + suc k = omega arith in e)
 
 module _ (p s a e square r : ℕ) (squared : square ≡ times p a a) where
   halved : power p square (e / 2) ≡ power p a (e / 2 + e / 2)

@@ -3,7 +3,21 @@ use mathlib.Core.Path.{_≡_, refl, sym, ap, _∙_}
 use mathlib.Core.Logic.{_↔_, _⊎_, inl, inr, ⊎-elim}
 use mathlib.Core.Bool.{true, not, and-eq-true-iff}
 use Prim.Native.Nat.{ℕ, zero, suc, _+_, _-_, _*_, _/_, _%_, _≤_, _<_}
-use native.Mathlib.Nat.{eq-or-lt-of-le, le-of-suc-le-suc, mul-mod-right, div-add-mod', mul-le-mul, mul-le-mul-right, mul-suc, mul-zero, mul-comm, zero-mul, suc-add, sub-add-cancel, one-mul}
+use native.Mathlib.Nat.{
+  eq-or-lt-of-le,
+  le-of-suc-le-suc,
+  mul-mod-right,
+  div-add-mod',
+  mul-le-mul,
+  mul-le-mul-right,
+  mul-suc,
+  mul-zero,
+  mul-comm,
+  zero-mul,
+  suc-add,
+  sub-add-cancel,
+  one-mul,
+}
 use native.Mathlib.Decide.{decLt}
 use native.Mathlib.Omega.{arith}
 use lib.Dec.{leb, eqb}

@@ -2,7 +2,23 @@
 -- remainder 0 adds nothing to a remainder, and the other way round. Assumes nothing.
 use mathlib.Core.Path.{_≡_, sym, ap, _∙_}
 use Prim.Native.Nat.{ℕ, zero, suc, _+_, _-_, _*_, _/_, _%_, _^_, _<_, _≤_}
-use native.Mathlib.Nat.{mod-add-div', add-mul, mul-right-comm, add-mul-mod-self-right, mul-comm, pow-zero, pow-suc, add-mod, add-mod-mod, mod-eq-of-lt, mod-lt, mod-eq-sub-mod, add-zero, mul-zero, zero-mod}
+use native.Mathlib.Nat.{
+  mod-add-div',
+  add-mul,
+  mul-right-comm,
+  add-mul-mod-self-right,
+  mul-comm,
+  pow-zero,
+  pow-suc,
+  add-mod,
+  add-mod-mod,
+  mod-eq-of-lt,
+  mod-lt,
+  mod-eq-sub-mod,
+  add-zero,
+  mul-zero,
+  zero-mod,
+}
 use native.Mathlib.Decide.{decLt}
 use native.Mathlib.Omega.{arith}
 

@@ -16,8 +16,8 @@ use Rattle.refusal.proofs.Orders.{Pass, no-fail, none-pass, outcome-passed}
 use Rattle.refusal.specs.Outcome.{passed, outcome}
 use Rattle.register.specs.Sequences.{largest, split}
 use Rattle.finder.specs.Demands.{reasons}
-use Rattle.finder.specs.Finder.{isShort, tests}
-use Rattle.finder.proofs.Checks.{counted-bounds}
+use Rattle.sequences.specs.Tests.{isShort, tests}
+use Rattle.sequences.proofs.Checks.{counted-bounds}
 use Rattle.finder.proofs.Reasons.{whole, finder-says}
 
 pub record Accepted (p : ℕ) (lengths symbols : List ℕ) (room : ℕ) : Type 0 where

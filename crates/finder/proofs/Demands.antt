@@ -19,7 +19,8 @@ use Rattle.register.specs.EachRound.{IsShortest}
 use Rattle.register.specs.Order.{ByAlgorithm4}
 use Rattle.register.specs.Sequences.{longest, split}
 use Rattle.finder.specs.Demands.{Demand1, Demand2, Written, reasons}
-use Rattle.finder.specs.Finder.{register, refused, tests, answer, tapsLeft}
+use Rattle.sequences.specs.Tests.{tests}
+use Rattle.finder.specs.Finder.{register, refused, answer, tapsLeft}
 use Rattle.finder.proofs.Accepted.{accepted}
 use Rattle.finder.proofs.Reasons.{finder-says}
 

@@ -1,16 +1,9 @@
 pub mod Accepted
 pub mod Agreement
-pub mod Blocks
-pub mod Change
-pub mod Checks
 pub mod Demands
-pub mod Insertion
 pub mod Marking
 pub mod Reasons
-pub mod Reduction
 pub mod Refusing
 pub mod Running
-pub mod Sorting
 pub mod Starting
-pub mod Steps
 pub mod Synthesis

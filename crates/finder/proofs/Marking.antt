@@ -8,8 +8,8 @@ use lib.Dec.{leb}
 use lib.ListN.{length, getD}
 use Rattle.lists.proofs.Tabulated.{every-zero, every-more, every-all, every-fails}
 use Rattle.finder.specs.Rounds.{aloneMark}
-use Rattle.finder.specs.declared.Order.{Order}
-use Rattle.finder.specs.declared.Progress.{Progress}
+use Rattle.sequences.specs.declared.Order.{Order}
+use Rattle.register_step.specs.declared.Progress.{Progress}
 
 module _ (N : ℕ) (o : Order) (g : Progress) where
   abbrev place : ℕ → ℕ

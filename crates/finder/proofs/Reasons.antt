@@ -17,7 +17,7 @@ use Rattle.refusal.proofs.Orders.{SayAll, says-not}
 use Rattle.refusal.proofs.Ranges.{outside-says}
 use Rattle.register.specs.Sequences.{largest}
 use Rattle.finder.specs.Demands.{reasons}
-use Rattle.finder.specs.Finder.{isShort, isMeasured, isBelow, tests}
+use Rattle.sequences.specs.Tests.{isShort, isMeasured, isBelow, tests}
 
 module _ (p : ℕ) where
   not-modulus : isModulus p ≡ true → (p < 2) ⊎ ((65521 < p) ⊎ (Prime p → ⊥)) → ⊥

@@ -8,7 +8,8 @@ use Rattle.refusal.specs.Number.{number}
 use Rattle.refusal.specs.Outcome.{outcome}
 use Rattle.refusal.specs.Outcome as Outcome
 use Rattle.refusal.specs.declared.Refusal.{Refusal}
-use Rattle.finder.specs.Finder.{refused, tests, answer, tapsLeft, Finds}
+use Rattle.sequences.specs.Tests.{tests}
+use Rattle.finder.specs.Finder.{refused, answer, tapsLeft, Finds}
 use Rattle.finder.specs.declared.Found.the-variants.{Refused}
 
 pub refuses : (p : ℕ) (lengths symbols buffer : List ℕ) (r : Refusal) →

@@ -10,13 +10,13 @@ use lib.Seq.{getD-take, getD-drop}
 use Rattle.lists.proofs.Tabulated.{length-tabulate, getD-tabulate}
 use Rattle.register.proofs.Bounds.{Bounded, bounded-later, bounded-turn, bounded-rounds}
 use Rattle.register.specs.Algorithm4.{Saved, State, start, step, turn, rounds}
-use Rattle.finder.specs.Places.{sequenceAt, sequencesAt}
-use Rattle.finder.specs.Progress.{stateOf, Ready, Stepped}
+use Rattle.sequences.specs.Places.{sequenceAt, sequencesAt}
+use Rattle.register_step.specs.Progress.{stateOf, Ready, Stepped}
 use Rattle.finder.specs.Rounds.{Running, Agree, Reached}
-use Rattle.finder.specs.declared.Order.{Order}
-use Rattle.finder.specs.declared.Progress.{Progress}
+use Rattle.sequences.specs.declared.Order.{Order}
+use Rattle.register_step.specs.declared.Progress.{Progress}
 use Rattle.finder.proofs.Agreement.{agree-step}
-use Rattle.finder.proofs.Insertion.{length-within}
+use Rattle.sequences.proofs.Insertion.{length-within}
 
 module _ (o : Order) (k : ℕ) (symbols : List ℕ) where
   pub length-sequences : length (sequencesAt o k symbols) ≡ k

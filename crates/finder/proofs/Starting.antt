@@ -11,13 +11,13 @@ use Rattle.field.specs.Residue.{inverse}
 use Rattle.lists.proofs.Entries.{getD-part}
 use Rattle.lists.proofs.Joined.{replicate-each}
 use Rattle.register.specs.Algorithm4.{start}
-use Rattle.finder.specs.Places.{sequencesAt}
-use Rattle.finder.specs.Progress.{block, stateOf}
+use Rattle.sequences.specs.Places.{sequencesAt}
+use Rattle.register_step.specs.Progress.{block, stateOf}
 use Rattle.finder.specs.Rounds.{Running, Reached, Started}
-use Rattle.finder.specs.declared.Order.{Order}
-use Rattle.finder.specs.declared.Progress.{Progress}
-use Rattle.finder.proofs.Change.{saved-path}
-use Rattle.finder.proofs.Insertion.{length-within}
+use Rattle.sequences.specs.declared.Order.{Order}
+use Rattle.register_step.specs.declared.Progress.{Progress}
+use Rattle.register_step.proofs.Change.{saved-path}
+use Rattle.sequences.proofs.Insertion.{length-within}
 use Rattle.finder.proofs.Running.{sequence-at}
 
 -- ---- the struct
@@ -48,10 +48,10 @@ all-set h k {N} {o} {g} all = subst (λ (m : ℕ). Started N o m g) all
 -- ---- the arrays
 
 -- the taps of the register of length 0, and the saved registers that are 0
-abbrev pub one-tap : List ℕ
+abbrev one-tap : List ℕ
 one-tap = set (replicate 129 0) 0 1
 
-abbrev pub no-taps : List ℕ
+abbrev no-taps : List ℕ
 no-taps = replicate 1032 0
 
 zero-block : (h : ℕ) → h < 8 → take 1 (block h no-taps) ≡ 0 ∷ []

@@ -17,15 +17,16 @@ use Rattle.register.proofs.Bounds.{bounded-rounds}
 use Rattle.register.proofs.Ordering.{longest-bounds, longest-ordered}
 use Rattle.register.specs.Algorithm4.{Saved, State, rounds, isAlone, found, foundAlone}
 use Rattle.register.specs.Sequences.{largest, longest, ordered, split}
-use Rattle.finder.specs.Finder.{register, refused, tests, answer, tapsLeft, Finds}
-use Rattle.finder.specs.Places.{sequenceAt, sequencesAt, Stands}
-use Rattle.finder.specs.Progress.{stateOf}
+use Rattle.sequences.specs.Tests.{tests}
+use Rattle.finder.specs.Finder.{register, refused, answer, tapsLeft, Finds}
+use Rattle.sequences.specs.Places.{sequenceAt, sequencesAt, Stands}
+use Rattle.register_step.specs.Progress.{stateOf}
 use Rattle.finder.specs.Rounds.{Running, Agree, Reached, aloneMark}
 use Rattle.finder.specs.declared.Found.the-variants.{Register}
-use Rattle.finder.specs.declared.Order.{Order}
-use Rattle.finder.specs.declared.Progress.{Progress}
+use Rattle.sequences.specs.declared.Order.{Order}
+use Rattle.register_step.specs.declared.Progress.{Progress}
 use Rattle.finder.proofs.Accepted.{Accepted, lengths-split}
-use Rattle.finder.proofs.Insertion.{length-within}
+use Rattle.sequences.proofs.Insertion.{length-within}
 use Rattle.register.proofs.Largest.{largest-bound}
 use Rattle.finder.proofs.Running.{length-sequences, sequence-at}
 

@@ -1,5 +1,3 @@
 pub mod Demands
 pub mod Finder
-pub mod Places
-pub mod Progress
 pub mod Rounds

@@ -7,9 +7,9 @@ use lib.Dec.{leb}
 use lib.ListN.{length, getD}
 use Rattle.lists.specs.Tabulate.{every}
 use Rattle.register.specs.Algorithm4.{State}
-use Rattle.finder.specs.declared.Order.{Order}
-use Rattle.finder.specs.declared.Progress.{Progress}
-use Rattle.finder.specs.Progress.{stateOf, Ended}
+use Rattle.sequences.specs.declared.Order.{Order}
+use Rattle.register_step.specs.declared.Progress.{Progress}
+use Rattle.register_step.specs.Progress.{stateOf, Ended}
 
 -- the modulus is in its range, the k sequences lie within the symbols and are no longer than N, and the symbols are residues
 pub record Running (p N : ℕ) (o : Order) (k : ℕ) (symbols : List ℕ) : Type 0 where

@@ -1,17 +1,18 @@
 // The finder: the shortest register of the sequences lent, or why the input is refused.
 use crate::Found;
-use crate::check::check;
-use crate::check::longest;
-use crate::reduce::copy;
 use crate::rounds::alone;
 use crate::rounds::rounds;
 use crate::rounds::start;
-use crate::sort::by_length;
 use refusal::Checked;
+use register_step::copy::copy;
+use sequences::check::check;
+use sequences::check::longest;
+use sequences::sort::by_length;
 ghost use mathlib.Core.Path.{_≡_};
 ghost use lib.ListN.{length};
 ghost use Rattle.refusal.specs.Outcome.{passed, outcome};
-ghost use Rattle.finder.specs.Finder.{tests, Finds};
+ghost use Rattle.sequences.specs.Tests.{tests};
+ghost use Rattle.finder.specs.Finder.{Finds};
 
 // The search itself, on input that no test refuses: for callers who know that of theirs.
 pub fn synthesize(p: u32, lengths: &[u16], symbols: &[u16], taps: &mut [u16]) -> Found

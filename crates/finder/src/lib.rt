@@ -1,11 +1,6 @@
-// The shortest register of up to eight sequences (document 01, "Registers").
-mod check;
-mod discrepancy;
+// The shortest register of up to eight sequences: the rounds of Algorithm 4, and the finder (docs/SPECIFICATION.md, "Registers").
 pub mod find;
-mod reduce;
 mod rounds;
-mod sort;
-pub mod step;
 
 use refusal::Refusal;
 
@@ -13,20 +8,4 @@ use refusal::Refusal;
 pub enum Found {
     Register { length: usize, alone: bool },
     Refused(Refusal),
-}
-
-// The state of the method between two steps, but for the taps, which stand in lent arrays: the length of the register found so far, and for each
-// sequence the place, length and discrepancy of the register saved for it, with the inverse of that discrepancy modulo p.
-pub struct Progress {
-    pub length: usize,
-    pub places: [u16; 8],
-    pub sizes: [u16; 8],
-    pub discs: [u16; 8],
-    pub inverses: [u16; 8],
-}
-
-// Where the sequences stand among the lent symbols, by falling length: for each its first symbol and its length.
-pub struct Order {
-    pub starts: [u16; 8],
-    pub lengths: [u16; 8],
 }

@@ -1,13 +1,13 @@
 // The rounds of Algorithm 4: its start, each round, all of them, and the alone mark at the end.
-use crate::Order;
-use crate::Progress;
-use crate::step::change;
-use crate::step::due;
+use register_step::Progress;
+use register_step::step::change;
+use register_step::step::due;
+use sequences::Order;
 ghost use mathlib.Core.Path.{_≡_};
 ghost use Prim.Native.Nat.{ℕ, _+_, _/_, _≤_, _<_, min};
 ghost use lib.ListN.{getD};
 ghost use Rattle.register.specs.Algorithm4.{start as startState, rounds as roundsOf};
-ghost use Rattle.finder.specs.Places.{sequencesAt};
+ghost use Rattle.sequences.specs.Places.{sequencesAt};
 ghost use Rattle.finder.specs.Rounds.{Running, Reached, Started, aloneMark};
 
 // Before the first round the place of a sequence is its gap, N − N_h.

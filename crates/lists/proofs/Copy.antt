@@ -16,7 +16,8 @@ module _ {ℓ} {A : Type ℓ} where
   is-paste : (to from : List A) (i : ℕ) → copied to from i ≡ paste to 0 from i
   is-paste to from i = ap (λ (k : ℕ). take i from ++ drop k to) (sym (zero-add i))
 
-  pub copied-more : (to from : List A) (i : ℕ) (z : A) {now : List A} → now ≡ copied to from i → i < length to → i < length from → set now i (getD from i z) ≡ copied to from (i + 1)
+  pub copied-more : (to from : List A) (i : ℕ) (z : A) {now : List A} → now ≡ copied to from i → i < length to → i < length from
+      → set now i (getD from i z) ≡ copied to from (i + 1)
   copied-more to from i z e ht hf =
       ap₂ (λ (l : List A) (k : ℕ). set l k (getD from i z)) (e ∙ is-paste to from i) (sym (zero-add i))
       ∙ paste-suc to 0 from i z (rw zero-add ht) hf ∙ sym (is-paste to from (suc i)) ∙ rw add-one

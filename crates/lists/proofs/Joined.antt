@@ -15,7 +15,7 @@ module _ {ℓ} {A : Type ℓ} where
   unfolding joined
   joined-zero f = ap joined (tabulate-zero f)
 
-  pub joined-suc : (n : ℕ) (f : ℕ → List A) → joined (tabulate (suc n) f) ≡ f 0 ++ joined (tabulate n (λ h. f (suc h)))
+  joined-suc : (n : ℕ) (f : ℕ → List A) → joined (tabulate (suc n) f) ≡ f 0 ++ joined (tabulate n (λ h. f (suc h)))
   unfolding joined
   joined-suc n f = ap joined (tabulate-suc n f)
 
@@ -29,7 +29,7 @@ module _ {ℓ} {A : Type ℓ} where
       ∙ ap (λ l. l ++ f (suc n)) (sym (joined-suc n f))
 
   -- the lists up to h stand first
-  pub joined-first : (f : ℕ → List A) (h n : ℕ) → h < n → (rest : List A) × (joined (tabulate n f) ≡ joined (tabulate (suc h) f) ++ rest)
+  joined-first : (f : ℕ → List A) (h n : ℕ) → h < n → (rest : List A) × (joined (tabulate n f) ≡ joined (tabulate (suc h) f) ++ rest)
   joined-first f h zero l = absurd (let z : ⊥ = omega arith in z)
   joined-first f h (suc n) l = pick (ℕ-discrete h n) (joined-first f h n)
     where

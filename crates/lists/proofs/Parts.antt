@@ -16,7 +16,8 @@ module _ {ℓ} {A : Type ℓ} where
 
     pub length-replaced : length (replaced a n xs ys) ≡ length xs
     length-replaced =
-        omega (arith, length-append (take a xs) (ys ++ drop n (drop a xs)), length-append ys (drop n (drop a xs)), length-drop n (drop a xs), length-drop a xs, front)
+        let rest : List A = drop n (drop a xs) in
+        omega (arith, length-append (take a xs) (ys ++ rest), length-append ys rest, length-drop n (drop a xs), length-drop a xs, front)
 
     pub part-replaced : take n (drop a (replaced a n xs ys)) ≡ ys
     part-replaced = ap (take n) (drop-at (take a xs) (ys ++ drop n (drop a xs)) a front) ∙ take-at ys (drop n (drop a xs)) n fits

@@ -36,7 +36,8 @@ module _ {ℓ} {A : Type ℓ} where
   pub tabulate-ext : (n : ℕ) (f g : ℕ → A) → ((i : ℕ) → i < n → f i ≡ g i) → tabulate n f ≡ tabulate n g
   tabulate-ext zero f g e = tabulate-zero f ∙ sym (tabulate-zero g)
   tabulate-ext (suc n) f g e =
-      tabulate-suc n f ∙ ap₂ _∷_ (e 0 (omega arith)) (tabulate-ext n (λ i. f (suc i)) (λ i. g (suc i)) (λ i h. e (suc i) (omega arith))) ∙ sym (tabulate-suc n g)
+      tabulate-suc n f ∙ ap₂ _∷_ (e 0 (omega arith)) (tabulate-ext n (λ i. f (suc i)) (λ i. g (suc i)) (λ i h. e (suc i) (omega arith)))
+      ∙ sym (tabulate-suc n g)
 
   pub tabulate-more : (n : ℕ) (f : ℕ → A) → tabulate (suc n) f ≡ tabulate n f ++ (f n ∷ [])
   tabulate-more zero f = tabulate-suc 0 f ∙ ap (λ l. f 0 ∷ l) (tabulate-zero (λ i. f (suc i))) ∙ ap (λ l. l ++ (f 0 ∷ [])) (sym (tabulate-zero f))

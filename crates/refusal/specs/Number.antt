@@ -1,7 +1,23 @@
 -- The number that document 01 gives each refusal: "Refused because of the input" and "Refused because of the state".
 use Prim.Native.Nat.{ℕ}
 use Rattle.refusal.specs.declared.Refusal.{Refusal}
-use Rattle.refusal.specs.declared.Refusal.the-variants.{Modulus, Count, Lengths, Symbol, Columns, Checks, FrameSize, TapBuffer, BadRecord, Empty, NotLocated, SumsDiffer, NotAlone, ShortRow, NoFrame}
+use Rattle.refusal.specs.declared.Refusal.the-variants.{
+  Modulus,
+  Count,
+  Lengths,
+  Symbol,
+  Columns,
+  Checks,
+  FrameSize,
+  TapBuffer,
+  BadRecord,
+  Empty,
+  NotLocated,
+  SumsDiffer,
+  NotAlone,
+  ShortRow,
+  NoFrame,
+}
 
 abbrev pub number : Refusal → ℕ
 number Modulus = 1

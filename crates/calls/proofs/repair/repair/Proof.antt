@@ -13,7 +13,17 @@ use Rattle.job.specs.Calls.{sameSums}
 use Rattle.job.specs.Job.{countsEmpty, isLocatedPhase}
 use Rattle.job.proofs.Forms.{has-shape}
 use Rattle.refusal.specs.Outcome.{outcome, outcomeOf, passed}
-use Rattle.calls.proofs.Steps.{refusal-outcome, mended-outcome, passed-size, passed-symbols, repair-empty, repair-unlocated, repair-refused, repair-differs, repair-mends}
+use Rattle.calls.proofs.Steps.{
+  refusal-outcome,
+  mended-outcome,
+  passed-size,
+  passed-symbols,
+  repair-empty,
+  repair-unlocated,
+  repair-refused,
+  repair-differs,
+  repair-mends,
+}
 use Rattle.job.proofs.Marked.{located-marked}
 use borrow.Author.Needs.{needs}
 use Rattle.calls.proofs.repair.repair.Statement.{statement}

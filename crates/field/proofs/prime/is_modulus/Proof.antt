@@ -48,12 +48,14 @@ loop-again : tie.Need-loop-again Inv-loop μ-loop
 loop-again c =
     let at = c .before .before in
     let small = root-small (at .loop .d) (omega arith) in
-    (omega arith, omega (arith, at .loop .inv .2), omega (arith, at .loop .inv .2), undivided-two-more _ _ (at .before .if3 .left) (at .loop .inv .2) (at .loop .inv .3) (c .if4 .left))
+    let more = undivided-two-more _ _ (at .before .if3 .left) (at .loop .inv .2) (at .loop .inv .3) (c .if4 .left) in
+    (omega arith, omega (arith, at .loop .inv .2), omega (arith, at .loop .inv .2), more)
 
 returns-5 : tie.Need-returns-5 Inv-loop μ-loop
 returns-5 c =
     let at = c .before in
-    sym (modulus-taken _ (undivided-to-root _ _ (at .before .before .before .if1 .left) (c .loop-test .left) (at .loop .inv .3)) (at .before .before .if2 .left))
+    let prime = undivided-to-root _ _ (at .before .before .before .if1 .left) (c .loop-test .left) (at .loop .inv .3) in
+    sym (modulus-taken _ prime (at .before .before .if2 .left))
 
 pub is-modulus-spec : {M : Type 1} → statement M
 is-modulus-spec =

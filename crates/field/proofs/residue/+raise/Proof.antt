@@ -53,7 +53,8 @@ raise-raise-requires-2 t c κs = omega (arith, c .before .before .remainder .ens
 raise-returns-3 : (t : ℕ) → raise-lts.Need-returns-3 (claims t) (raise-at t) raise.Post
 raise-returns-3 t c =
     let at = c .before .before in
-    (odd-power _ _ _ _ _ _ (at .before .remainder .ensures .0) (at .if2 .left) _ (c .before .remainder2 .ensures .0) (c .raise2 .ensures .0), c .raise2 .ensures .1)
+    let power = odd-power _ _ _ _ _ _ (at .before .remainder .ensures .0) (at .if2 .left) _ (c .before .remainder2 .ensures .0) (c .raise2 .ensures .0) in
+    (power, c .raise2 .ensures .1)
 
 pub +raise-spec : {M : Type 1} → statement M
 +raise-spec =

@@ -4,10 +4,10 @@ use Prim.Native.Nat.{_+_, _-_, _≤_}
 use native.Mathlib.Omega.{arith}
 use borrow.Author.Needs.{needs}
 use Rattle.register.specs.Algorithm4.{turn, rounds}
-use Rattle.finder.specs.Places.{sequencesAt}
+use Rattle.sequences.specs.Places.{sequencesAt}
 use Rattle.finder.specs.Rounds.{Reached}
 use Rattle.finder.proofs.Running.{ready, stepped, round-begins, round-ends}
-use Rattle.finder.proofs.Steps.{summable, in-reach, resting, changeable, changing, same-after}
+use Rattle.register_step.proofs.Steps.{summable, in-reach, resting, changeable, changing, same-after}
 use Rattle.finder.proofs.rounds.round.Statement.{statement}
 use Rattle.finder.proofs.rounds.round.Tie as tie
 
@@ -90,7 +90,7 @@ loop-again c =
       search needs,
       stepped (pre .0) (pre .1 .0) (search needs) (at .inv .1)
           (⊎-elim
-          (λ w. same-after (w .6) (w .4) (w .5) (changing begun (at .inv .1 .ended) due (w .0 .taken) (w .3 .ensures)))
+          (λ w. same-after (w .6) (w .4) (w .5) (changing begun (at .inv .1 .ended) due (w .0 .taken) (w .3 .ensures .0)))
           (λ w. same-after (w .3) (w .1) (w .2) (resting begun (at .inv .1 .ended) due (w .0 .left)))
           (c .if1 .came)),
     )

@@ -3,7 +3,7 @@ use Prim.Native.Nat.{_-_, _≤_}
 use native.Mathlib.Omega.{arith}
 use borrow.Author.Needs.{needs}
 use Rattle.register.specs.Algorithm4.{rounds}
-use Rattle.finder.specs.Places.{sequencesAt}
+use Rattle.sequences.specs.Places.{sequencesAt}
 use Rattle.finder.specs.Rounds.{Reached}
 use Rattle.finder.proofs.Running.{none-run, all-run}
 use Rattle.finder.proofs.rounds.rounds.Statement.{statement}

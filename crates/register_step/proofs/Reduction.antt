@@ -1,0 +1,126 @@
+-- The taps of a register less q·x^e·τ, worked tap by tap: `reduced` by no tap of τ, by one more, and by all of them; and its entries at one length and
+-- at another. Assumes nothing.
+use mathlib.Core.Path.{_≡_, sym, ap, ap₂, _∙_}
+use mathlib.Core.Logic.{_≢_}
+use mathlib.Core.List.{List, []}
+use Prim.Native.Nat.{ℕ, suc, _+_, _-_, _*_, _≤_, _<_}
+use native.Mathlib.Decide.{decLt, ℕ-discrete}
+use native.Mathlib.Nat.{add-mod-right, mul-zero, zero-mod, mod-eq-of-lt, sub-zero, add-sub-cancel-left}
+use native.Mathlib.Numerals.{add-one}
+use native.Mathlib.Omega.{arith}
+use lib.ListN.{length, getD, take, set, length-take, length-set, List·getD-eq-default}
+use lib.Seq.{ext-getD, take-all, getD-take, getD-set-same, getD-set-other}
+use Rattle.field.specs.Coefficients.{reduced, shifted}
+use Rattle.field.specs.Residue.{minus, times}
+use Rattle.field.proofs.Coefficients.{shifted-below, shifted-above, length-reduced, getD-reduced}
+use Rattle.lists.proofs.Entries.{getD-take-suc}
+use Rattle.register_step.specs.Progress.{block, Reducible}
+use Rattle.register_step.proofs.Blocks.{saved-at}
+
+pub minus-zero : (p a q : ℕ) → a < p → minus p a (times p q 0) ≡ a
+minus-zero p a q h = rw (mul-zero, zero-mod, sub-zero, add-mod-right) (mod-eq-of-lt h)
+
+-- x^e·τ has no coefficient past its last
+pub shifted-past : (e : ℕ) (τ : List ℕ) (k : ℕ) → e + length τ ≤ k → shifted e τ k ≡ 0
+shifted-past e τ k h = shifted-above e τ k (omega arith) ∙ List·getD-eq-default τ 0 (let b : length τ ≤ k - e = omega arith in b)
+
+shifted-none : (e k : ℕ) → shifted e [] k ≡ 0
+shifted-none e k = pick (decLt k e)
+  where
+    pick : Dec (k < e) → shifted e [] k ≡ 0
+    pick (yes h) = shifted-below e [] k h
+    pick (no h) = shifted-above e [] k (omega arith)
+
+module _ (p l : ℕ) (σ : List ℕ) (q e : ℕ) where
+  -- tap i of σ − q·x^e·τ
+  abbrev tap : (τ : List ℕ) (i : ℕ) → ℕ
+  tap τ i = minus p (getD σ i 0) (times p q (shifted e τ i))
+
+  tap-same : (τ ρ : List ℕ) (i : ℕ) → shifted e τ i ≡ shifted e ρ i → tap τ i ≡ tap ρ i
+  tap-same τ ρ i h = ap (λ (x : ℕ). minus p (getD σ i 0) (times p q x)) h
+
+  tap-kept : (τ : List ℕ) (i : ℕ) → shifted e τ i ≡ 0 → getD σ i 0 < p → tap τ i ≡ getD σ i 0
+  tap-kept τ i h less = ap (λ (x : ℕ). minus p (getD σ i 0) (times p q x)) h ∙ minus-zero p (getD σ i 0) q less
+
+  pub reduced-none : length σ ≡ suc l → ((i : ℕ) → getD σ i 0 < p) → σ ≡ reduced p l σ q e []
+  reduced-none len less =
+      ext-getD 0 σ (reduced p l σ q e []) (len ∙ sym (length-reduced p l σ q e []))
+      (λ i h. sym (getD-reduced p l σ q e [] i (omega arith) ∙ tap-kept [] i (shifted-none e i) (less i)))
+
+  pub reduced-all : (τ : List ℕ) (i n : ℕ) {now : List ℕ} →
+      now ≡ reduced p l σ q e (take i (take n τ)) → n ≤ i → now ≡ reduced p l σ q e (take n τ)
+  reduced-all τ i n eq h = eq ∙ ap (λ (ρ : List ℕ). reduced p l σ q e ρ) (take-all i (take n τ) (omega (arith, length-take n τ)))
+
+  -- the tap at which one more entry of τ comes into play
+  next-tap : (τ : List ℕ) (i : ℕ) {now : List ℕ} → now ≡ reduced p l σ q e (take i τ) →
+      e + i < suc l → getD σ (e + i) 0 < p → getD now (e + i) 0 ≡ getD σ (e + i) 0
+  next-tap τ i eq h less =
+      ap (λ (s : List ℕ). getD s (e + i) 0) eq ∙ getD-reduced p l σ q e (take i τ) (e + i) (omega arith)
+      ∙ tap-kept (take i τ) (e + i) (shifted-past e (take i τ) (e + i) (omega (arith, length-take i τ))) less
+
+  reduced-more :
+      (τ : List ℕ) (i : ℕ) {now : List ℕ} → now ≡ reduced p l σ q e (take i τ) → e + i < suc l →
+      set now (e + i) (minus p (getD σ (e + i) 0) (times p q (getD τ i 0))) ≡ reduced p l σ q e (take (suc i) τ)
+  reduced-more τ i {now} eq h =
+      ext-getD 0 (set now (e + i) v) (reduced p l σ q e (take (suc i) τ)) (length-set now (e + i) v ∙ len ∙ sym (length-reduced p l σ q e (take (suc i) τ)))
+      (λ k b.
+      let inside : k < suc l = omega (arith, len, length-set now (e + i) v) in
+      at k inside (ℕ-discrete k (e + i)) ∙ sym (getD-reduced p l σ q e (take (suc i) τ) k (omega arith)))
+    where
+      v : ℕ
+      v = minus p (getD σ (e + i) 0) (times p q (getD τ i 0))
+
+      len : length now ≡ suc l
+      len = ap length eq ∙ length-reduced p l σ q e (take i τ)
+
+      entry : shifted e (take (suc i) τ) (e + i) ≡ getD τ i 0
+      entry =
+          shifted-above e (take (suc i) τ) (e + i) (omega arith)
+          ∙ ap (λ (j : ℕ). getD (take (suc i) τ) j 0) (add-sub-cancel-left e i)
+          ∙ getD-take (suc i) τ i 0 (omega arith)
+
+      other : (k : ℕ) → k ≢ e + i → shifted e (take i τ) k ≡ shifted e (take (suc i) τ) k
+      other k ne = pick (decLt k e)
+        where
+          pick : Dec (k < e) → shifted e (take i τ) k ≡ shifted e (take (suc i) τ) k
+          pick (yes b) = shifted-below e (take i τ) k b ∙ sym (shifted-below e (take (suc i) τ) k b)
+          pick (no b) =
+              shifted-above e (take i τ) k (omega arith)
+              ∙ sym (getD-take-suc i τ (k - e) 0 (λ same. ne (omega (arith, same))))
+              ∙ sym (shifted-above e (take (suc i) τ) k (omega arith))
+
+      at : (k : ℕ) → k < suc l → Dec (k ≡ e + i) → getD (set now (e + i) v) k 0 ≡ tap (take (suc i) τ) k
+      at k b (yes same) =
+          rw same
+          (getD-set-same now (e + i) v 0 (omega (arith, len))
+          ∙ ap (λ (x : ℕ). minus p (getD σ (e + i) 0) (times p q x)) (sym entry))
+      at k b (no ne) =
+          getD-set-other now (e + i) k v 0 ne
+          ∙ ap (λ (s : List ℕ). getD s k 0) eq
+          ∙ getD-reduced p l σ q e (take i τ) k (omega arith)
+          ∙ tap-same (take i τ) (take (suc i) τ) k (other k ne)
+
+-- ---- a turn of the code's loop, at entry i of what is saved for h
+
+module _ {p : ℕ} {σ : List ℕ} {q e m : ℕ} {saved : List ℕ} {h : ℕ} (r : Reducible p σ q e m saved h) (i : ℕ) {now : List ℕ} (le : i ≤ m)
+    (eq : now ≡ reduced p 128 σ q e (take i (take (suc m) (block h saved)))) where
+  within : e + i < 129
+  within = let b : e + m ≤ 128 = r .reach in omega arith
+
+  kept-tap : getD now (e + i) 0 ≡ getD σ (e + i) 0
+  kept-tap = next-tap p 128 σ q e (take (suc m) (block h saved)) i eq within (r .residues (e + i))
+
+  saved-tap : getD saved (h * 129 + i) 0 ≡ getD (take (suc m) (block h saved)) i 0
+  saved-tap = let b : e + m ≤ 128 = r .reach in saved-at saved h m i le (omega arith)
+
+  pub tap-less : getD now (e + i) 0 < p
+  tap-less = rw kept-tap (r .residues (e + i))
+
+  -- y is q times what is saved, and v the tap less it
+  pub turn-reduces : {y v : ℕ} → y ≡ times p q (getD saved (h * 129 + i) 0) → v ≡ minus p (getD now (e + i) 0) y →
+      set now (e + i) v ≡ reduced p 128 σ q e (take (i + 1) (take (suc m) (block h saved)))
+  turn-reduces multiple difference =
+      ap (λ (x : ℕ). set now (e + i) x)
+      (difference ∙ ap₂ (λ (x y : ℕ). minus p x y) kept-tap (multiple ∙ ap (λ (x : ℕ). times p q x) saved-tap))
+      ∙ reduced-more p 128 σ q e (take (suc m) (block h saved)) i eq within
+      ∙ ap (λ (k : ℕ). reduced p 128 σ q e (take k (take (suc m) (block h saved)))) (sym (add-one i))

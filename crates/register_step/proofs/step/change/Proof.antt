@@ -1,0 +1,199 @@
+-- `change` makes the change of Algorithm 4 on the arrays.
+use borrow.Author.Needs.{needs}
+use Rattle.register_step.specs.Progress.{stateOf}
+use Rattle.register_step.proofs.Change.{Lengths, inverse-less, is-quotient, reducible, stays, grows, saved-stays, saved-grows}
+use Rattle.register_step.proofs.step.change.Statement.{statement}
+use Rattle.register_step.proofs.step.change.Tie as tie
+
+-- ---- the ways back
+
+abbrev start-of : tie.After-product → tie.Start
+start-of c = c .before .before .before .before
+
+abbrev reduced-before : tie.After-inverse → tie.After-reduce2
+reduced-before c = c .before .before .before .before
+
+abbrev grew : tie.After-reduce2 → tie.Else1
+grew c = c .before .before .before .before
+
+abbrev divided : tie.Else1 → tie.After-product
+divided c = c .before
+
+lengths : (c : tie.Start) → Lengths (c .args .t5)
+lengths c = (search needs, search needs, search needs, search needs)
+
+-- ---- the needs
+
+mul-place : tie.Need-mul-place
+mul-place c = search needs
+
+element-copy-out-place : tie.Need-element-copy-out-place
+element-copy-out-place c = search needs
+
+cast-place : tie.Need-cast-place
+cast-place c = search needs
+
+mul-size : tie.Need-mul-size
+mul-size c = search needs
+
+element-copy-out-size : tie.Need-element-copy-out-size
+element-copy-out-size c = search needs
+
+cast-size : tie.Need-cast-size
+cast-size c = search needs
+
+mul-product : tie.Need-mul-product
+mul-product c = search needs
+
+element-copy-out-product : tie.Need-element-copy-out-product
+element-copy-out-product c = search needs
+
+cast-product : tie.Need-cast-product
+cast-product c = search needs
+
+product-requires : tie.Need-product-requires
+unfolding stateOf
+product-requires c κs =
+    let at = c .before .before .before in
+    (at .pre .0 .modulus, at .pre .0 .discrepancy, inverse-less (at .pre .0) (at .pre .1))
+
+sub-e : tie.Need-sub-e
+unfolding stateOf
+sub-e c = search needs
+
+add-if1 : tie.Need-add-if1
+unfolding stateOf
+add-if1 c = search needs
+
+add-if1-2 : tie.Need-add-if1-2
+unfolding stateOf
+add-if1-2 c = search needs
+
+reduce-requires : tie.Need-reduce-requires
+unfolding stateOf
+reduce-requires c κs =
+    let at = start-of (c .before .before .before) in
+    reducible (at .pre .0) (at .pre .1) (c .before .before .before .product .ensures .1)
+
+returns : tie.Need-returns
+unfolding stateOf
+returns c =
+    let at = start-of (c .before .before .before .before) in
+    let short = c .before .before .before .if1 .taken in (
+      stays (at .pre .0) (at .pre .1) (is-quotient (at .pre .0) (at .pre .1) (c .before .before .before .before .product .ensures .0)) (c .reduce .ensures) short,
+      saved-stays (at .pre .0) (at .pre .1) short,
+    )
+
+reduce-requires-2 : tie.Need-reduce-requires-2
+unfolding stateOf
+reduce-requires-2 c κs =
+    let at = start-of (c .before .before .before .before) in
+    reducible (at .pre .0) (at .pre .1) (c .before .before .before .before .product .ensures .1)
+
+slice-aggregate-keep : tie.Need-slice-aggregate-keep
+unfolding stateOf
+slice-aggregate-keep c = search needs
+
+keep-requires : tie.Need-keep-requires
+unfolding stateOf
+keep-requires c κs = search needs
+
+add-next : tie.Need-add-next
+unfolding stateOf
+add-next c = search needs
+
+sub-next : tie.Need-sub-next
+unfolding stateOf
+sub-next c = search needs
+
+cast-next : tie.Need-cast-next
+unfolding stateOf
+cast-next c = search needs
+
+mul-next : tie.Need-mul-next
+mul-next c = search needs
+
+element-write-next : tie.Need-element-write-next
+element-write-next c = search needs
+
+cast-next-2 : tie.Need-cast-next-2
+unfolding stateOf
+cast-next-2 c = search needs
+
+mul-next-2 : tie.Need-mul-next-2
+mul-next-2 c = search needs
+
+element-write-next-2 : tie.Need-element-write-next-2
+element-write-next-2 c = search needs
+
+cast-next-3 : tie.Need-cast-next-3
+unfolding stateOf
+cast-next-3 c = search needs
+
+mul-next-3 : tie.Need-mul-next-3
+mul-next-3 c = search needs
+
+element-write-next-3 : tie.Need-element-write-next-3
+element-write-next-3 c = search needs
+
+inverse-requires : tie.Need-inverse-requires
+inverse-requires c κs = search needs
+
+cast-next-4 : tie.Need-cast-next-4
+cast-next-4 c = search needs
+
+mul-next-4 : tie.Need-mul-next-4
+mul-next-4 c = search needs
+
+element-write-next-4 : tie.Need-element-write-next-4
+element-write-next-4 c = search needs
+
+returns-2 : tie.Need-returns-2
+unfolding stateOf
+returns-2 c =
+    let product = divided (grew (reduced-before c)) in
+    let at = start-of product in
+    let long = grew (reduced-before c) .if1 .left in (
+      grows (at .pre .0) (at .pre .1) (is-quotient (at .pre .0) (at .pre .1) (product .product .ensures .0)) (reduced-before c .reduce2 .ensures) (lengths at)
+          (c .inverse .ensures .0) (c .before .keep .ensures) long,
+      saved-grows (at .pre .0) (at .pre .1) (c .before .keep .ensures) long,
+    )
+
+pub change-spec : {M : Type 1} → statement M
+change-spec =
+    tie.close
+    (tie.spec
+    mul-place
+    element-copy-out-place
+    cast-place
+    mul-size
+    element-copy-out-size
+    cast-size
+    mul-product
+    element-copy-out-product
+    cast-product
+    product-requires
+    sub-e
+    add-if1
+    add-if1-2
+    reduce-requires
+    returns
+    reduce-requires-2
+    slice-aggregate-keep
+    keep-requires
+    add-next
+    sub-next
+    cast-next
+    mul-next
+    element-write-next
+    cast-next-2
+    mul-next-2
+    element-write-next-2
+    cast-next-3
+    mul-next-3
+    element-write-next-3
+    inverse-requires
+    cast-next-4
+    mul-next-4
+    element-write-next-4
+    returns-2)

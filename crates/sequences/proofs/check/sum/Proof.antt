@@ -1,0 +1,59 @@
+-- `sum` answers the sum of the lengths. The invariant: it is that of the lengths passed. Assumes nothing.
+use mathlib.Core.Path.{_≡_, refl, sym}
+use Prim.Native.Nat.{_-_, _*_, _≤_}
+use native.Mathlib.Omega.{arith}
+use borrow.Author.Needs.{needs}
+use lib.ListN.{length, getD}
+use Rattle.lists.proofs.Totals.{total-zero, total-more, total-all}
+use Rattle.lists.specs.Total.{total}
+use Rattle.sequences.proofs.check.sum.Statement.{statement}
+use Rattle.sequences.proofs.check.sum.Tie as tie
+
+abbrev Inv-loop : tie.InvT-loop
+Inv-loop lengths all₀ h₀ all h = (h ≤ length lengths) × (all ≤ h * 65535) × (all ≡ total h (λ k. getD lengths k 0))
+
+abbrev μ-loop : tie.MeasureT-loop
+μ-loop lengths all₀ h₀ all h = length lengths - h
+
+loop-holds : tie.Need-loop-holds Inv-loop μ-loop
+loop-holds c = (search needs, search needs, sym (total-zero _))
+
+mul-all : tie.Need-mul-all Inv-loop μ-loop
+mul-all c = search needs
+
+shared-slice-read-all : tie.Need-shared-slice-read-all Inv-loop μ-loop
+shared-slice-read-all c = search needs
+
+cast-all : tie.Need-cast-all Inv-loop μ-loop
+cast-all c = omega (arith, c .shared-slice-known .given (c .before .before .loop .h))
+
+add-all : tie.Need-add-all Inv-loop μ-loop
+add-all c = omega (arith, c .shared-slice-known .given (c .before .before .loop .h))
+
+add-h : tie.Need-add-h Inv-loop μ-loop
+add-h c = search needs
+
+loop-less : tie.Need-loop-less Inv-loop μ-loop
+loop-less c = search needs
+
+loop-again : tie.Need-loop-again Inv-loop μ-loop
+loop-again c = (search needs, omega (arith, c .shared-slice-known .given (c .before .before .loop .h)), total-more _ _ (c .before .before .loop .inv .2) refl)
+
+returns : tie.Need-returns Inv-loop μ-loop
+returns c = total-all _ (c .before .loop .inv .2) (omega arith)
+
+pub sum-spec : {M : Type 1} → statement M
+sum-spec =
+    tie.close
+    (tie.spec
+    Inv-loop
+    μ-loop
+    loop-holds
+    mul-all
+    shared-slice-read-all
+    cast-all
+    add-all
+    add-h
+    loop-less
+    loop-again
+    returns)
