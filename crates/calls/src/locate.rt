@@ -3,7 +3,7 @@ use crate::from_sums::locate_from;
 use crate::sound::counts_as_empty;
 use crate::states::refuse;
 use codec::sums::frame_sums;
-use codec::symbols::check_frame;
+use shapes::symbols::check_frame;
 use job::Answered;
 use job::Head;
 use job::Reply;

@@ -5,7 +5,7 @@ use crate::states::length_of;
 use crate::states::mended;
 use crate::states::refuse;
 use codec::sums::frame_sums;
-use codec::symbols::check_frame;
+use shapes::symbols::check_frame;
 use completion::mend::mend;
 use job::Answered;
 use job::Head;

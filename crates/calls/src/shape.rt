@@ -1,7 +1,7 @@
 // Giving a job its shape. Its arrays are neither read nor written.
 use crate::states::shaped;
-use codec::shape::check_shape;
-use codec::shape::shape_of;
+use shapes::shape::check_shape;
+use shapes::shape::shape_of;
 use job::Head;
 use job::Reshaped;
 use refusal::Checked;

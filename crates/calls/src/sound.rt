@@ -1,5 +1,5 @@
 // Which heads are sound: those that calls leave are, and one that is not counts as empty.
-use codec::shape::is_shape;
+use shapes::shape::is_shape;
 use columns::Columns;
 use frame::Shape;
 use job::Head;

@@ -1,5 +1,3 @@
-// Shapes, symbols and check sums of frames.
-pub mod shape;
+// Check sums of frames.
 pub mod stages;
 pub mod sums;
-pub mod symbols;

@@ -1,7 +1,7 @@
 // Frames encoded: their sizes and data cells tested, and their rows encoded one after the other.
 use crate::division::encode_row;
 use crate::generator::generator;
-use codec::symbols::data_below;
+use shapes::symbols::data_below;
 use field257::powers::wide;
 use frame::Shape;
 use refusal::Checked;

@@ -1,4 +1,4 @@
--- `codec::powers::entry` meets its contract. Assumes nothing.
+-- `field257::powers::entry` meets its contract. Assumes nothing.
 use mathlib.Core.List.{List}
 use Prim.Native.Nat.{ℕ}
 use lib.ListN.{getD}

@@ -1,4 +1,4 @@
--- `codec::values::fours` meets its contract. Assumes nothing.
+-- `field257::values::fours` meets its contract. Assumes nothing.
 use mathlib.Core.Path.{_≡_, ap, _∙_}
 use Prim.Native.Nat.{_+_, _-_, _*_, _%_}
 use native.Mathlib.Omega.{arith}

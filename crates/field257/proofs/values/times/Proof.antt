@@ -1,4 +1,4 @@
--- `codec::values::times` meets its contract. Assumes nothing.
+-- `field257::values::times` meets its contract. Assumes nothing.
 use Prim.Native.Nat.{_≤_}
 use native.Mathlib.Nat.{mul-le-mul}
 use native.Mathlib.Omega.{arith}

@@ -1,4 +1,4 @@
--- `codec::values::value_at` meets its contract. Assumes nothing.
+-- `field257::values::value_at` meets its contract. Assumes nothing.
 use Prim.Native.Nat.{_+_, _-_, _*_, _/_, _%_, _≤_, _<_}
 use native.Mathlib.Nat.{mod-lt, mul-le-mul}
 use native.Mathlib.Omega.{arith}

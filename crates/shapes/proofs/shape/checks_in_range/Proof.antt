@@ -1,4 +1,4 @@
--- `codec::shape::checks_in_range` meets its contract. Assumes nothing.
+-- `shapes::shape::checks_in_range` meets its contract. Assumes nothing.
 use mathlib.Core.Path.{_≡_, sym, ap, _∙_}
 use mathlib.Core.Bool.{true, false}
 use Prim.Native.Nat.{ℕ, _-_, _≤_, _<_}
@@ -8,8 +8,8 @@ use borrow.Author.Count.{below-none, below-more}
 use Rattle.frame.specs.Shape.{checksInRange}
 use Rattle.frame.proofs.ShapeTests.{countTest, no-check, many-checks, no-data, count-taken, checks-fail, checks-pass}
 use borrow.Author.Needs.{needs}
-use Rattle.codec.proofs.shape.checks_in_range.Statement.{statement}
-use Rattle.codec.proofs.shape.checks_in_range.Tie as tie
+use Rattle.shapes.proofs.shape.checks_in_range.Statement.{statement}
+use Rattle.shapes.proofs.shape.checks_in_range.Tie as tie
 
 abbrev Inv-loop : tie.InvT-loop
 Inv-loop columns rows checks h₀ h = (h ≤ rows) × ((k : ℕ) → k < h → countTest columns (getD checks k 0) ≡ true)

@@ -1,8 +1,8 @@
--- `codec::shape::columns_in_range` meets its contract. Assumes nothing.
+-- `shapes::shape::columns_in_range` meets its contract. Assumes nothing.
 use mathlib.Core.Path.{sym}
 use Rattle.frame.proofs.ShapeTests.{few-columns, many-columns, columns-taken}
-use Rattle.codec.proofs.shape.columns_in_range.Statement.{statement}
-use Rattle.codec.proofs.shape.columns_in_range.Tie as tie
+use Rattle.shapes.proofs.shape.columns_in_range.Statement.{statement}
+use Rattle.shapes.proofs.shape.columns_in_range.Tie as tie
 
 returns : tie.Need-returns
 returns c = sym (few-columns _ (c .if1 .taken))

@@ -1,12 +1,12 @@
--- `codec::shape::is_shape` meets its contract. Assumes nothing.
+-- `shapes::shape::is_shape` meets its contract. Assumes nothing.
 use mathlib.Core.Path.{refl, sym, _∙_}
 use mathlib.Core.Bool.{true, false}
 use native.Mathlib.Omega.{arith}
 use borrow.Author.Tests.{not-true, not-false}
 use Rattle.frame.proofs.ShapeTests.{few-rows, is-shape-by}
 use borrow.Author.Needs.{needs}
-use Rattle.codec.proofs.shape.is_shape.Statement.{statement}
-use Rattle.codec.proofs.shape.is_shape.Tie as tie
+use Rattle.shapes.proofs.shape.is_shape.Statement.{statement}
+use Rattle.shapes.proofs.shape.is_shape.Tie as tie
 
 rows-in-range-requires : tie.Need-rows-in-range-requires
 rows-in-range-requires c κs = search needs

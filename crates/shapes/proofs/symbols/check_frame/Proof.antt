@@ -1,4 +1,4 @@
--- `codec::symbols::check_frame` meets its contract. Assumes nothing.
+-- `shapes::symbols::check_frame` meets its contract. Assumes nothing.
 use mathlib.Core.Path.{refl, sym, _∙_}
 use mathlib.Core.Bool.{true, false}
 use native.Mathlib.Omega.{arith}
@@ -7,8 +7,8 @@ use Rattle.refusal.specs.Outcome.{passed, refused}
 use Rattle.frame.proofs.FrameTests.{by-frame-tests}
 use Rattle.frame.proofs.RowPlace.{frame-small}
 use borrow.Author.Needs.{needs}
-use Rattle.codec.proofs.symbols.check_frame.Statement.{statement}
-use Rattle.codec.proofs.symbols.check_frame.Tie as tie
+use Rattle.shapes.proofs.symbols.check_frame.Statement.{statement}
+use Rattle.shapes.proofs.symbols.check_frame.Tie as tie
 
 mul-if1 : tie.Need-mul-if1
 mul-if1 c = omega (arith, frame-small _ (c .before .before .pre))

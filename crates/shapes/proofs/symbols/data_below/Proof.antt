@@ -1,4 +1,4 @@
--- `codec::symbols::data_below` meets its contract. Assumes nothing.
+-- `shapes::symbols::data_below` meets its contract. Assumes nothing.
 use mathlib.Core.Path.{_≡_, sym, _∙_}
 use mathlib.Core.Bool.{true}
 use Prim.Native.Nat.{ℕ, _-_, _≤_, _<_}
@@ -9,8 +9,8 @@ use borrow.Author.Tests.{not-true, not-false}
 use Rattle.frame.proofs.FrameTests.{rowTest, row-tested, data-fails, data-passes}
 use Rattle.frame.proofs.RowPlace.{RowPlace, row-place}
 use borrow.Author.Needs.{needs}
-use Rattle.codec.proofs.symbols.data_below.Statement.{statement}
-use Rattle.codec.proofs.symbols.data_below.Tie as tie
+use Rattle.shapes.proofs.symbols.data_below.Statement.{statement}
+use Rattle.shapes.proofs.symbols.data_below.Tie as tie
 
 abbrev Inv-loop : tie.InvT-loop
 Inv-loop frame s rows columns h₀ h = (h ≤ rows) × ((k : ℕ) → k < h → rowTest s frame k ≡ true)

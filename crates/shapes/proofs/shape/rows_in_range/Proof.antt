@@ -1,8 +1,8 @@
--- `codec::shape::rows_in_range` meets its contract. Assumes nothing.
+-- `shapes::shape::rows_in_range` meets its contract. Assumes nothing.
 use mathlib.Core.Path.{sym}
 use Rattle.frame.proofs.ShapeTests.{no-row, many-rows, rows-taken}
-use Rattle.codec.proofs.shape.rows_in_range.Statement.{statement}
-use Rattle.codec.proofs.shape.rows_in_range.Tie as tie
+use Rattle.shapes.proofs.shape.rows_in_range.Statement.{statement}
+use Rattle.shapes.proofs.shape.rows_in_range.Tie as tie
 
 returns : tie.Need-returns
 returns c = sym (no-row _ (c .if1 .taken))

@@ -1,4 +1,4 @@
--- `codec::shape::shape_of` meets its contract. Assumes nothing.
+-- `shapes::shape::shape_of` meets its contract. Assumes nothing.
 use mathlib.Core.Path.{_≡_, refl, ap, _∙_}
 use Prim.Native.Nat.{_-_, _≤_}
 use native.Mathlib.Omega.{arith}
@@ -6,8 +6,8 @@ use lib.ListN.{length}
 use Rattle.lists.proofs.Copy.{copied, copied-more}
 use Rattle.lists.proofs.Zeros.{zeros}
 use Rattle.frame.proofs.ShapeTests.{shape-held}
-use Rattle.codec.proofs.shape.shape_of.Statement.{statement}
-use Rattle.codec.proofs.shape.shape_of.Tie as tie
+use Rattle.shapes.proofs.shape.shape_of.Statement.{statement}
+use Rattle.shapes.proofs.shape.shape_of.Tie as tie
 
 abbrev Inv-loop : tie.InvT-loop
 Inv-loop columns checks rows held₀ h₀ held h = (h ≤ rows) × (held ≡ copied held₀ checks h)

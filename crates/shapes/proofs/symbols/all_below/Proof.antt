@@ -1,4 +1,4 @@
--- `codec::symbols::all_below` meets its contract. Assumes nothing.
+-- `shapes::symbols::all_below` meets its contract. Assumes nothing.
 use mathlib.Core.Bool.{Bool}
 use mathlib.Core.List.{List}
 use mathlib.Core.Logic.{⊎-elim}
@@ -8,8 +8,8 @@ use lib.Dec.{ltb}
 use lib.ListN.{length, getD}
 use borrow.Author.Tests.{lt-ltb, le-ltb}
 use Rattle.lists.proofs.Testing.{Tested, tested-none, tested-pass, tested-fail, tested-all}
-use Rattle.codec.proofs.symbols.all_below.Statement.{statement}
-use Rattle.codec.proofs.symbols.all_below.Tie as tie
+use Rattle.shapes.proofs.symbols.all_below.Statement.{statement}
+use Rattle.shapes.proofs.symbols.all_below.Tie as tie
 
 -- whether cell k holds a symbol
 abbrev symbol : List ℕ → ℕ → Bool

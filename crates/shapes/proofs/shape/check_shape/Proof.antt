@@ -1,4 +1,4 @@
--- `codec::shape::check_shape` meets its contract. Assumes nothing.
+-- `shapes::shape::check_shape` meets its contract. Assumes nothing.
 use mathlib.Core.Path.{_≡_, refl, sym, _∙_}
 use mathlib.Core.Bool.{Bool, true, false, not, cond}
 use borrow.Author.Tests.{not-true, not-false}
@@ -6,8 +6,8 @@ use Rattle.frame.specs.Shape.{shapeTests}
 use Rattle.refusal.specs.Outcome.{outcome, passed, refused}
 use Rattle.frame.proofs.ShapeTests.{shape-outcome}
 use borrow.Author.Needs.{needs}
-use Rattle.codec.proofs.shape.check_shape.Statement.{statement}
-use Rattle.codec.proofs.shape.check_shape.Tie as tie
+use Rattle.shapes.proofs.shape.check_shape.Statement.{statement}
+use Rattle.shapes.proofs.shape.check_shape.Tie as tie
 
 -- the answer, once the check counts are tested
 by-checks : (c : tie.After-checks-in-range) (b : Bool) → c .checks-in-range .result ≡ b →
