@@ -5,7 +5,8 @@ use mathlib.Core.List.{List, [], _∷_}
 use Prim.Native.Nat.{ℕ, suc}
 use native.Mathlib.Omega.{arith}
 use Rattle.finder.specs.Finder as Finder
-use Rattle.finder.specs.Finder.{tests, answer}
+use Rattle.finder.specs.Finder.{answer}
+use Rattle.sequences.specs.Tests.{tests}
 use Rattle.frame.specs.Encode.{encodeTests}
 use Rattle.frame.specs.Frame.{frameTests}
 use Rattle.frame.specs.Shape.{shapeTests}
