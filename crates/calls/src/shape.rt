@@ -1,10 +1,10 @@
 // Giving a job its shape. Its arrays are neither read nor written.
 use crate::states::shaped;
-use shapes::shape::check_shape;
-use shapes::shape::shape_of;
 use job::Head;
 use job::Reshaped;
 use refusal::Checked;
+use shapes::shape::check_shape;
+use shapes::shape::shape_of;
 ghost use mathlib.Core.Path.{_≡_};
 ghost use Rattle.job.specs.Answers.{shapeOutcome};
 ghost use Rattle.job.specs.Calls.{shape, step};

@@ -1,9 +1,9 @@
 // Which heads are sound: those that calls leave are, and one that is not counts as empty.
-use shapes::shape::is_shape;
 use columns::Columns;
 use frame::Shape;
 use job::Head;
 use job::Phase;
+use shapes::shape::is_shape;
 ghost use mathlib.Core.Path.{_≡_};
 ghost use mathlib.Core.Bool.{true, not, _||_};
 ghost use lib.Dec.{ltb};

@@ -46,7 +46,7 @@ module _ (x : List ℕ) (j blocks : ℕ) where
       ∙ ap (λ (t : ℕ). t % 257) (total-ext blocks (λ b. (g b * weight a j) % 257) (λ b. term (16 * b + a) % 257) (λ b h. term-split a b))
       ∙ total-mod blocks 257 (λ b. term (16 * b + a))
 
-  pub folded-sum : length x ≤ 16 * blocks → checkSum 16 (folded blocks x j) j ≡ checkSum (length x) x j
+  folded-sum : length x ≤ 16 * blocks → checkSum 16 (folded blocks x j) j ≡ checkSum (length x) x j
   unfolding checkSum
   folded-sum le =
       sym (total-mod 16 257 (λ a. getD (folded blocks x j) a 0 * weight a j))

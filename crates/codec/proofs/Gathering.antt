@@ -43,10 +43,10 @@ module _ (x : List ℕ) (j : ℕ) where
 
   -- block b of the row is added, with its factor
   module _ (b : ℕ) (powers cells : List ℕ) (t : powers ≡ table) (e : cells ≡ tabulate 16 (gathered b x j)) (inside : 16 * b + 16 ≤ length x) where
-    abbrev pub block : List ℕ
+    abbrev block : List ℕ
     block = midOf (16 * b) (16 * b + 16 - 16 * b) x
 
-    abbrev pub factor : ℕ
+    abbrev factor : ℕ
     factor = getD powers ((16 * b * j) % 256) 0
 
     abbrev added : ℕ → ℕ

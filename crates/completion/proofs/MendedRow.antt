@@ -1,6 +1,6 @@
 -- A row mended at a set of columns is completed there: what is added takes its first check sums away, and no other row with the same cells outside the set
 -- has them 0. Assumes nothing.
-use mathlib.Core.Path.{_≡_, refl, sym, ap, ap₂, _∙_}
+use mathlib.Core.Path.{_≡_, sym, ap, ap₂, _∙_}
 use mathlib.Core.Logic.{_⊎_, inl, inr}
 use mathlib.Core.Bool.{Bool, true, false, cond}
 use mathlib.Core.List.{List, [], _∷_}
@@ -11,7 +11,7 @@ use native.Mathlib.Omega.{arith}
 use lib.Dec.{lit<}
 use lib.ListN.{length, getD, List·getD-eq-default}
 use Rattle.algebra.specs.Ring.{CRing}
-use Rattle.algebra.proofs.Solver.{:0, :1, _:+_, _:-_, :neg, _:=_, _:×_:≡_:⇒_, solve}
+use Rattle.algebra.proofs.Solver.{_:+_, _:-_, _:=_, solve}
 use Rattle.columns.specs.Columns.{has, members}
 use Rattle.columns.specs.declared.Columns.{Columns}
 use Rattle.columns.proofs.Listing.{by-test}
@@ -21,9 +21,10 @@ use Rattle.field.proofs.Prime257.{prime-257}
 use Rattle.lists.proofs.Totals.{total-ext}
 use Rattle.frame.specs.Completion.{completed}
 use Rattle.frame.specs.Frame.{checkSum, checkSums}
-use Rattle.frame.proofs.CheckSums.{checkSum-below, res-checkSum, rowSum, rowSum-sub}
-use Rattle.field257.proofs.Field257.{symbols, R257, res257, res-tells-zero}
-use Rattle.frame.proofs.ClosedForm.{symbolFor, symbols-sum}
+use Rattle.frame.proofs.CheckSums.{checkSum-below}
+use Rattle.field257.proofs.Field257.{symbols, R257, res257}
+use Rattle.frame.proofs.ClosedForm.{symbolFor}
+use Rattle.frame.proofs.SymbolsPut.{sums-gone}
 use Rattle.frame.proofs.CompletionLaws.{completed-only}
 use Rattle.field257.proofs.Members.{Below}
 use Rattle.lists.proofs.Joined.{tabulate-each}
@@ -85,37 +86,19 @@ module _ (J : Columns) (n N : ℕ) (sums x : List ℕ) (narrow : n ≤ 256) (who
 
   -- ---- in the field
 
-  put : ℕ → car
-  put i = symbols y i ⊕ neg (symbols x i)
-
-  put-outside : (i : ℕ) → has J i ≡ false → put i ≡ 𝟘
-  unfolding put
-  put-outside i t = ap (λ (c : ℕ). res257 c ⊕ neg (symbols x i)) (same (decLt i n)) ∙ add-neg (symbols x i)
+  same-outside : (i : ℕ) → has J i ≡ false → getD y i 0 ≡ getD x i 0
+  same-outside i t = pick (decLt i n)
     where
-      same : Dec (i < n) → getD y i 0 ≡ getD x i 0
-      same (yes l) = mended-kept i l t
-      same (no l) = getD-tabulate-past n _ i 0 (omega arith) ∙ sym (List·getD-eq-default x 0 {n = i} (omega arith))
+      pick : Dec (i < n) → getD y i 0 ≡ getD x i 0
+      pick (yes l) = mended-kept i l t
+      pick (no l) = getD-tabulate-past n _ i 0 (omega arith) ∙ sym (List·getD-eq-default x 0 {n = i} (omega arith))
 
-  put-inside : (i : ℕ) → has J i ≡ true → put i ≡ res257 (symbol i)
-  unfolding put
+  put-inside : (i : ℕ) → has J i ≡ true → symbols y i ⊕ neg (symbols x i) ≡ res257 (symbol i)
   put-inside i t =
       ap (λ (c : ℕ). res257 c ⊕ neg (symbols x i)) (cell-mended i (below i t) ∙ ap (chosen i) t)
       ∙ ap (λ c. c ⊕ neg (symbols x i)) (res-mod 257 prime-257 _ ∙ res-add 257 prime-257 (getD x i 0) (symbol i))
       ∙ solve R257 (symbols x i ∷ res257 (symbol i) ∷ []) (λ a b. a :+ b :- a := b) tt
 
-  sums-gone : (j : ℕ) → j < m → checkSum n y (suc j) ≡ 0
-  unfolding put
-  sums-gone j l = pick m refl l
-    where
-      pick : (k : ℕ) → m ≡ k → j < k → checkSum n y (suc j) ≡ 0
-      pick zero e b = absurd (let z : ⊥ = omega arith in z)
-      pick (suc d) e b =
-          res-tells-zero _ (checkSum-below n y (suc j))
-          (res-checkSum n y j
-          ∙ solve R257 (rowSum n (symbols y) j ∷ rowSum n (symbols x) j ∷ rowSum n put j ∷ [])
-          (λ c a p. :neg :1 :× p :≡ c :- a :⇒ :1 :× p :≡ :neg a :⇒ c := :0) tt
-          (rowSum-sub n (symbols y) (symbols x) j)
-          (symbols-sum J (checkSum n x) d e n narrow below put put-outside put-inside j b ∙ ap neg (res-checkSum n x j)))
-
   pub mended-completed : mendedRow J n sums x ≡ completed n J x
-  mended-completed = completed-only n J x narrow below y (length-tabulate n _) mended-below mended-kept sums-gone
+  mended-completed = completed-only n J x narrow below y (length-tabulate n _) mended-below mended-kept
+      (sums-gone n J narrow below x y same-outside put-inside)

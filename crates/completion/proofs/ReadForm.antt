@@ -40,7 +40,9 @@ factored m c f s =
     ∙ sym (mod-mul-mod (total m (λ k. f k * s k)) 257 c)
   where
     at : (k : ℕ) → (times 257 (f k) c * s k) % 257 ≡ (f k * s k * c) % 257
-    at k = mod-mul-mod (f k * c) 257 (s k) ∙ ap (λ (t : ℕ). t % 257) (mul-assoc (f k) c (s k) ∙ ap (λ (t : ℕ). f k * t) (mul-comm c (s k)) ∙ sym (mul-assoc (f k) (s k) c))
+    at k =
+        mod-mul-mod (f k * c) 257 (s k)
+        ∙ ap (λ (t : ℕ). t % 257) (mul-assoc (f k) c (s k) ∙ ap (λ (t : ℕ). f k * t) (mul-comm c (s k)) ∙ sym (mul-assoc (f k) (s k) c))
 
 pub symbol-form : (J : Columns) (s : ℕ → ℕ) (i : ℕ)
     → (let m = length (members J) in total m (λ k. coefficient J i k * s (m - k)) % 257) ≡ symbolFor J s (length (members J)) i

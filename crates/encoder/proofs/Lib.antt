@@ -1,2 +1,3 @@
 pub mod DivisionSteps
 pub mod GeneratorBuilding
+pub mod GeneratorOnly

@@ -1,11 +1,11 @@
 // Frames encoded: their sizes and data cells tested, and their rows encoded one after the other.
 use crate::division::encode_row;
 use crate::generator::generator;
-use shapes::symbols::data_below;
 use field257::powers::wide;
 use frame::Shape;
 use refusal::Checked;
 use refusal::Refusal;
+use shapes::symbols::data_below;
 ghost use mathlib.Core.Path.{_≡_};
 ghost use mathlib.Core.Bool.{true};
 ghost use Prim.Native.Nat.{_*_, _≤_};

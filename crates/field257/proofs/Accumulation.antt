@@ -34,14 +34,15 @@ four-terms : (f : ℕ → ℕ) (i : ℕ) → total (i + 4) f ≡ total i f + f i
 four-terms f i =
     next (i + 4) (i + 3) (omega arith)
     ∙ ap (λ (k : ℕ). k + f (i + 3))
-    (next (i + 3) (i + 2) (omega arith) ∙ ap (λ (k : ℕ). k + f (i + 2)) (next (i + 2) (i + 1) (omega arith) ∙ ap (λ (k : ℕ). k + f (i + 1)) (next (i + 1) i (omega arith))))
+    (next (i + 3) (i + 2) (omega arith)
+    ∙ ap (λ (k : ℕ). k + f (i + 2)) (next (i + 2) (i + 1) (omega arith) ∙ ap (λ (k : ℕ). k + f (i + 1)) (next (i + 1) i (omega arith))))
   where
     next : (n k : ℕ) → n ≡ suc k → total n f ≡ total k f + f k
     next n k e = ap (λ (m : ℕ). total m f) e ∙ total-suc k f
 
 module _ (x : List ℕ) (j : ℕ) where
   -- what coefficient k adds to the value at 3^j
-  abbrev pub term : ℕ → ℕ
+  abbrev term : ℕ → ℕ
   term k = getD x k 0 * powerOf3 j ^ k
 
   -- an entry of the table is a power of the point
@@ -85,7 +86,7 @@ module _ (x : List ℕ) (j : ℕ) where
     }
 
     -- four coefficients more
-    pub more-four : (part r : ℕ) → i + 4 ≤ length x
+    more-four : (part r : ℕ) → i + 4 ≤ length x
         → (let y = powerOf3 j in part ≡ getD x i 0 + y * (getD x (i + 1) 0 + y * (getD x (i + 2) 0 + y * getD x (i + 3) 0)))
         → part ≤ 4398046511104 → r ≡ part * getD powers e 0 → Accumulated (i + 4) ((e + 4 * j) % 256) (t + r)
     more-four part r h q small p = record {

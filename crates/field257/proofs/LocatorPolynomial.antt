@@ -65,7 +65,8 @@ locator-coefficients (i ∷ is) k = pick (fun-ext (locator-coefficients is)) (de
         → symbols (locatorPolynomial (i ∷ is)) k ≡ locator R257 (map locatorAt (i ∷ is)) k
     pick ih (yes h) = factor-entry i (length f) f k h ∙ ap (λ g. factor R257 (locatorAt i) g k) ih
     pick ih (no past) =
-        ap res257 (List·getD-eq-default (locatorPolynomial (i ∷ is)) 0 {n = k} (let e = length-locatorPolynomial (i ∷ is) in let q = length-locatorPolynomial is in omega arith))
+        ap res257 (List·getD-eq-default (locatorPolynomial (i ∷ is)) 0 {n = k}
+        (let e = length-locatorPolynomial (i ∷ is) in let q = length-locatorPolynomial is in omega arith))
         ∙ res-zero 257 prime-257
         ∙ sym (locator-degree R257 (map locatorAt (i ∷ is)) k (let e = length-map (i ∷ is) locatorAt in let q = length-locatorPolynomial is in omega arith))
 

@@ -32,12 +32,12 @@ never-one : every 255 (λ i. not (eqb (powerOf3 (suc i)) 1)) ≡ true
 unfolding every
 never-one = refl
 
-pub full-round : powerOf3 256 ≡ 1
+full-round : powerOf3 256 ≡ 1
 full-round = refl
 
 -- ---- what they say
 
-pub locator-round : locatorAt 256 ≡ 𝟙
+locator-round : locatorAt 256 ≡ 𝟙
 locator-round = sym (res-pow 257 prime-257 3 256) ∙ res-same 257 prime-257 (3 ^ 256) 1 .1 full-round ∙ res-one 257 prime-257
 
 pub locator-nonzero : (i : ℕ) → locatorAt i ≢ 𝟘
@@ -70,7 +70,7 @@ locators-distinct i j hi hj e = pick (decLt i j)
         omega arith
 
 -- exponents may be taken modulo 256
-pub locator-mod : (e : ℕ) → locatorAt e ≡ locatorAt (e % 256)
+locator-mod : (e : ℕ) → locatorAt e ≡ locatorAt (e % 256)
 locator-mod e =
     ap locatorAt (sym (mod-add-div e 256)) ∙ pow-add R257 (res257 3) (e % 256) (256 * (e / 256))
     ∙ ap (λ x. locatorAt (e % 256) ⊗ x) (pow-pow R257 (res257 3) 256 (e / 256) ∙ ap (λ x. pow R257 x (e / 256)) locator-round ∙ pow-one R257 (e / 256))
@@ -82,7 +82,7 @@ power-mod e =
     (res-pow 257 prime-257 3 e ∙ locator-mod e ∙ sym (res-pow 257 prime-257 3 (e % 256)))
 
 -- the inverse of a locator is a power of 3
-pub locator-inverse : (i : ℕ) → i ≤ 256 → inv (locatorAt i) ≡ locatorAt (256 - i)
+locator-inverse : (i : ℕ) → i ≤ 256 → inv (locatorAt i) ≡ locatorAt (256 - i)
 locator-inverse i h =
     sym (inverse-unique F257 (locatorAt i) (locatorAt (256 - i))
     (sym (pow-add R257 (res257 3) i (256 - i)) ∙ ap locatorAt (let q : i + (256 - i) ≡ 256 = omega arith in q) ∙ locator-round))

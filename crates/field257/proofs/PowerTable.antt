@@ -3,9 +3,9 @@ use mathlib.Core.Path.{_≡_, refl, sym, ap, _∙_}
 use Prim.Native.Nat.{ℕ, zero, suc, _*_, _%_, _^_, _≤_, _<_}
 use native.Mathlib.Nat.{mul-comm, pow-suc}
 use native.Mathlib.Omega.{arith}
-use lib.ListN.{length, getD}
+use lib.ListN.{getD}
 use Rattle.field.proofs.Remainders.{mul-mod-mod}
-use Rattle.lists.proofs.Tabulated.{getD-tabulate, length-tabulate}
+use Rattle.lists.proofs.Tabulated.{getD-tabulate}
 use Rattle.field257.specs.Powers.{powerOf3}
 use Rattle.field257.specs.Table.{entryOf, table}
 
@@ -19,10 +19,6 @@ entry-power (suc k) =
 pub table-power : (k : ℕ) → k < 256 → getD table k 0 ≡ powerOf3 k
 unfolding table
 table-power k h = getD-tabulate 256 entryOf k 0 h ∙ entry-power k
-
-pub length-table : length table ≡ 256
-unfolding table
-length-table = length-tabulate 256 entryOf
 
 pub table-small : (k : ℕ) → k < 256 → getD table k 0 ≤ 256
 table-small k h = let e = table-power k h in omega arith

@@ -33,7 +33,8 @@ module _ (F : Field) (n : ℕ) (X : ℕ → F .ring .car) (distinct : Distinct (
       pick (inl mem) =
           ap e (sym (listed-at i n P h mem))
           ∙ weights-unique F (count n P) (λ k. X (getD (listed n P) k 0))
-          (λ k l hk hl q. sym (entry n P k hk .place) ∙ ap (λ (c : ℕ). count c P) (distinct _ _ (entry n P k hk .below) (entry n P l hl .below) q) ∙ entry n P l hl .place)
+          (λ k l hk hl q.
+          sym (entry n P k hk .place) ∙ ap (λ (c : ℕ). count c P) (distinct _ _ (entry n P k hk .below) (entry n P l hl .below) q) ∙ entry n P l hl .place)
           (λ k hk. nonzero _ (entry n P k hk .below)) b (λ k. e (getD (listed n P) k 0))
           (λ j l. sym (sum-listed R n P (λ i. e i ⊗ pow R (X i) (b + j)) (λ k g out. ap (λ x. x ⊗ pow R (X k) (b + j)) (z k g out) ∙ zero-mul R _)) ∙ sums j l)
           (count i P) (count-lt i n P h mem)

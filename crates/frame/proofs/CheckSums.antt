@@ -51,11 +51,6 @@ res-checkSum n x j =
     res-mod 257 prime-257 _ ∙ res-total 257 prime-257 n (λ i. getD x i 0 * weight i (suc j))
     ∙ sum-ext R257 n _ _ (λ i _. res-mul 257 prime-257 (getD x i 0) (weight i (suc j)) ∙ ap (λ w. symbols x i ⊗ w) (res-weight i j))
 
--- rows with the same symbols have the same check sums
-pub checkSum-ext : (n : ℕ) (x y : List ℕ) (j : ℕ) → ((i : ℕ) → i < n → getD x i 0 ≡ getD y i 0) → checkSum n x j ≡ checkSum n y j
-unfolding checkSum
-checkSum-ext n x y j e = ap (λ (t : ℕ). t % 257) (total-ext n _ _ (λ i h. ap (λ (s : ℕ). s * weight i j) (e i h)))
-
 pub rowSum-sub : (n : ℕ) (c d : ℕ → car) (j : ℕ) → rowSum n (λ i. c i ⊕ neg (d i)) j ≡ rowSum n c j ⊕ neg (rowSum n d j)
 rowSum-sub n c d j =
     sum-ext R257 n _ (λ i. c i ⊗ weightAt i j ⊕ neg (d i ⊗ weightAt i j)) (λ i _.

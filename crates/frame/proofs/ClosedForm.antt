@@ -1,5 +1,5 @@
 -- The symbols at a set of columns in closed form, for any check sums: put into the columns, they take these sums away. Neither the start of the exponents
--- nor `weight` plays a part: see `Locators.res-weight`. Assumes nothing.
+-- nor `weight` plays a part: see `Weights.res-weight`.
 use mathlib.Core.Path.{_≡_, sym, ap, ap₂, fun-ext, _∙_}
 use mathlib.Core.Bool.{true, false}
 use mathlib.Core.List.{List, map}
@@ -99,7 +99,8 @@ module _ (J : Columns) (s : ℕ → ℕ) where
         ap (λ a. a ⊗ weightAt (member J k) j) (inside (member J k) (member-has J k (rw sized l)) ∙ res-symbol k l)
         ∙ neg-mul R257 (w k) (weightAt (member J k) j))
         ∙ sum-neg R257 (suc d) (λ k. w k ⊗ weightAt (member J k) j)
-        ∙ ap neg (completion-solves F257 d (λ k. locatorAt (member J k)) (rw sized at (member-locators-distinct J)) (rw sized at (member-locators-nonzero J)) (λ k. map locatorAt (others J k)) (members-others J d sized) firstExponent given j h)
+        ∙ ap neg (completion-solves F257 d (λ k. locatorAt (member J k)) (rw sized at (member-locators-distinct J)) (rw sized at (member-locators-nonzero J))
+        (λ k. map locatorAt (others J k)) (members-others J d sized) firstExponent given j h)
       where
         w : ℕ → car
         w k = weight-of F257 d firstExponent (locatorAt (member J k)) (map locatorAt (others J k)) given

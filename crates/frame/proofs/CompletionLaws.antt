@@ -1,7 +1,7 @@
 -- Completing a row at a set of columns: the row keeps its length and its symbols outside the set, gets symbols below 257 in it, and its first check sums, as
 -- many as the set has columns, are 0; no other row has all this.
 -- Assumes nothing.
-use mathlib.Core.Path.{_≡_, refl, sym, ap, ap₂, _∙_}
+use mathlib.Core.Path.{_≡_, sym, ap, ap₂, _∙_}
 use mathlib.Core.Logic.{_⊎_, inl, inr}
 use mathlib.Core.Bool.{true, false}
 use mathlib.Core.List.{List, [], _∷_}
@@ -12,16 +12,16 @@ use native.Mathlib.Omega.{arith}
 use lib.Dec.{lit<}
 use lib.ListN.{length, getD}
 use Rattle.algebra.specs.Ring.{CRing}
-use Rattle.algebra.proofs.Solver.{:0, :1, _:-_, :neg, _:=_, _:×_:≡_:⇒_, solve}
+use Rattle.algebra.proofs.Solver.{:0, _:-_, _:=_, solve}
 use Rattle.columns.specs.Columns.{has}
 use Rattle.columns.specs.declared.Columns.{Columns}
 use Rattle.columns.proofs.Listing.{by-test}
 use Rattle.field.proofs.Bridge.{res-zero}
 use Rattle.field.proofs.Prime257.{prime-257}
 use Rattle.lists.proofs.Tabulated.{length-tabulate, getD-tabulate, getD-tabulate-past}
-use Rattle.frame.proofs.CheckSums.{rowSum, checkSum-below, res-checkSum, rowSum-sub, same-row}
-use Rattle.field257.proofs.Field257.{symbols, R257, res257, res-tells-zero}
-use Rattle.frame.proofs.ClosedForm.{symbols-sum}
+use Rattle.frame.proofs.CheckSums.{same-row}
+use Rattle.field257.proofs.Field257.{symbols, R257, res257}
+use Rattle.frame.proofs.SymbolsPut.{sums-gone}
 use Rattle.field257.proofs.Members.{size, Below}
 use Rattle.frame.specs.Completion.{cleared, completion, completed}
 use Rattle.frame.specs.Frame.{checkSum}
@@ -62,46 +62,24 @@ module _ (n : ℕ) (J : Columns) (x : List ℕ) where
 
   -- ---- in the field
 
-  -- check sum j + 1 of the row without the columns of the set
-  abbrev kept : ℕ → car
-  kept j = rowSum n (symbols (cleared n J x)) j
-
-  -- what completing puts into the columns of the set
-  abbrev put : ℕ → car
-  put i = symbols (completed n J x) i ⊕ neg (symbols (cleared n J x) i)
-
-  put-outside : (i : ℕ) → has J i ≡ false → put i ≡ 𝟘
+  same-outside : (i : ℕ) → has J i ≡ false → getD (completed n J x) i 0 ≡ getD (cleared n J x) i 0
   unfolding completed cleared
-  put-outside i f = ap (λ y. res257 y ⊕ neg (symbols (cleared n J x) i)) (same (decLt i n)) ∙ add-neg (symbols (cleared n J x) i)
+  same-outside i f = pick (decLt i n)
     where
-      same : Dec (i < n) → getD (completed n J x) i 0 ≡ getD (cleared n J x) i 0
-      same (yes h) = completed-kept i h f ∙ sym (cleared-kept i h f)
-      same (no h) = getD-tabulate-past n _ i 0 (omega arith) ∙ sym (getD-tabulate-past n _ i 0 (omega arith))
+      pick : Dec (i < n) → getD (completed n J x) i 0 ≡ getD (cleared n J x) i 0
+      pick (yes h) = completed-kept i h f ∙ sym (cleared-kept i h f)
+      pick (no h) = getD-tabulate-past n _ i 0 (omega arith) ∙ sym (getD-tabulate-past n _ i 0 (omega arith))
 
-  put-inside : (i : ℕ) → i < n → has J i ≡ true → put i ≡ res257 (completion n J x i)
+  put-inside : (i : ℕ) → i < n → has J i ≡ true → symbols (completed n J x) i ⊕ neg (symbols (cleared n J x) i) ≡ res257 (completion n J x i)
   put-inside i h t =
       ap₂ (λ a b. res257 a ⊕ neg (res257 b)) (completed-filled i h t) (cleared-empty i h t)
       ∙ ap (λ z. res257 (completion n J x i) ⊕ neg z) (res-zero 257 prime-257)
       ∙ solve R257 (res257 (completion n J x i) ∷ []) (λ a. a :- :0 := a) tt
 
   module _ (narrow : n ≤ 256) (below : Below n J) where
-    put-sum : (d : ℕ) → size J ≡ suc d → (j : ℕ) → j < suc d → rowSum n put j ≡ neg (kept j)
-    unfolding completion
-    put-sum d sized j h =
-        symbols-sum J (checkSum n (cleared n J x)) d sized n narrow below put put-outside (λ i t. put-inside i (below i t) t) j h
-        ∙ ap neg (res-checkSum n (cleared n J x) j)
-
     pub completed-sums : (j : ℕ) → j < size J → checkSum n (completed n J x) (suc j) ≡ 0
-    completed-sums j h = pick (size J) refl h
-      where
-        pick : (m : ℕ) → size J ≡ m → j < m → checkSum n (completed n J x) (suc j) ≡ 0
-        pick zero e l = absurd (let z : ⊥ = omega arith in z)
-        pick (suc d) e l =
-            res-tells-zero _ (checkSum-below n (completed n J x) (suc j))
-            (res-checkSum n (completed n J x) j
-            ∙ solve R257 (rowSum n (symbols (completed n J x)) j ∷ kept j ∷ rowSum n put j ∷ [])
-            (λ c s p. :neg :1 :× p :≡ c :- s :⇒ :1 :× p :≡ :neg s :⇒ c := :0) tt
-            (rowSum-sub n (symbols (completed n J x)) (symbols (cleared n J x)) j) (put-sum d e j l))
+    unfolding completion
+    completed-sums = sums-gone n J narrow below (cleared n J x) (completed n J x) same-outside (λ i t. put-inside i (below i t) t)
 
     -- the only row with these symbols outside the set whose first check sums are 0
     pub completed-only : (y : List ℕ) → length y ≡ n → ((i : ℕ) → i < n → getD y i 0 < 257) → ((i : ℕ) → i < n → has J i ≡ false → getD y i 0 ≡ getD x i 0)

@@ -79,7 +79,8 @@ module _ (s : Shape) (f : List ℕ) (ranges : Ranges s) (whole : length f ≡ s 
         sym (completedFrame-kept (s .columns) (s .rows) checkColumns f whole h i r c (has-not-first (checksOf s h) i (let b = narrow in omega arith) d));
     only = λ g legal same.
         completedFrame-only (s .columns) (s .rows) checkColumns f whole narrow checks-below g (legal .well-formed .size)
-        (λ h i r c. legal .well-formed .symbols (h * s .columns + i) (let e = legal .well-formed .size in let p = cell-place (s .columns) (s .rows) h i r c in omega arith))
+        (λ h i r c. legal .well-formed .symbols (h * s .columns + i)
+        (let e = legal .well-formed .size in let p = cell-place (s .columns) (s .rows) h i r c in omega arith))
         (λ h i r c e. sym (same h i r (not-check h i c e) c))
         (λ h j r l. legal .codeword h (suc j) r (omega arith) (let e = size-checks h r in omega arith));
   }

@@ -44,7 +44,7 @@ module _ (s : Shape) (f : List ℕ) where
     abbrev to : ℕ
     to = at + checksOf s h
 
-    abbrev pub place-of-row : List ℕ
+    abbrev place-of-row : List ℕ
     place-of-row = midOf (h * s .columns) (h * s .columns + s .columns - h * s .columns) f
 
     ends : to ≤ 512

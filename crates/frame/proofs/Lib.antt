@@ -24,5 +24,6 @@ pub mod RowsChanged
 pub mod RowsCompleted
 pub mod ShapeTests
 pub mod Shapes
+pub mod SymbolsPut
 pub mod WeighedSums
 pub mod Weights

@@ -3,14 +3,16 @@
 -- Assumes nothing.
 use mathlib.Core.Path.{_≡_, refl, sym, ap, subst, _∙_}
 use mathlib.Core.Logic.{_≢_}
-use mathlib.Core.List.{List, _++_}
+use mathlib.Core.List.{List}
 use Prim.Native.Nat.{ℕ, zero, suc, _+_, _-_, _*_, _/_, _%_, _≤_, _<_}
 use native.Mathlib.Nat.{suc-mul, mul-le-mul-right, mod-lt, div-add-mod', div-lt-iff-lt-mul, mul-zero, not-suc-le-zero}
 use native.Mathlib.Decide.{decLt, ℕ-discrete}
 use native.Mathlib.Omega.{arith}
-use lib.ListN.{length, getD, take, drop, length-append, length-drop, List·getD-append}
-use lib.Seq.{length-take-le, getD-take, getD-drop, getD-append-add, ext-getD}
+use borrow.Rule.Slice.PartMut.{same-len-mid}
+use lib.ListN.{length, getD, drop, length-drop}
+use lib.Seq.{length-take-le, ext-getD}
 use Rattle.lists.proofs.Entries.{getD-part}
+use Rattle.lists.proofs.Parts.{replaced-before, replaced-in, replaced-after}
 use Rattle.frame.specs.Encode.{withRow, eachRow}
 use Rattle.frame.specs.Frame.{row, cell}
 
@@ -32,7 +34,7 @@ pub length-row : (n : ℕ) (f : List ℕ) (h : ℕ) → h * n + n ≤ length f �
 length-row n f h l = length-take-le n (drop (h * n) f) (let e = length-drop (h * n) f in omega arith)
 
 -- rows with the same cells
-pub same-rows : (n : ℕ) (f g : List ℕ) (h : ℕ) → h * n + n ≤ length f → h * n + n ≤ length g
+same-rows : (n : ℕ) (f g : List ℕ) (h : ℕ) → h * n + n ≤ length f → h * n + n ≤ length g
     → ((i : ℕ) → i < n → cell n f h i ≡ cell n g h i) → row n f h ≡ row n g h
 same-rows n f g h lf lg e =
     ext-getD 0 (row n f h) (row n g h) (length-row n f h lf ∙ sym (length-row n g h lg)) (λ i l.
@@ -42,50 +44,24 @@ same-rows n f g h lf lg e =
 -- ---- another row in the place of one
 
 module _ (n : ℕ) (f : List ℕ) (h : ℕ) (x : List ℕ) (inside : h * n + n ≤ length f) (fits : length x ≡ n) where
-  front : length (take (h * n) f) ≡ h * n
-  front = length-take-le (h * n) f (omega arith)
+  length-withRow : length (withRow n f h x) ≡ length f
+  length-withRow = same-len-mid (h * n) n f x (fits ∙ sym (length-row n f h inside))
 
-  pub length-withRow : length (withRow n f h x) ≡ length f
-  length-withRow =
-      let a = length-append (take (h * n) f) (x ++ drop n (drop (h * n) f)) in
-      let b = length-append x (drop n (drop (h * n) f)) in
-      let c = length-drop n (drop (h * n) f) in
-      let d = length-drop (h * n) f in
-      let e = front in
-      omega arith
-
-  entry-in : (i : ℕ) → i < n → getD (withRow n f h x) (h * n + i) 0 ≡ getD x i 0
-  entry-in i l =
-      ap (λ (m : ℕ). getD (withRow n f h x) (m + i) 0) (sym front)
-      ∙ getD-append-add (take (h * n) f) (x ++ drop n (drop (h * n) f)) i 0 ∙ List·getD-append x _ 0 i (omega arith)
-
-  entry-before : (k : ℕ) → k < h * n → getD (withRow n f h x) k 0 ≡ getD f k 0
-  entry-before k l = List·getD-append (take (h * n) f) _ 0 k (let e = front in omega arith) ∙ getD-take (h * n) f k 0 l
-
-  entry-after : (k : ℕ) → h * n + n ≤ k → getD (withRow n f h x) k 0 ≡ getD f k 0
-  entry-after k l =
-      let p : k ≡ length (take (h * n) f) + (length x + (k - h * n - n)) = let e = front in omega arith in
-      let q : h * n + (n + (k - h * n - n)) ≡ k = omega arith in
-      ap (λ (m : ℕ). getD (withRow n f h x) m 0) p
-      ∙ getD-append-add (take (h * n) f) (x ++ drop n (drop (h * n) f)) (length x + (k - h * n - n)) 0
-      ∙ getD-append-add x (drop n (drop (h * n) f)) (k - h * n - n) 0 ∙ getD-drop n (drop (h * n) f) (k - h * n - n) 0
-      ∙ getD-drop (h * n) f (n + (k - h * n - n)) 0 ∙ ap (λ (m : ℕ). getD f m 0) q
-
-  pub withRow-row : row n (withRow n f h x) h ≡ x
+  withRow-row : row n (withRow n f h x) h ≡ x
   withRow-row =
       let long : h * n + n ≤ length (withRow n f h x) = let e = length-withRow in omega arith in
       ext-getD 0 (row n (withRow n f h x) h) x (length-row n (withRow n f h x) h long ∙ sym fits) (λ i l.
       let b : i < n = let q = length-row n (withRow n f h x) h long in omega arith in
-      row-cell n (withRow n f h x) h i b ∙ entry-in i b)
+      row-cell n (withRow n f h x) h i b ∙ replaced-in (h * n) n f x inside fits 0 i b)
 
-  pub withRow-cell : (k i : ℕ) → k ≢ h → i < n → cell n (withRow n f h x) k i ≡ cell n f k i
+  withRow-cell : (k i : ℕ) → k ≢ h → i < n → cell n (withRow n f h x) k i ≡ cell n f k i
   withRow-cell k i other l = pick (decLt k h)
     where
       pick : Dec (k < h) → cell n (withRow n f h x) k i ≡ cell n f k i
-      pick (yes b) = entry-before (k * n + i) (let e = row-end n k h b in omega arith)
-      pick (no b) = entry-after (k * n + i) (let e = row-end n h k (omega arith) in omega arith)
+      pick (yes b) = replaced-before (h * n) n f x inside fits 0 (k * n + i) (let e = row-end n k h b in omega arith)
+      pick (no b) = replaced-after (h * n) n f x inside fits 0 (k * n + i) (let e = row-end n h k (omega arith) in omega arith)
 
-  pub withRow-other : (k : ℕ) → k ≢ h → k * n + n ≤ length f → row n (withRow n f h x) k ≡ row n f k
+  withRow-other : (k : ℕ) → k ≢ h → k * n + n ≤ length f → row n (withRow n f h x) k ≡ row n f k
   withRow-other k other l =
       same-rows n (withRow n f h x) f k (let e = length-withRow in omega arith) l (λ i b. withRow-cell k i other b)
 

@@ -92,7 +92,8 @@ shape-held n checks held few e =
     let shape : List ℕ → Shape = λ l. record { rows = length checks; columns = n; checks = l } in
     ap shape
     (e ∙ ap₂ _++_ (take-length checks)
-    (ap (λ (m : ℕ). drop (length checks) (zeros m)) (let q : 8 ≡ length checks + (8 - length checks) = omega arith in q) ∙ drop-zeros (length checks) (8 - length checks)))
+    (ap (λ (m : ℕ). drop (length checks) (zeros m)) (let q : 8 ≡ length checks + (8 - length checks) = omega arith in q)
+    ∙ drop-zeros (length checks) (8 - length checks)))
 
 -- ---- the outcome
 

@@ -17,7 +17,8 @@ refilled : (c : tie.After-cells3) →
 refilled c =
     let divided = c .before .before .before in
     let made = divided .before .before in
-    omega (arith, same-len-mid 0 (length (made .before .before .before .before .args .row .now) - 0) (made .data-cells .result) (divided .divide .last .0) (divided .divide .kept .0))
+    let start = made .before .before .before .before in
+    omega (arith, same-len-mid 0 (length (start .args .row .now) - 0) (made .data-cells .result) (divided .divide .last .0) (divided .divide .kept .0))
 
 data-cells-requires : tie.Need-data-cells-requires
 data-cells-requires c κs = search needs
@@ -61,7 +62,8 @@ returns c =
     let divided = lent .before .before .before in
     let made = divided .before .before in
     let start = made .before .before .before .before in
-    completed-by-remainder (start .args .m) (start .args .row .now) (made .data-cells .result) (start .pre .1) (start .pre .2) (omega arith) (made .data-cells .ensures) (divided .divide .last .0) _ (divided .divide .kept .0)
+    completed-by-remainder (start .args .m) (start .args .row .now) (made .data-cells .result) (start .pre .1) (start .pre .2) (omega arith)
+    (made .data-cells .ensures) (divided .divide .last .0) _ (divided .divide .kept .0)
     (c .before .before .put-negatives .ensures) (start .pre .3) (divided .divide .ensures)
 
 pub encode-row-spec : {M : Type 1} → statement M

@@ -98,7 +98,8 @@ encode-row-requires c κs =
       c .before .before .generator-for .ensures,
       omega (arith, size, count),
       omega (arith, size),
-      (λ i le l. row-small (start .args .t1) _ (start .pre .2) _ (inside .loop-test .taken) _ _ (at .loop .inv .0) (p .inside) i (omega (arith, count)) (omega (arith, size))),
+      (λ i le l. row-small (start .args .t1) _ (start .pre .2) _ (inside .loop-test .taken) _ _ (at .loop .inv .0) (p .inside) i
+          (omega (arith, count)) (omega (arith, size))),
     )
 
 add-h : tie.Need-add-h Inv-loop μ-loop

@@ -84,7 +84,8 @@ loop-again c =
       d + 1,
       omega arith,
       walk-next set d (at .loop .i) walk (c .next2 .result) taken (c .next2 .ensures),
-      building-more set d (at .loop .f) building (at .loop .i) (at .loop .e + 1) (c .before .before .multiply .last .0) (at .before .before .pre .1) less here (omega arith)
+      building-more set d (at .loop .f) building (at .loop .i) (at .loop .e + 1) (c .before .before .multiply .last .0)
+          (at .before .before .pre .1) less here (omega arith)
           (c .before .before .multiply .ensures ∙ ap (λ (x : ℕ). reduced 257 (length front - 1) front x 1 front) (entered .entry .ensures)),
     )
 

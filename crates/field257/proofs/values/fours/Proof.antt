@@ -100,7 +100,8 @@ grown c =
     let made = at .before in
     let start = made .before .before .before in
     let part = c .before .before .cubic in
-    more-block (start .args .f .now) (start .args .step) (at .loop .b) (at .loop .place) (at .loop .total) (at .loop .inv) (start .args .powers .now) (start .pre .0)
+    more-block (start .args .f .now) (start .args .step) (at .loop .b) (at .loop .place) (at .loop .total) (at .loop .inv)
+    (start .args .powers .now) (start .pre .0)
     (made .long .result) (part .result) (c .long2 .result) (inside .loop-test .taken) (point made) (part .ensures .0) (part .ensures .1) (c .long2 .ensures)
 
 -- the part of the block times the power looked up

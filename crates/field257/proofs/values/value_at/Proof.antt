@@ -24,7 +24,8 @@ mul-place : tie.Need-mul-place Inv-loop μ-loop
 mul-place c =
     let n = c .before .before .pre .1 in
     let r : c .before .before .args .e % 256 < 256 = mod-lt _ (omega arith) in
-    let m = mul-le-mul (let k : 4 * (length (c .before .before .args .f .now) / 4) ≤ 256 = omega arith in k) (let s : c .before .before .args .e % 256 ≤ 256 = omega arith in s) in
+    let m = mul-le-mul (let k : 4 * (length (c .before .before .args .f .now) / 4) ≤ 256 = omega arith in k)
+    (let s : c .before .before .args .e % 256 ≤ 256 = omega arith in s) in
     record { fits = omega arith }
 
 loop-holds : tie.Need-loop-holds Inv-loop μ-loop

@@ -61,7 +61,8 @@ loop-again c =
     let start = at .before .before in (
       omega arith,
       below-more (λ k. countTest (start .args .columns) (getD (start .args .checks .now) k 0) ≡ true) (at .loop .h) (at .loop .inv .1)
-          (ap (countTest (start .args .columns)) (sym (read .wide .ensures .0)) ∙ count-taken _ _ (c .before .before .if1 .left) (c .before .if2 .left) (c .if3 .left)),
+          (ap (countTest (start .args .columns)) (sym (read .wide .ensures .0))
+          ∙ count-taken _ _ (c .before .before .if1 .left) (c .before .if2 .left) (c .if3 .left)),
     )
 
 returns-4 : tie.Need-returns-4 Inv-loop μ-loop

@@ -43,8 +43,10 @@ loop-again c =
     let cells = at .before .args .cells .now in
     let here : ℕ = getD cells (at .loop .k) 0 in
     ⊎-elim
-    (λ w. tested-fail _ (symbol cells) (at .loop .k) (at .loop .all) (at .loop .inv) (inside .loop-test .taken) (c .if1 .all) (w .1) (le-ltb here 257 (w .0 .taken)))
-    (λ w. tested-pass _ (symbol cells) (at .loop .k) (at .loop .all) (at .loop .inv) (inside .loop-test .taken) (c .if1 .all) (w .1) (lt-ltb here 257 (let l = w .0 .left in omega arith)))
+    (λ w. tested-fail _ (symbol cells) (at .loop .k) (at .loop .all) (at .loop .inv) (inside .loop-test .taken) (c .if1 .all) (w .1)
+    (le-ltb here 257 (w .0 .taken)))
+    (λ w. tested-pass _ (symbol cells) (at .loop .k) (at .loop .all) (at .loop .inv) (inside .loop-test .taken) (c .if1 .all) (w .1)
+    (lt-ltb here 257 (let l = w .0 .left in omega arith)))
     (c .if1 .came)
 
 returns : tie.Need-returns Inv-loop μ-loop

@@ -89,8 +89,11 @@ loop-less c = omega arith
 loop-again : tie.Need-loop-again Inv-loop μ-loop
 loop-again c =
     let at = c .before .before .before .before .before .before in
-    let start = at .before .before in
-    (omega arith, below-more (λ k. rowTest (start .args .t1) (start .args .frame .now) k ≡ true) (at .loop .h) (at .loop .inv .1) (tested (c .before) ∙ not-false _ (c .if1 .left)))
+    let start = at .before .before in (
+      omega arith,
+      below-more (λ k. rowTest (start .args .t1) (start .args .frame .now) k ≡ true) (at .loop .h) (at .loop .inv .1)
+          (tested (c .before) ∙ not-false _ (c .if1 .left)),
+    )
 
 returns-2 : tie.Need-returns-2 Inv-loop μ-loop
 returns-2 c = sym (data-passes _ _ (λ k l. c .before .loop .inv .1 k (omega arith)))
