@@ -1,0 +1,4 @@
+pub mod Demands
+pub mod Examples
+pub mod Lines
+pub mod Streams
