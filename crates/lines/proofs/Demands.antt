@@ -1,4 +1,5 @@
--- Records and lines as they are owed: the line of a record is that of the first refusal of its whole order, and shows what the call answered where there is none.
+-- Records and lines as they are owed: the line of a record is that of the first refusal of its whole order, and where there is none it shows what the call
+-- answered.
 use mathlib.Core.Path.{_≡_, refl, sym, ap, subst, _∙_}
 use mathlib.Core.Logic.{_⊎_, inl, inr, _↔_}
 use mathlib.Core.Bool.{Bool, true, false, false≢true}

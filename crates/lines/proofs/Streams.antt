@@ -17,7 +17,7 @@ use Rattle.record.specs.Line.{refusalLine, lineOf}
 use Rattle.record.specs.Record.{claimedBy, isWhole}
 use Rattle.record.proofs.Parsing.{broken-line}
 use Rattle.lines.specs.Lines.{startsWhole, wholesUpTo, restUpTo, wholesOf, restOf, linesOfAll, wholeLines, lastLine, linesOf}
-use Rattle.lines.specs.Streams.{IsWhole, EndsInside, AllWhole, Cut, Streams}
+use Rattle.lines.specs.Streams.{IsWhole, EndsInside, AllWhole, Cut, writtenAfter, Streams}
 
 -- ---- the length of a record, and whether it is all there
 
@@ -68,7 +68,7 @@ ends-short r (inr l) = pick (decLt (length r) 2)
     pick (yes h) = omega arith
     pick (no h) = omega (arith, l, claimed-said r (omega arith))
 
-starts-none : (r : List ℕ) → EndsInside r → startsWhole r ≡ false
+pub starts-none : (r : List ℕ) → EndsInside r → startsWhole r ≡ false
 unfolding startsWhole
 starts-none r i = lt-leb (2 + claimedBy r) (length r) (ends-short r i)
 
@@ -205,6 +205,13 @@ module _ (x y : List ℕ) where
       ap₂ (λ (t u : List ℕ). t ++ lastLine u) pieces rest-of-pieces ∙
       append-assoc (wholeLines x) (wholeLines (restOf x ++ y)) (lastLine (restOf (restOf x ++ y)))
 
+pub all-after : (x : List ℕ) (ps : List (List ℕ)) → writtenAfter x ps ≡ linesOf (x ++ joined ps)
+unfolding writtenAfter joined
+all-after x [] = ap linesOf (sym (append-nil x))
+all-after x (p ∷ ps) =
+    ap (λ (t : List ℕ). wholeLines (x ++ p) ++ t) (all-after (restOf (x ++ p)) ps) ∙ sym (last-piece (x ++ p) (joined ps)) ∙
+    ap linesOf (append-assoc x p (joined ps))
+
 -- ---- the end of the input
 
 pub not-all : (r : List ℕ) → EndsInside r → false ≡ isWhole r
@@ -245,4 +252,5 @@ streams =
       pieces = pieces;
       rest-of-pieces = rest-of-pieces;
       last-piece = last-piece;
+      all-pieces = all-after [];
     }

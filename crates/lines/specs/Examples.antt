@@ -24,11 +24,15 @@ table =
     -- a length of 0, and of 1
     record { bytes = 0 ∷ 0 ∷ []; text = 69 ∷ 32 ∷ 57 ∷ 10 ∷ [] } ∷
     record { bytes = 1 ∷ 0 ∷ 1 ∷ []; text = 69 ∷ 32 ∷ 57 ∷ 10 ∷ [] } ∷
-    -- an odd length: the record is taken as long as it says, and the next one is read
-    record { bytes = 3 ∷ 0 ∷ 1 ∷ 0 ∷ 5 ∷ []; text = 69 ∷ 32 ∷ 57 ∷ 10 ∷ [] } ∷
-    -- kinds 3 and 0
-    record { bytes = 10 ∷ 0 ∷ 3 ∷ 0 ∷ 5 ∷ 0 ∷ 1 ∷ 0 ∷ 1 ∷ 0 ∷ 3 ∷ 0 ∷ []; text = 69 ∷ 32 ∷ 57 ∷ 10 ∷ [] } ∷
-    record { bytes = 2 ∷ 0 ∷ 0 ∷ 0 ∷ []; text = 69 ∷ 32 ∷ 57 ∷ 10 ∷ [] } ∷
+    -- an odd length, of a record that is p = 5 and the sequence 3 but for its last byte
+    record { bytes = 11 ∷ 0 ∷ 1 ∷ 0 ∷ 5 ∷ 0 ∷ 1 ∷ 0 ∷ 1 ∷ 0 ∷ 3 ∷ 0 ∷ 0 ∷ []; text = 69 ∷ 32 ∷ 57 ∷ 10 ∷ [] } ∷
+    record { bytes = 10 ∷ 0 ∷ 1 ∷ 0 ∷ 5 ∷ 0 ∷ 1 ∷ 0 ∷ 1 ∷ 0 ∷ 3 ∷ 0 ∷ []; text = 82 ∷ 32 ∷ 49 ∷ 32 ∷ 48 ∷ 32 ∷ 49 ∷ 32 ∷ 48 ∷ 10 ∷ [] } ∷
+    -- kinds 0 and 3, of fields that are good in kind 1 and in kind 2
+    record { bytes = 10 ∷ 0 ∷ 0 ∷ 0 ∷ 5 ∷ 0 ∷ 1 ∷ 0 ∷ 1 ∷ 0 ∷ 3 ∷ 0 ∷ []; text = 69 ∷ 32 ∷ 57 ∷ 10 ∷ [] } ∷
+    record {
+      bytes = 26 ∷ 0 ∷ 3 ∷ 0 ∷ 2 ∷ 0 ∷ 4 ∷ 0 ∷ 3 ∷ 0 ∷ 2 ∷ 0 ∷ 0 ∷ 0 ∷ 0 ∷ 0 ∷ 5 ∷ 0 ∷ 0 ∷ 0 ∷ 0 ∷ 0 ∷ 0 ∷ 0 ∷ 7 ∷ 0 ∷ 0 ∷ 0 ∷ [];
+      text = 69 ∷ 32 ∷ 57 ∷ 10 ∷ [];
+    } ∷
     -- a body too short for its fields: no count; a count of lengths that are not there; fewer check counts than rows
     record { bytes = 4 ∷ 0 ∷ 1 ∷ 0 ∷ 5 ∷ 0 ∷ []; text = 69 ∷ 32 ∷ 57 ∷ 10 ∷ [] } ∷
     record { bytes = 6 ∷ 0 ∷ 1 ∷ 0 ∷ 5 ∷ 0 ∷ 1 ∷ 0 ∷ []; text = 69 ∷ 32 ∷ 57 ∷ 10 ∷ [] } ∷

@@ -53,3 +53,8 @@ linesOf x = wholeLines x ++ lastLine (restOf x)
 unfoldable pub textOf : (more : Bool) → List ℕ → List ℕ
 textOf true x = wholeLines x
 textOf false x = linesOf x
+
+-- how many of the bytes at hand are to be used for the next line: those of a whole record, or all of them where the input has ended inside one; 0 where
+-- no line is due
+unfoldable pub nextSize : (more : Bool) → List ℕ → ℕ
+nextSize more x = cond (startsWhole x) (2 + claimedBy x) (cond more 0 (length x))

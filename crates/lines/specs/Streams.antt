@@ -28,6 +28,11 @@ pub record Cut (x : List ℕ) (ws : List (List ℕ)) (r : List ℕ) : Type 0 whe
   pub wholes : AllWhole ws
   pub rest : EndsInside r
 
+-- what is written for pieces one after the other, each as it comes after the bytes left of those before it; then the input ends
+unfoldable pub writtenAfter : (left : List ℕ) (pieces : List (List ℕ)) → List ℕ
+writtenAfter left [] = linesOf left
+writtenAfter left (p ∷ ps) = wholeLines (left ++ p) ++ writtenAfter (restOf (left ++ p)) ps
+
 pub record Streams : Type 0 where
   -- the cut, and no other
   pub cut : (x : List ℕ) → Cut x (wholesOf x) (restOf x)
@@ -42,3 +47,5 @@ pub record Streams : Type 0 where
   pub pieces : (x y : List ℕ) → wholeLines (x ++ y) ≡ wholeLines x ++ wholeLines (restOf x ++ y)
   pub rest-of-pieces : (x y : List ℕ) → restOf (x ++ y) ≡ restOf (restOf x ++ y)
   pub last-piece : (x y : List ℕ) → linesOf (x ++ y) ≡ wholeLines x ++ linesOf (restOf x ++ y)
+  -- pieces in any number and of any size give the text of the whole input
+  pub all-pieces : (ps : List (List ℕ)) → writtenAfter [] ps ≡ linesOf (joined ps)
