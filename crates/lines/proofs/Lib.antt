@@ -4,4 +4,5 @@ pub mod Firsts
 pub mod NextLine
 pub mod Numbers
 pub mod Parsed
+pub mod Runs
 pub mod Streams

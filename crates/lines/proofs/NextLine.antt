@@ -29,9 +29,9 @@ pub next-fits : (more : Bool) (x : List ℕ) → nextSize more x ≤ length x
 unfolding nextSize
 next-fits more x = fits (startsWhole x) more x refl
 
-nothing-lost : linesOf [] ≡ []
+pub no-input : linesOf [] ≡ []
 unfolding linesOf
-nothing-lost = let none = no-line [] (starts-none [] (inl (omega arith))) in ap₂ (λ (t r : List ℕ). t ++ lastLine r) (none .0) (none .1)
+no-input = let none = no-line [] (starts-none [] (inl (omega arith))) in ap₂ (λ (t r : List ℕ). t ++ lastLine r) (none .0) (none .1)
 
 last-line : (x : List ℕ) → startsWhole x ≡ false → 0 < length x → linesOf x ≡ lineOf x
 unfolding linesOf
@@ -59,7 +59,7 @@ next false false x e h =
     last-line x e h ∙ sym (ap₂ (λ (y z : List ℕ). lineOf y ++ linesOf z) (take-length x) (drop-length x) ∙ none)
   where
     none : lineOf x ++ linesOf [] ≡ lineOf x
-    none = ap (λ (t : List ℕ). lineOf x ++ t) nothing-lost ∙ append-nil (lineOf x)
+    none = ap (λ (t : List ℕ). lineOf x ++ t) no-input ∙ append-nil (lineOf x)
 
 pub next-line : (more : Bool) (x : List ℕ) → 0 < nextSize more x → Next more x (nextSize more x)
 unfolding nextSize
@@ -79,7 +79,7 @@ due : (b m : Bool) (x : List ℕ) → startsWhole x ≡ b → sizeBy b m x ≡ 0
 unfolding textOf
 due true m x e h = absurd (let z : ⊥ = omega arith in z)
 due false true x e h = no-line x e .0
-due false false [] e h = nothing-lost
+due false false [] e h = no-input
 due false false (b ∷ bs) e h = absurd (let z : ⊥ = omega arith in z)
 
 pub none-due : (more : Bool) (x : List ℕ) → nextSize more x ≡ 0 → textOf more x ≡ []
