@@ -1,12 +1,12 @@
 -- What a record is, by the tests of its bytes and of its fields. Assumes nothing.
 use mathlib.Core.Path.{_≡_, refl, sym, ap, ap₂, _∙_}
 use mathlib.Core.Bool.{Bool, true, false, cond, _&&_}
-use mathlib.Core.List.{List}
+use mathlib.Core.List.{List, _++_}
 use Prim.Native.Nat.{ℕ, _+_, _-_, _*_, _%_, _/_, _≤_, _<_, min}
 use native.Mathlib.Nat.{min-eq-left, sub-zero}
 use native.Mathlib.Omega.{arith}
 use lib.Dec.{leb, eqb}
-use lib.ListN.{length, getD, take, drop, length-drop}
+use lib.ListN.{length, getD, take, drop, length-drop, take-append-drop}
 use lib.Seq.{take-all}
 use borrow.Author.Tests.{le-leb, lt-leb, eq-eqb, ne-eqb, eqb-true}
 use Rattle.reader.specs.Fields.{fieldAt, fieldOf, fieldsOf, Filled}
@@ -14,7 +14,7 @@ use Rattle.reader.specs.declared.Field.the-variants.{Value, End}
 use Rattle.reader.proofs.Filling.{length-fields}
 use Rattle.reader.proofs.Handed.{value-means, end-means}
 use Rattle.record.specs.Line.{refusalLine, outputOf, lineOf}
-use Rattle.record.specs.Record.{Record, bad, sequences, frame, claimedBy, isWhole, ofKind, countedOf, bodyOf, recordOf}
+use Rattle.record.specs.Record.{Record, bad, sequences, frame, claimedBy, isWhole, ofKind, countedOf, bodyOf, recordOf, fieldsLeft}
 
 module _ (bytes : List ℕ) where
   pub claims : (n : ℕ) → Value n ≡ fieldAt bytes (2 * 0) → n ≡ claimedBy bytes
@@ -108,18 +108,33 @@ module _ (bytes : List ℕ) (b : Bool) (tested : b ≡ isWhole bytes) where
   unfolding lineOf recordOf
   broken-line e = bad-line (recordOf bytes) (rw (sym tested ∙ e) refl)
 
-  pub whole-line : b ≡ true → length bytes < 65538 → (before after : List ℕ) (n : ℕ) → 32768 ≤ length before
-      → n ≡ min (length (take (length bytes - 2) (drop 2 bytes)) / 2) (length before)
-      → Filled (take (length bytes - 2) (drop 2 bytes)) before after n → outputOf (bodyOf (take (n - 0) after)) ≡ lineOf bytes
-  unfolding lineOf recordOf
-  whole-line t small before after n room e f =
-      ap (λ (xs : List ℕ). outputOf (bodyOf xs)) (ap (λ (k : ℕ). take k after) (sub-zero n) ∙ read) ∙
-      ap outputOf (sym (ap (λ (x : Bool). cond x (bodyOf (fieldsOf (drop 2 bytes))) bad) (sym tested ∙ t)))
-    where
-      read : take n after ≡ fieldsOf (drop 2 bytes)
-      read =
-          let part = ap length (rest 2 bytes) in
-          let d = length-drop 2 bytes in
-          let all : n ≡ length (take (length bytes - 2) (drop 2 bytes)) / 2 = e ∙ min-eq-left (omega arith) in
-          f .read ∙ ap (λ (l : List ℕ). take n (fieldsOf l)) (rest 2 bytes) ∙
-          take-all n (fieldsOf (drop 2 bytes)) (rw (length-fields (drop 2 bytes)) (omega arith))
+  pub broken-left : b ≡ false → (before : List ℕ) → before ≡ fieldsLeft bytes before
+  unfolding fieldsLeft
+  broken-left e before = rw (sym tested ∙ e) refl
+
+  module _ (t : b ≡ true) (small : length bytes < 65538) (before after : List ℕ) (n : ℕ) (room : 32768 ≤ length before)
+      (all : n ≡ min (length (take (length bytes - 2) (drop 2 bytes)) / 2) (length before))
+      (f : Filled (take (length bytes - 2) (drop 2 bytes)) before after n) where
+    every-field : n ≡ length (fieldsOf (drop 2 bytes))
+    every-field =
+        let part = ap length (rest 2 bytes) in
+        let d = length-drop 2 bytes in
+        all ∙ min-eq-left (omega arith) ∙ ap (λ (l : List ℕ). length l / 2) (rest 2 bytes) ∙ sym (length-fields (drop 2 bytes))
+
+    read : take n after ≡ fieldsOf (drop 2 bytes)
+    read =
+        f .read ∙ ap (λ (l : List ℕ). take n (fieldsOf l)) (rest 2 bytes) ∙
+        take-all n (fieldsOf (drop 2 bytes)) (omega (arith, every-field))
+
+    pub whole-line : outputOf (bodyOf (take (n - 0) after)) ≡ lineOf bytes
+    unfolding lineOf recordOf
+    whole-line =
+        ap (λ (xs : List ℕ). outputOf (bodyOf xs)) (ap (λ (k : ℕ). take k after) (sub-zero n) ∙ read) ∙
+        ap outputOf (sym (ap (λ (x : Bool). cond x (bodyOf (fieldsOf (drop 2 bytes))) bad) (sym tested ∙ t)))
+
+    pub whole-left : after ≡ fieldsLeft bytes before
+    unfolding fieldsLeft
+    whole-left =
+        sym (take-append-drop n after) ∙
+        ap₂ _++_ read (f .kept ∙ ap (λ (k : ℕ). drop k before) every-field) ∙
+        sym (ap (λ (x : Bool). cond x (fieldsOf (drop 2 bytes) ++ drop (length (fieldsOf (drop 2 bytes))) before) before) (sym tested ∙ t))

@@ -1,7 +1,7 @@
 -- What the bytes of a record say (document 01, "Records and lines"): a little-endian 16-bit length that counts the bytes after it, a kind, and a body of
 -- 16-bit fields.
 use mathlib.Core.Bool.{Bool, cond, _&&_}
-use mathlib.Core.List.{List}
+use mathlib.Core.List.{List, _++_}
 use Prim.Native.Nat.{ℕ, _+_, _%_}
 use lib.Dec.{leb, eqb}
 use lib.ListN.{length, getD, take, drop}
@@ -37,3 +37,9 @@ bodyOf xs =
 
 unfoldable pub recordOf : List ℕ → Record
 recordOf bytes = cond (isWhole bytes) (bodyOf (fieldsOf (drop 2 bytes))) bad
+
+-- the entries that the fields are read into: the fields of a whole record, from its kind on, and then what stood there before
+unfoldable pub fieldsLeft : (bytes before : List ℕ) → List ℕ
+fieldsLeft bytes before =
+    let xs : List ℕ = fieldsOf (drop 2 bytes) in
+    cond (isWhole bytes) (xs ++ drop (length xs) before) before

@@ -14,7 +14,7 @@ ghost use mathlib.Core.Path.{_≡_};
 ghost use Prim.Native.Nat.{_+_, _≤_};
 ghost use lib.ListN.{length, getD};
 ghost use Rattle.record.specs.Line.{outputOf, lineOf};
-ghost use Rattle.record.specs.Record.{sequences, frame, ofKind, countedOf, bodyOf};
+ghost use Rattle.record.specs.Record.{sequences, frame, ofKind, countedOf, bodyOf, fieldsLeft};
 ghost use Rattle.record.specs.Written.{Written};
 
 // The finder's tap buffer has room for the longest length that it takes.
@@ -97,11 +97,12 @@ fn body_line(out: &mut [u8], at: usize, xs: &[u16]) -> usize
 }
 
 // The line of the bytes got of a record, its two length bytes first, put into `out` from `at` on; and where it ends.
-// Scratch entries are lent for the fields.
+// Scratch entries are lent for the fields: those of a whole record, from its kind on, are left there.
 pub fn line(bytes: &[u8], scratch: &mut [u16], out: &mut [u8], at: usize) -> usize
     requires { ⌜ (32768 ≤ length (now scratch)) × (at + 1024 ≤ length (now out)) ⌝ }
     ensures { λ r. ⌜ Written (now (out .entry)) at (lineOf (now (bytes .entry))) (now (out .exit)) r ⌝ }
     ensures { λ r. ⌜ r ≤ at + 1024 ⌝ }
+    ensures { λ r. ⌜ now (scratch .exit) ≡ fieldsLeft (now (bytes .entry)) (now (scratch .entry)) ⌝ }
 {
     if !whole(bytes) {
         return refusal_line(out, at, Refusal::BadRecord);

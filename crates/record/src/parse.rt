@@ -3,7 +3,7 @@ use reader::Field;
 use reader::nth;
 ghost use mathlib.Core.Bool.{true};
 ghost use mathlib.Core.Path.{_≡_};
-ghost use Prim.Native.Nat.{_+_, _≤_, _<_, min};
+ghost use Prim.Native.Nat.{_≤_, _<_};
 ghost use lib.ListN.{length};
 ghost use Rattle.record.specs.Record.{claimedBy, isWhole};
 
@@ -30,16 +30,4 @@ pub fn whole(bytes: &[u8]) -> bool
         return false;
     }
     bytes.len() == 2 + n
-}
-
-// How many of the bytes belong to the record that they start with.
-pub fn size(bytes: &[u8]) -> usize
-    ensures { λ r. ⌜ r ≡ min (2 + claimedBy (now (bytes .entry))) (length (now (bytes .entry))) ⌝ }
-{
-    let whole = 2 + claimed(bytes);
-    if whole < bytes.len() {
-        whole
-    } else {
-        bytes.len()
-    }
 }

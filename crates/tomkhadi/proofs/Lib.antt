@@ -1,2 +1,3 @@
 pub mod Filling
 pub mod Moving
+pub mod Putting

@@ -1,1 +1,3 @@
+pub mod Lined
+pub mod Turned
 pub mod Window

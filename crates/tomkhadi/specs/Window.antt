@@ -1,9 +1,9 @@
 -- Windows of a buffer that is filled from the input.
 use mathlib.Core.Path.{_≡_}
-use mathlib.Core.Bool.{Bool, true, false, _&&_}
+use mathlib.Core.Bool.{Bool, true, false, cond, _&&_}
 use mathlib.Core.List.{List}
 use Prim.Native.Nat.{ℕ, _+_, _-_, _≤_, _<_}
-use lib.Dec.{ltb}
+use lib.Dec.{ltb, eqb}
 use lib.ListN.{length, take, drop}
 use Rattle.record.specs.Record.{claimedBy}
 use Rattle.tomkhadi.specs.declared.input.Window.{Window}
@@ -38,3 +38,7 @@ pub record Filled (before : List ℕ) (w : Window) (after : List ℕ) (r : Windo
   pub inside : Inside r after
   pub kept : Kept before w after r
   pub whole : isLacking r after ≡ false
+
+-- the input has ended, and all of it is used
+abbrev pub isOver : Window → Bool
+isOver w = cond (w .more) false (eqb (w .start) (w .end))

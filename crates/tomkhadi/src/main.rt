@@ -1,37 +1,40 @@
-// The program: reads records from standard input and writes a line for each (document 01, "Records and lines").
+// The program: reads records from standard input and writes a line for each.
 mod input;
+mod output;
 
 use input::Window;
 use input::filled;
-use input::lacking;
-use record::line::line;
-use record::parse::size;
-ghost use Prim.Native.Nat.{_+_, _≤_};
+use output::put_lines;
+ghost use mathlib.Core.Path.{_≡_};
+ghost use Prim.Native.Nat.{_≤_};
 ghost use lib.ListN.{length};
-ghost use Rattle.tomkhadi.specs.Window.{Inside};
+ghost use Rattle.tomkhadi.specs.Turned.{Turned};
+ghost use Rattle.tomkhadi.specs.Window.{Inside, isOver};
 
-// Before the program waits for input, the lines so far are written out: whoever sends a record and waits gets its line.
-fn drained(buffer: &[u8], w: Window, out: &[u8], used: usize) -> usize
-    requires { ⌜ Inside w (now buffer) × (used ≤ length (now out)) ⌝ }
-    ensures { λ r. ⌜ r ≤ used ⌝ }
+// Reads until the next line is due, and writes the lines that are due. So whoever sends a record and waits gets its line.
+fn turn(buffer: &mut [u8], w: Window, scratch: &mut [u16], out: &mut [u8]) -> Window
+    requires { ⌜ Inside w (now buffer) × (32768 ≤ length (now scratch)) × (1024 ≤ length (now out)) ⌝ }
+    ensures { λ r. ⌜ Turned (now (buffer .entry)) w (now (buffer .exit)) (now (out .exit)) r ⌝ }
 {
-    if lacking(buffer, w) {
-        io::write_all(1, &out[0..used]);
-        return 0;
+    let full = filled(buffer, w);
+    let put = put_lines(buffer, full, scratch, out);
+    let used = put.used;
+    io::write_all(1, &out[0..used]);
+    Window {
+        start: put.start,
+        end: full.end,
+        more: full.more,
     }
-    used
 }
 
-// Where the next line goes: the lines before it are written out if it may not fit after them.
-fn flushed(out: &[u8], used: usize) -> usize
-    requires { ⌜ (used ≤ length (now out)) × (1024 ≤ length (now out)) ⌝ }
-    ensures { λ r. ⌜ r + 1024 ≤ length (now (out .entry)) ⌝ }
+// The input has ended, and all of it is used.
+fn is_over(w: Window) -> bool
+    ensures { λ r. ⌜ r ≡ isOver w ⌝ }
 {
-    if used <= out.len() - 1024 {
-        return used;
+    if w.more {
+        return false;
     }
-    io::write_all(1, &out[0..used]);
-    0
+    w.start == w.end
 }
 
 // A loop has to end for its proof, so it counts its turns down, from a number that no run uses up.
@@ -43,23 +46,14 @@ fn run(buffer: &mut [u8], scratch: &mut [u16], out: &mut [u8])
         end: 0,
         more: true,
     };
-    let mut used = 0;
     let mut turns = u64::MAX;
     while turns > 0 {
-        used = drained(buffer, w, out, used);
-        w = filled(buffer, w);
-        let a = w.start;
-        let e = w.end;
-        if a == e {
+        w = turn(buffer, w, scratch, out);
+        if is_over(w) {
             break;
         }
-        let next = a + size(&buffer[a..e]);
-        let at = flushed(out, used);
-        used = line(&buffer[a..next], scratch, out, at);
-        w.start = next;
         turns -= 1;
     }
-    io::write_all(1, &out[0..used]);
 }
 
 fn main() {

@@ -1,7 +1,9 @@
 //! The program on streams of records: good ones, bad ones, random bytes, streams cut short, and many
-//! records. It answers a line for each, whether the bytes come all at once or a few at a time, and
-//! does not keep a line back while it waits for the next record.
+//! records. It answers a line for each, whether the bytes come from a pipe, all at once or a few at a
+//! time, or from a file, whose reads fill all the room that they are lent. It does not keep a line back
+//! while it waits for the next record.
 
+use std::fs::{self, File};
 use std::io::{BufRead, BufReader, Read, Write};
 use std::process::{Child, Command, Stdio};
 use std::thread;
@@ -15,18 +17,27 @@ use crate::trials::vectors::VECTORS;
 use crate::trials::{damaged, malformed, some_legal_frame, some_shape};
 
 /// The program, which is stopped after a minute.
-fn started() -> Child {
+fn started(input: Stdio) -> Child {
     Command::new("timeout")
         .args(["60", "target/bin/tomkhadi"])
-        .stdin(Stdio::piped())
+        .stdin(input)
         .stdout(Stdio::piped())
         .spawn()
         .expect("the program starts")
 }
 
+/// What the program prints from here on, and whether it ended well.
+fn ended(mut program: Child) -> (bool, String) {
+    let mut printed = String::new();
+    let mut stdout = program.stdout.take().expect("it has an output");
+    stdout.read_to_string(&mut printed).expect("it prints text");
+    let status = program.wait().expect("it ends");
+    (status.success(), printed)
+}
+
 /// What the program prints, and whether it ended well.
 fn answers(pieces: Vec<Vec<u8>>) -> (bool, String) {
-    let mut program = started();
+    let mut program = started(Stdio::piped());
     let mut stdin = program.stdin.take().expect("it has an input");
     let writer = thread::spawn(move || {
         for piece in &pieces {
@@ -36,18 +47,24 @@ fn answers(pieces: Vec<Vec<u8>>) -> (bool, String) {
             }
         }
     });
-    let mut printed = String::new();
-    let mut stdout = program.stdout.take().expect("it has an output");
-    stdout.read_to_string(&mut printed).expect("it prints text");
+    let answers = ended(program);
     writer.join().expect("the input is written");
-    let status = program.wait().expect("it ends");
-    (status.success(), printed)
+    answers
 }
 
 fn at_once(judge: &mut Judge, input: &[u8]) {
     let expected = lines(judge, input);
     let got = answers(vec![input.to_vec()]);
     judge.compare("the program", &input, (true, expected), got);
+}
+
+fn from_file(judge: &mut Judge, input: &[u8]) {
+    let expected = lines(judge, input);
+    let path = "target/input";
+    fs::write(path, input).expect("the input is kept");
+    let file = File::open(path).expect("the input is there");
+    let got = ended(started(file.into()));
+    judge.compare("the program on a file", &(), (true, expected), got);
 }
 
 fn slowly(judge: &mut Judge, random: &mut Random, mut input: &[u8]) {
@@ -64,7 +81,7 @@ fn slowly(judge: &mut Judge, random: &mut Random, mut input: &[u8]) {
 
 /// Each record is sent when the line of the one before it has come.
 fn in_turn(judge: &mut Judge, records: &[Vec<u8>]) {
-    let mut program = started();
+    let mut program = started(Stdio::piped());
     let mut stdin = program.stdin.take().expect("it has an input");
     let mut stdout = BufReader::new(program.stdout.take().expect("it has an output"));
     for record in records {
@@ -118,6 +135,19 @@ fn some_bytes(random: &mut Random, most: usize) -> Vec<u8> {
     [&(length as u16).to_le_bytes()[..], &bytes].concat()
 }
 
+/// Good and bad records, none cut short, of so many bytes or more.
+fn long_stream(random: &mut Random, least: usize) -> Vec<u8> {
+    let mut stream = Vec::new();
+    while stream.len() < least {
+        stream.extend(match random.below(8) {
+            0..4 => some_sequences(random),
+            4..7 => some_frame(random),
+            _ => some_bytes(random, 12),
+        });
+    }
+    stream
+}
+
 fn some_stream(random: &mut Random) -> Vec<u8> {
     let mut stream = Vec::new();
     for _ in 0..random.from_to(1, 40) {
@@ -149,8 +179,14 @@ pub fn run(judge: &mut Judge) {
     for size in 0..5 {
         at_once(judge, &vectors[..size]);
     }
-    at_once(judge, &[0; 2_000_000]);
+    // 2,500,000 records without a kind, and 200,000 good ones
+    at_once(judge, &[0; 5_000_000]);
+    at_once(judge, &record(&[1, 2, 1, 1, 1]).repeat(200_000));
     at_once(judge, &[0xff; 200_000]);
+    from_file(judge, &[0; 700_000]);
+    from_file(judge, &long_stream(&mut random, 600_000));
+    let long = long_stream(&mut random, 300_000);
+    from_file(judge, &long[..long.len() - 1]);
     for _ in 0..100 {
         let stream = some_stream(&mut random);
         at_once(judge, &stream);

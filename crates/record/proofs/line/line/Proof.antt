@@ -1,7 +1,7 @@
 -- `record::line::line` meets its contract. Assumes nothing.
 use borrow.Author.Needs.{needs}
 use borrow.Author.Tests.{not-true, not-false}
-use Rattle.record.proofs.Parsing.{broken-line, whole-line}
+use Rattle.record.proofs.Parsing.{broken-line, broken-left, whole-line, whole-left}
 use Rattle.record.proofs.Writing.{written-as}
 use Rattle.record.proofs.line.line.Statement.{statement}
 use Rattle.record.proofs.line.line.Tie as tie
@@ -18,8 +18,12 @@ same-length c = search needs
 returns : tie.Need-returns
 returns c =
     let line = c .before .before .refusal-line .ensures in
-    let bytes = c .before .before .before .before .before .before .before .before .before .args .bytes .now in
-    (written-as _ _ _ _ _ _ (broken-line bytes _ (c .before .before .before .before .before .whole .ensures .0) (not-true _ (c .before .before .before .before .if1 .taken))) (line .0), line .1)
+    let tested = c .before .before .before .before in
+    let start = tested .before .before .before .before .before in
+    let no = not-true _ (tested .if1 .taken) in
+    let bytes = start .args .bytes .now in
+    let is = tested .before .whole .ensures .0 in
+    (written-as _ _ _ _ _ _ (broken-line bytes _ is no) (line .0), (line .1, broken-left bytes _ is no _))
 
 sub-fields : tie.Need-sub-fields
 sub-fields c = c .before .whole .ensures .1 (not-false _ (c .if1 .left)) .0
@@ -54,9 +58,16 @@ same-length-3 c = search needs
 returns-2 : tie.Need-returns-2
 returns-2 c =
     let line = c .before .before .body-line .ensures in
-    let bytes = c .before .before .before .before .before .before .before .before .before .before .before .before .before .before .before .before .args .bytes .now in
-    let good = not-false _ (c .before .before .before .before .before .before .before .before .before .before .before .if1 .left) in
-    (written-as _ _ _ _ _ _ (whole-line bytes _ (c .before .before .before .before .before .before .before .before .before .before .before .before .whole .ensures .0) good (c .before .before .before .before .before .before .before .before .before .before .before .before .whole .ensures .1 good .1) _ _ _ (c .before .before .before .before .before .before .before .before .before .before .before .before .before .before .before .before .pre .0) (c .before .before .before .before .before .before .before .before .fields .ensures .0) (c .before .before .before .before .before .before .before .before .fields .ensures .1)) (line .0), line .1)
+    let read = c .before .before .before .before .before .before .before .before in
+    let tested = read .before .before .before in
+    let start = tested .before .before .before .before .before in
+    let good = not-false _ (tested .if1 .left) in
+    let bytes = start .args .bytes .now in
+    let whole = tested .before .whole .ensures in
+    let fields = read .fields .ensures in (
+      written-as _ _ _ _ _ _ (whole-line bytes _ (whole .0) good (whole .1 good .1) _ _ _ (start .pre .0) (fields .0) (fields .1)) (line .0),
+      (line .1, whole-left bytes _ (whole .0) good (whole .1 good .1) _ _ _ (start .pre .0) (fields .0) (fields .1)),
+    )
 
 pub line-spec : {M : Type 1} → statement M
 line-spec =

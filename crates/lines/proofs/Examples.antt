@@ -1,0 +1,35 @@
+-- The table of inputs and texts is what the definitions compute.
+use mathlib.Core.Path.{_≡_, refl}
+use mathlib.Core.List.{map}
+use Rattle.columns.specs.Columns.{columnsOf, has, number}
+use Rattle.columns.specs.Listed.{count, listed}
+use Rattle.decoding.specs.Locating.{sizeOf, tapsOf, aloneOf, rowsReach, named, namedColumns, namesAll}
+use Rattle.field.specs.Coefficients.{shifted, reduced, value}
+use Rattle.field.specs.Prime.{noDivisor, isPrime, isModulus}
+use Rattle.field.specs.Total.{total}
+use Rattle.finder.specs.Finder.{tests, answer}
+use Rattle.frame.specs.Frame.{checkSum, checkSums, rowSums, sequences, heldSums, heldSequences, frameTests}
+use Rattle.frame.specs.Powers.{weight}
+use Rattle.frame.specs.Shape.{shapeOf, rowsInRange, columnsInRange, checksInRange, isShape, shapeTests}
+use Rattle.job.specs.Calls.{registerTests, step}
+use Rattle.job.specs.Job.{noColumns, phaseSound, headSound, countsEmpty}
+use Rattle.lists.specs.Tabulate.{tabulate, every, joined}
+use Rattle.register.specs.Algorithm4.{start, replaced, changed, turn, rounds, isAlone, found, foundAlone}
+use Rattle.register.specs.Algorithm4.{step as stepAt}
+use Rattle.register.specs.Register.{discrepancy}
+use Rattle.register.specs.Sequences.{largest, placed, ordered, split}
+use Rattle.reader.specs.Fields.{fieldOf, fieldsOf}
+use Rattle.record.specs.Line.{refusalLine, registerLine, columnsLine, frameLine, outputOf, lineOf}
+use Rattle.record.specs.Record.{claimedBy, isWhole, countedOf, bodyOf, recordOf}
+use Rattle.record.specs.Text.{decimalUpTo, decimal, spaced, line}
+use Rattle.lines.specs.Examples.{written, table}
+use Rattle.lines.specs.Lines.{startsWhole, wholesUpTo, restUpTo, wholesOf, restOf, linesOfAll, wholeLines, linesOf}
+
+pub examples : map written table ≡ table
+unfolding table startsWhole wholesUpTo restUpTo wholesOf restOf linesOfAll wholeLines linesOf fieldOf fieldsOf refusalLine registerLine columnsLine
+    frameLine outputOf lineOf claimedBy isWhole countedOf bodyOf recordOf decimalUpTo decimal spaced line split ordered placed largest discrepancy
+    stepAt start replaced changed turn rounds isAlone found foundAlone tabulate every joined noColumns phaseSound headSound countsEmpty step
+    registerTests shapeOf rowsInRange columnsInRange checksInRange isShape shapeTests weight checkSum checkSums rowSums sequences heldSums heldSequences
+    frameTests tests answer total noDivisor isPrime isModulus shifted reduced value sizeOf tapsOf aloneOf rowsReach named namedColumns namesAll count
+    listed columnsOf has number
+examples = refl

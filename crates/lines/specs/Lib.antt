@@ -1,0 +1,5 @@
+pub mod Demands
+pub mod Examples
+pub mod Lines
+pub mod Runs
+pub mod Streams
