@@ -9,7 +9,8 @@ use native.Mathlib.Omega.{arith}
 use lib.ListN.{length, take, replicate, length-replicate}
 use Rattle.columns.specs.Columns.{members}
 use Rattle.finder.specs.Demands as Finder
-use Rattle.finder.specs.Finder.{Answer, register, refused, tests, answer, tapsLeft}
+use Rattle.finder.specs.Finder.{Answer, register, refused, answer, tapsLeft}
+use Rattle.sequences.specs.Tests.{tests}
 use Rattle.finder.proofs.Demands as Finder·Demands
 use Rattle.finder.proofs.Demands.{first-left}
 use Rattle.finder.proofs.Reasons.{finder-says}

@@ -6,10 +6,10 @@ use Rattle.columns.specs.Listed.{count, listed}
 use Rattle.decoding.specs.Locating.{sizeOf, tapsOf, aloneOf, rowsReach, named, namedColumns, namesAll}
 use Rattle.field.specs.Coefficients.{shifted, reduced, value}
 use Rattle.field.specs.Prime.{noDivisor, isPrime, isModulus}
-use Rattle.field.specs.Total.{total}
-use Rattle.finder.specs.Finder.{tests, answer}
-use Rattle.frame.specs.Frame.{checkSum, checkSums, rowSums, sequences, heldSums, heldSequences, frameTests}
-use Rattle.frame.specs.Powers.{weight}
+use Rattle.lists.specs.Total.{total}
+use Rattle.finder.specs.Finder.{answer}
+use Rattle.sequences.specs.Tests.{tests}
+use Rattle.frame.specs.Frame.{checkSum, checkSums, rowSums, sequences, heldSums, heldSequences, frameTests, weight}
 use Rattle.frame.specs.Shape.{shapeOf, rowsInRange, columnsInRange, checksInRange, isShape, shapeTests}
 use Rattle.job.specs.Calls.{registerTests, step}
 use Rattle.job.specs.Job.{noColumns, phaseSound, headSound, countsEmpty}
