@@ -42,4 +42,5 @@ reasons p lengths symbols room =
 pub record Demand1 : Type 0 where
   pub refusal : (p : ℕ) (lengths symbols : List ℕ) (room k : ℕ) → answer p lengths symbols room ≡ refused k → First k (reasons p lengths symbols room)
   pub reason : (p : ℕ) (lengths symbols : List ℕ) (room k : ℕ) → First k (reasons p lengths symbols room) → answer p lengths symbols room ≡ refused k
-  pub untouched : (p : ℕ) (lengths symbols buffer : List ℕ) (k : ℕ) → answer p lengths symbols (length buffer) ≡ refused k → tapsLeft p lengths symbols buffer ≡ buffer
+  pub untouched : (p : ℕ) (lengths symbols buffer : List ℕ) (k : ℕ)
+      → answer p lengths symbols (length buffer) ≡ refused k → tapsLeft p lengths symbols buffer ≡ buffer
