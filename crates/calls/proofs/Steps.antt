@@ -1,5 +1,4 @@
 -- What each call gives after each of its tests, and the answers that it makes of it.
--- Assumes nothing.
 use mathlib.Core.Path.{_≡_, refl, sym, ap, ap₂, _∙_}
 use mathlib.Core.Bool.{true, false, cond}
 use mathlib.Core.List.{List, [], _∷_, _++_}
@@ -24,7 +23,7 @@ use Rattle.refusal.specs.declared.Checked.{Checked}
 use Rattle.refusal.specs.declared.Checked.the-variants.{Pass, Refuse}
 use Rattle.refusal.specs.Order.{Test, firstOf}
 use Rattle.refusal.specs.Outcome.{passed, refused, outcome, outcomeOf}
-use Rattle.refusal.proofs.Orders.{passed-pass}
+use Rattle.refusal.proofs.Orders.{firstOf-append, passed-pass}
 use Rattle.refusal.proofs.Outcomes.{given-passed, given-refused}
 use Rattle.calls.specs.Answered as answer-of
 use Rattle.calls.specs.FromSums.{fromSums}
@@ -108,11 +107,6 @@ module _ (j : Job) (f : List ℕ) where
 
 -- ---- repair
 
--- one order after another
-after : {A : Type 0} (refuse : ℕ → A) (ts us : List Test) (otherwise : A) → firstOf refuse (ts ++ us) otherwise ≡ firstOf refuse ts (firstOf refuse us otherwise)
-after refuse [] us otherwise = refl
-after refuse (t ∷ ts) us otherwise = ap (λ later. cond (t .fails) (refuse (t .number)) later) (after refuse ts us otherwise)
-
 module _ (j : Job) (f : List ℕ) where
   pub repair-empty : isEmpty j ≡ true → refusing j f 21 ≡ step j (repair f)
   unfolding step
@@ -127,7 +121,7 @@ module _ (j : Job) (f : List ℕ) where
       -- the tests of the frame come next, then that of the sums
       next : step j (repair f) ≡ firstOf (refusing j f) (frameTests (j .head .shape) f) (firstOf (refusing j f) (sumsTest j f ∷ []) (repairs j f))
       unfolding step
-      next = rw (full, located) (after (refusing j f) (frameTests (j .head .shape) f) (sumsTest j f ∷ []) (repairs j f))
+      next = rw (full, located) (firstOf-append (refusing j f) (frameTests (j .head .shape) f) (sumsTest j f ∷ []) (repairs j f))
 
       pub repair-refused : (k : ℕ) → outcome (frameTests (j .head .shape) f) ≡ refused k → refusing j f k ≡ step j (repair f)
       repair-refused k e = sym (given-refused (refusing j f) _ (frameTests (j .head .shape) f) k e) ∙ sym next

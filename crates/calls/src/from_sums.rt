@@ -44,7 +44,8 @@ fn shortest(s: Shape, sums: &[u16], taps: &mut [u16]) -> Found
         (isShape s ≡ true) × (length (now sums) ≡ 512)
         × (outcome (tests 257 (take (s .rows) (s .checks)) (take (total (s .rows) (checksOf s)) (now sums)) (length (now taps))) ≡ passed)
         ⌝ }
-    ensures { λ r. ⌜ Finds 257 (take (s .rows) (s .checks)) (take (total (s .rows) (checksOf s)) (now (sums .entry))) (now (taps .entry)) (now (taps .exit)) r ⌝ }
+    ensures { λ r. ⌜ Finds 257 (take (s .rows) (s .checks)) (take (total (s .rows) (checksOf s)) (now (sums .entry)))
+        (now (taps .entry)) (now (taps .exit)) r ⌝ }
 {
     let rows = s.rows;
     let checks = s.checks;

@@ -33,7 +33,8 @@ fn same_sums(a: &[u16; 512], b: &[u16; 512]) -> bool
 
 // The sums are read, and the taps play no part: whatever they hold is left as it was.
 pub fn repair(j: Head, sums: &[u16; 512], frame: &mut [u16]) -> Answered
-    ensures { λ r. ⌜ ((a : Arrays) → answeredOutcome r (withSums a (now (sums .entry))) (now (frame .exit)) ≡ step (beside j (withSums a (now (sums .entry)))) (repair (now (frame .entry)))) ⌝ }
+    ensures { λ r. ⌜ ((a : Arrays) → answeredOutcome r (withSums a (now (sums .entry))) (now (frame .exit))
+        ≡ step (beside j (withSums a (now (sums .entry)))) (repair (now (frame .entry)))) ⌝ }
 {
     if counts_as_empty(j) {
         return refuse(j, Refusal::Empty);

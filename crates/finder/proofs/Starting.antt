@@ -22,13 +22,27 @@ use Rattle.finder.proofs.Running.{sequence-at}
 
 -- ---- the struct
 
-pub none-set : (N : ℕ) (o : Order) → Started N o 0 (record { length = 0; places = replicate 8 0; sizes = replicate 8 0; discs = replicate 8 1; inverses = replicate 8 1 })
+pub none-set : (N : ℕ) (o : Order)
+    → Started N o 0 (record { length = 0; places = replicate 8 0; sizes = replicate 8 0; discs = replicate 8 1; inverses = replicate 8 1 })
 none-set N o =
-    record { length = refl; place = λ h b. absurd (not-suc-le-zero b); size = λ h b. getD-replicate 8 h 0 0 b; disc = λ h b. getD-replicate 8 h 1 0 b; inverse = λ h b. getD-replicate 8 h 1 0 b }
+    record {
+      length = refl;
+      place = λ h b. absurd (not-suc-le-zero b);
+      size = λ h b. getD-replicate 8 h 0 0 b;
+      disc = λ h b. getD-replicate 8 h 1 0 b;
+      inverse = λ h b. getD-replicate 8 h 1 0 b;
+    }
 
 -- the struct with the place of sequence h set
 abbrev pub placing : (N : ℕ) → Order → ℕ → Progress → Progress
-placing N o h g = record { length = g .length; places = set (g .places) h (N - getD (o .lengths) h 0); sizes = g .sizes; discs = g .discs; inverses = g .inverses }
+placing N o h g =
+    record {
+      length = g .length;
+      places = set (g .places) h (N - getD (o .lengths) h 0);
+      sizes = g .sizes;
+      discs = g .discs;
+      inverses = g .inverses;
+    }
 
 pub one-set : {N : ℕ} {o : Order} {h : ℕ} {g : Progress} → Started N o h g → length (g .places) ≡ 8 → h < 8 → Started N o (h + 1) (placing N o h g)
 one-set {N} {o} {h} {g} s room b =

@@ -1,7 +1,7 @@
 -- Orders of refusals. What is given goes by cases: a number of the order, or what stands for no refusal, and then every test passes. Where tests and
 -- reasons say the same, one by one, the number given is that of the first reason that holds, and no test fails exactly where no reason holds.
 -- Assumes nothing.
-use mathlib.Core.Path.{_≡_, refl, sym, subst, _∙_}
+use mathlib.Core.Path.{_≡_, refl, sym, ap, subst, _∙_}
 use mathlib.Core.Logic.{_⊎_, inl, inr, _↔_, _≢_}
 use mathlib.Core.Bool.{Bool, true, false, cond, not, false≢true}
 use mathlib.Core.List.{List, [], _∷_, _++_, append-nil}
@@ -49,6 +49,12 @@ firstOf-map h refuse (t ∷ ts) otherwise = pick (t .fails) (firstOf-map h refus
         ≡ cond b (h (refuse (t .number))) (firstOf (λ k. h (refuse k)) ts (h otherwise))
     pick true ih = refl
     pick false ih = ih
+
+-- one order after another
+pub firstOf-append : {A : Type 0} (refuse : ℕ → A) (ts us : List Test) (otherwise : A)
+    → firstOf refuse (ts ++ us) otherwise ≡ firstOf refuse ts (firstOf refuse us otherwise)
+firstOf-append refuse [] us otherwise = refl
+firstOf-append refuse (t ∷ ts) us otherwise = ap (λ later. cond (t .fails) (refuse (t .number)) later) (firstOf-append refuse ts us otherwise)
 
 -- ---- tests and reasons
 

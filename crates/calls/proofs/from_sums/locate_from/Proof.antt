@@ -82,7 +82,8 @@ refuse-requires-2 c κs = search needs
 returns-2 : tie.Need-returns-2
 returns-2 c =
     let other = c .before .before in
-    λ a f. refusal-left a _ _ f _ (c .refuse2 .ensures) (c .before .shaped2 .ensures) ∙ gives-24 (see (other .before .before)) _ f (not-true _ (other .if1 .taken))
+    λ a f. refusal-left a _ _ f _ (c .refuse2 .ensures) (c .before .shaped2 .ensures)
+    ∙ gives-24 (see (other .before .before)) _ f (not-true _ (other .if1 .taken))
 
 rows-reach-requires : tie.Need-rows-reach-requires
 rows-reach-requires c κs = search needs

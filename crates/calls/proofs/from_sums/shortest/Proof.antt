@@ -1,4 +1,4 @@
--- `calls::from_sums::shortest` meets its contract. Assumes nothing.
+-- `calls::from_sums::shortest` meets its contract.
 use mathlib.Core.Path.{_≡_, ap, _∙_}
 use mathlib.Core.List.{List}
 use Prim.Native.Nat.{ℕ, _-_}
@@ -12,6 +12,10 @@ use Rattle.calls.proofs.Lending.{sums-most}
 use borrow.Author.Needs.{needs}
 use Rattle.calls.proofs.from_sums.shortest.Statement.{statement}
 use Rattle.calls.proofs.from_sums.shortest.Tie as tie
+
+-- the way back
+abbrev start-of : tie.After-sum-count → tie.Start
+start-of c = c .before .before .before .before
 
 sum-count-requires : tie.Need-sum-count-requires
 sum-count-requires c κs = search needs
@@ -50,8 +54,9 @@ symbols sums k n e = ap (λ (m : ℕ). take m sums) (sub-zero k ∙ e)
 
 synthesize-requires : tie.Need-synthesize-requires
 synthesize-requires c κs =
-    let start = c .before .before .before .before .before .before .before .before in
-    rw (lengths (start .args .s), symbols (now (start .args .sums)) _ _ (c .before .before .before .before .sum-count .ensures)) (start .pre .2)
+    let counted = c .before .before .before .before in
+    let start = start-of counted in
+    rw (lengths (start .args .s), symbols (now (start .args .sums)) _ _ (counted .sum-count .ensures)) (start .pre .2)
 
 same-length : tie.Need-same-length
 same-length c = search needs
@@ -59,8 +64,9 @@ same-length c = search needs
 returns : tie.Need-returns
 returns c =
     let called = c .before .before in
-    let args = called .before .before .before .before .before .before .before .before .before .args in
-    rw (lengths (args .s), symbols (now (args .sums)) _ _ (called .before .before .before .before .before .sum-count .ensures)) at (called .synthesize .ensures)
+    let counted = called .before .before .before .before .before in
+    let args = start-of counted .args in
+    rw (lengths (args .s), symbols (now (args .sums)) _ _ (counted .sum-count .ensures)) at (called .synthesize .ensures)
 
 pub shortest-spec : {M : Type 1} → statement M
 shortest-spec =

@@ -1,10 +1,9 @@
--- `calls::from_sums::sum_count` meets its contract: the checks of the rows passed are added. Assumes nothing.
-use mathlib.Core.Path.{_≡_, refl, sym, ap, ap₂, _∙_}
-use Prim.Native.Nat.{ℕ, _+_, _-_, _*_, _≤_}
-use native.Mathlib.Numerals.{add-one}
+-- `calls::from_sums::sum_count` meets its contract: the checks of the rows passed are added.
+use mathlib.Core.Path.{_≡_, refl, sym}
+use Prim.Native.Nat.{_-_, _*_, _≤_}
 use native.Mathlib.Omega.{arith}
 use Rattle.lists.specs.Total.{total}
-use Rattle.lists.proofs.Totals.{total-zero, total-suc}
+use Rattle.lists.proofs.Totals.{total-zero, total-more, total-all}
 use Rattle.frame.specs.Shape.{checksOf}
 use Rattle.frame.proofs.Shapes.{shape-ranges}
 use Rattle.calls.proofs.from_sums.sum_count.Statement.{statement}
@@ -44,10 +43,10 @@ loop-less c = omega arith
 loop-again : tie.Need-loop-again Inv-loop μ-loop
 loop-again c =
     let m = c .before .before .loop in
-    (omega arith, ap₂ _+_ (m .inv .1) refl ∙ sym (total-suc (m .h) _) ∙ ap (λ (k : ℕ). total k (checksOf (c .before .before .before .args .t1))) (sym (add-one (m .h))), let q = most c in omega arith)
+    (omega arith, total-more (m .h) _ (m .inv .1) refl, let q = most c in omega arith)
 
 returns : tie.Need-returns Inv-loop μ-loop
-returns c = c .before .loop .inv .1 ∙ ap (λ (k : ℕ). total k (checksOf (c .before .before .args .t1))) (omega arith)
+returns c = total-all _ (c .before .loop .inv .1) (omega arith)
 
 pub sum-count-spec : {M : Type 1} → statement M
 sum-count-spec =

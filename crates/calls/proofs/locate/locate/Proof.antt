@@ -55,7 +55,8 @@ returns-2 : tie.Need-returns-2
 returns-2 c =
     let checked = c .before .before in
     λ a. refusal-outcome _ _ _ (c .refuse2 .ensures) refl
-    ∙ locate-refused _ _ (full (checked .before .before .before)) _ (sym (checked .before .before .check-frame .ensures) ∙ ap outcomeOf (checked .checked .given .1))
+    ∙ locate-refused _ _ (full (checked .before .before .before)) _
+    (sym (checked .before .before .check-frame .ensures) ∙ ap outcomeOf (checked .checked .given .1))
 
 enum-told : tie.Need-enum-told
 enum-told c = search needs

@@ -1,4 +1,4 @@
--- `calls::repair::repair` meets its contract. Assumes nothing.
+-- `calls::repair::repair` meets its contract.
 use mathlib.Core.Path.{_≡_, refl, sym, ap, _∙_}
 use mathlib.Core.Bool.{true, false}
 use mathlib.Core.List.{List}
@@ -29,6 +29,32 @@ use borrow.Author.Needs.{needs}
 use Rattle.calls.proofs.repair.repair.Statement.{statement}
 use Rattle.calls.proofs.repair.repair.Tie as tie
 
+-- ---- the ways back
+
+abbrev start-of : tie.Else1 → tie.Start
+start-of c = c .before .before .before
+
+abbrev full-before : tie.Else2 → tie.Else1
+full-before c = c .before .before
+
+abbrev located-before : tie.After-enum-told → tie.Else2
+located-before c = c .before .before .before .before
+
+abbrev told-before : tie.After-same-sums → tie.After-enum-told
+told-before c = c .before .before .before .before
+
+abbrev compared-before : tie.Else3 → tie.After-same-sums
+compared-before c = c .before
+
+abbrev alike-before : tie.After-mend → tie.Else3
+alike-before c = c .before .before .before .before
+
+-- from where the frame has passed its tests, the start
+abbrev begun : tie.After-enum-told → tie.Start
+begun c = start-of (full-before (located-before c))
+
+-- ---- the needs
+
 counts-as-empty-requires : tie.Need-counts-as-empty-requires
 counts-as-empty-requires c κs = search needs
 
@@ -39,7 +65,7 @@ returns : tie.Need-returns
 returns c = λ a. refusal-outcome _ _ _ (c .refuse .ensures) refl ∙ repair-empty _ _ (sym (c .before .before .counts-as-empty .ensures) ∙ c .before .if1 .taken)
 
 -- the job does not count as empty
-full : (c : tie.Else1) → countsEmpty (c .before .before .before .args .j) ≡ false
+full : (c : tie.Else1) → countsEmpty (start-of c .args .j) ≡ false
 full c = sym (c .before .counts-as-empty .ensures) ∙ c .if1 .left
 
 is-located-requires : tie.Need-is-located-requires
@@ -53,7 +79,7 @@ returns-2 c =
     λ a. refusal-outcome _ _ _ (c .refuse2 .ensures) refl
     ∙ repair-unlocated _ _ (full (c .before .before .before)) (sym (c .before .before .is-located .ensures) ∙ not-true _ (c .before .if2 .taken))
 
-located : (c : tie.Else2) → isLocatedPhase (c .before .before .before .before .before .args .j .phase) ≡ true
+located : (c : tie.Else2) → isLocatedPhase (start-of (full-before c) .args .j .phase) ≡ true
 located c = sym (c .before .is-located .ensures) ∙ not-false _ (c .if2 .left)
 
 check-frame-requires : tie.Need-check-frame-requires
@@ -70,26 +96,29 @@ same-length c = search needs
 
 returns-3 : tie.Need-returns-3
 returns-3 c =
+    let here = c .before .before .before .before .before .before in
     λ a. refusal-outcome _ _ _ (c .refuse3 .ensures) refl
-    ∙ repair-refused _ _ (full (c .before .before .before .before .before .before .before .before)) (located (c .before .before .before .before .before .before)) _ (sym (c .before .before .before .before .check-frame .ensures) ∙ ap outcomeOf (c .before .before .checked .given .1))
+    ∙ repair-refused _ _ (full (full-before here)) (located here) _
+    (sym (c .before .before .before .before .check-frame .ensures) ∙ ap outcomeOf (c .before .before .checked .given .1))
 
 enum-told : tie.Need-enum-told
 enum-told c = search needs
 
 -- the frame is well-formed
-passes : (c : tie.After-enum-told) → outcome (frameTests (c .before .before .before .before .before .before .before .before .before .args .j .shape) (now (c .before .before .before .before .before .before .before .before .before .args .frame))) ≡ passed
+passes : (c : tie.After-enum-told) → outcome (frameTests (begun c .args .j .shape) (now (begun c .args .frame))) ≡ passed
 passes c = sym (c .before .before .check-frame .ensures) ∙ ap outcomeOf (c .enum-told .given .1)
 
 frame-sums-requires : tie.Need-frame-sums-requires
-frame-sums-requires c κs = (has-shape _ (full (c .before .before .before .before .before .before .before)), passed-size _ _ (passes (c .before)))
+frame-sums-requires c κs = (has-shape _ (full (full-before (located-before (c .before)))), passed-size _ _ (passes (c .before)))
 
 same-sums-requires : tie.Need-same-sums-requires
 same-sums-requires c κs = search needs
 
 -- the sums are compared
 compared : (c : tie.After-same-sums) →
-    sameSums (heldSums (c .before .before .before .before .before .before .before .before .before .before .before .before .before .args .j .shape) (now (c .before .before .before .before .before .before .before .before .before .before .before .before .before .args .frame))) (c .before .before .before .before .before .before .before .before .before .before .before .before .before .args .sums .now) ≡ c .same-sums .result
-compared c = sym (c .same-sums .ensures ∙ ap (λ (l : List ℕ). sameSums l (c .before .before .before .before .before .before .before .before .before .before .before .before .before .args .sums .now)) (c .before .before .frame-sums .ensures))
+    let args = begun (told-before c) .args in
+    sameSums (heldSums (args .j .shape) (now (args .frame))) (args .sums .now) ≡ c .same-sums .result
+compared c = sym (c .same-sums .ensures ∙ ap (λ (l : List ℕ). sameSums l (begun (told-before c) .args .sums .now)) (c .before .before .frame-sums .ensures))
 
 refuse-requires-4 : tie.Need-refuse-requires-4
 refuse-requires-4 c κs = search needs
@@ -99,8 +128,10 @@ same-length-2 c = search needs
 
 returns-4 : tie.Need-returns-4
 returns-4 c =
+    let told = told-before (c .before .before) in
     λ a. refusal-outcome _ _ _ (c .refuse4 .ensures) refl
-    ∙ repair-differs _ _ (full (c .before .before .before .before .before .before .before .before .before .before .before .before)) (located (c .before .before .before .before .before .before .before .before .before .before)) (passes (c .before .before .before .before .before .before)) (compared (c .before .before) ∙ not-true _ (c .before .if3 .taken))
+    ∙ repair-differs _ _ (full (full-before (located-before told))) (located (located-before told)) (passes told)
+    (compared (c .before .before) ∙ not-true _ (c .before .if3 .taken))
 
 words : (c : tie.Start) → Sound (c .args .j .columns)
 words c = sound _ (search needs) (λ w. search needs)
@@ -112,8 +143,8 @@ mend-requires : tie.Need-mend-requires
 mend-requires c κs =
     let summed = c .before .before .before .before .before .before in
     let told = summed .before .before in
-    let nonempty = full (told .before .before .before .before .before .before) in
-    let marked = located-marked _ nonempty (located (told .before .before .before .before)) (words (told .before .before .before .before .before .before .before .before .before)) in
+    let nonempty = full (full-before (located-before told)) in
+    let marked = located-marked _ nonempty (located (located-before told)) (words (begun told)) in
     (has-shape _ nonempty, passed-size _ _ (passes told), passed-symbols _ _ (passes told), summed .frame-sums .ensures, marked .inside, marked .reach)
 
 length-of-requires : tie.Need-length-of-requires
@@ -128,9 +159,12 @@ same-length-3 c = search needs
 returns-5 : tie.Need-returns-5
 unfolding repaired
 returns-5 c =
-    let told = c .before .before .before .before .before .before .before .before .before .before .before .before .before in
-    λ a. mended-outcome (told .before .before .before .before .before .before .before .before .before .args .j) _ _ (c .mended .ensures) (c .before .length-of .ensures) (c .before .before .before .before .mend .ensures)
-    ∙ repair-mends _ _ (full (told .before .before .before .before .before .before)) (located (told .before .before .before .before)) (passes told) (compared (c .before .before .before .before .before .before .before .before .before) ∙ not-false _ (c .before .before .before .before .before .before .before .before .if3 .left))
+    let mend = c .before .before .before .before in
+    let alike = alike-before mend in
+    let told = told-before (compared-before alike) in
+    λ a. mended-outcome (begun told .args .j) _ _ (c .mended .ensures) (c .before .length-of .ensures) (mend .mend .ensures)
+    ∙ repair-mends _ _ (full (full-before (located-before told))) (located (located-before told)) (passes told)
+    (compared (compared-before alike) ∙ not-false _ (alike .if3 .left))
 
 pub repair-spec : {M : Type 1} → statement M
 repair-spec =

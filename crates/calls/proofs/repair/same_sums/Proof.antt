@@ -49,7 +49,8 @@ loop-again c =
     let at = inside .before in
     let start = at .before in
     let test = agree (start .args .a .now) (start .args .b .now) in
-    ⊎-elim (λ w. tested-fail 512 test (at .loop .k) (at .loop .same) (at .loop .inv) (inside .loop-test .taken) (c .if1 .same) (w .1) (ne-eqb _ _ (w .0 .taken)))
+    ⊎-elim
+    (λ w. tested-fail 512 test (at .loop .k) (at .loop .same) (at .loop .inv) (inside .loop-test .taken) (c .if1 .same) (w .1) (ne-eqb _ _ (w .0 .taken)))
     (λ w. tested-pass 512 test (at .loop .k) (at .loop .same) (at .loop .inv) (inside .loop-test .taken) (c .if1 .same) (w .1) (eq-eqb _ _ (w .0 .left)))
     (c .if1 .came)
 

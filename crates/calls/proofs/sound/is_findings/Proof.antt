@@ -29,7 +29,8 @@ returns-4 c =
     let size = c .before in
     let marks = size .before .before in
     c .rows-reach .ensures
-    ∙ sym (reach-left _ _ _ _ (not-false _ (marks .before .before .if1 .left)) (sym (marks .before .marks-below .ensures) ∙ not-false _ (marks .if2 .left)) (sym (size .before .size .ensures) ∙ size .if3 .left))
+    ∙ sym (reach-left _ _ _ _ (not-false _ (marks .before .before .if1 .left))
+    (sym (marks .before .marks-below .ensures) ∙ not-false _ (marks .if2 .left)) (sym (size .before .size .ensures) ∙ size .if3 .left))
 
 pub is-findings-spec : {M : Type 1} → statement M
 is-findings-spec =

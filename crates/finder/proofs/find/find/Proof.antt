@@ -1,4 +1,4 @@
--- `find` answers and leaves what the definitions say. Assumes nothing.
+-- `find` answers and leaves what the definitions say.
 use mathlib.Core.Path.{sym, ap, _∙_}
 use borrow.Author.Needs.{needs}
 use Rattle.refusal.specs.Outcome.{outcomeOf}
@@ -20,8 +20,10 @@ synthesize-requires c κs = sym (c .before .before .before .check .ensures) ∙ 
 
 returns : tie.Need-returns
 returns c =
-    let args = c .before .before .before .before .before .before .before .args in
-    refuses (args .p) (args .lengths .now) (args .symbols .now) (args .taps .now) _ (sym (c .before .before .before .check .ensures) ∙ ap outcomeOf (c .before .checked .given .1))
+    let checked = c .before .before .before in
+    let args = checked .before .before .before .before .args in
+    refuses (args .p) (args .lengths .now) (args .symbols .now) (args .taps .now) _
+    (sym (checked .check .ensures) ∙ ap outcomeOf (c .before .checked .given .1))
 
 same-length : tie.Need-same-length
 same-length c = search needs

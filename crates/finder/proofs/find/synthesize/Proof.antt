@@ -1,4 +1,4 @@
--- `synthesize` answers and leaves the register that Algorithm 4 finds. Assumes nothing.
+-- `synthesize` answers and leaves the register that Algorithm 4 finds.
 use Prim.Native.Nat.{_+_, _-_}
 use native.Mathlib.Omega.{arith}
 use borrow.Author.Needs.{needs}
@@ -7,6 +7,19 @@ use Rattle.finder.proofs.Starting.{reached-start}
 use Rattle.finder.proofs.Synthesis.{sortable, running, size-within, taps-room, buffer-room, finds}
 use Rattle.finder.proofs.find.synthesize.Statement.{statement}
 use Rattle.finder.proofs.find.synthesize.Tie as tie
+
+-- ---- the ways back
+
+abbrev start-of : tie.After-by-length → tie.Start
+start-of c = c .before .before .before .before .before .before
+
+abbrev sorted-before : tie.After-rounds → tie.After-by-length
+sorted-before c = c .before .before .before .before
+
+abbrev ran-before : tie.After-copy → tie.After-rounds
+ran-before c = c .before .before .before .before
+
+-- ---- the needs
 
 wide-reciprocal-requires : tie.Need-wide-reciprocal-requires
 wide-reciprocal-requires c κs = omega (arith, accepted _ _ _ _ (c .before .before .before .pre) .prime .two-or-more)
@@ -24,24 +37,21 @@ array-write-sigma c = search needs
 
 start-requires : tie.Need-start-requires
 start-requires c κs =
-    let sorted = c in
-    let at = sorted .before .before .before .before .before .before in
-    let r = running (accepted _ _ _ _ (at .pre)) (sorted .before .longest .ensures) (sorted .by-length .ensures) in
+    let r = running (accepted _ _ _ _ (start-of c .pre)) (c .before .longest .ensures) (c .by-length .ensures) in
     (r .longest, r .count, r .shorter)
 
 rounds-requires : tie.Need-rounds-requires
 rounds-requires c κs =
     let sorted = c .before .before .before in
-    let at = sorted .before .before .before .before .before .before in
-    let r = running (accepted _ _ _ _ (at .pre)) (sorted .before .longest .ensures) (sorted .by-length .ensures) in
+    let r = running (accepted _ _ _ _ (start-of sorted .pre)) (sorted .before .longest .ensures) (sorted .by-length .ensures) in
     (r, (reached-start r (c .before .before .start .ensures), sorted .before .before .wide-reciprocal .ensures))
 
 add-e : tie.Need-add-e
 add-e c =
-    let sorted = c .before .before .before .before in
-    let at = sorted .before .before .before .before .before .before in
-    let size = size-within (accepted _ _ _ _ (at .pre)) (sorted .before .longest .ensures) (sorted .by-length .ensures) (c .rounds .ensures) in
-    omega (arith, running (accepted _ _ _ _ (at .pre)) (sorted .before .longest .ensures) (sorted .by-length .ensures) .longest)
+    let sorted = sorted-before c in
+    let taken = accepted _ _ _ _ (start-of sorted .pre) in
+    let size = size-within taken (sorted .before .longest .ensures) (sorted .by-length .ensures) (c .rounds .ensures) in
+    omega (arith, running taken (sorted .before .longest .ensures) (sorted .by-length .ensures) .longest)
 
 sub-copy : tie.Need-sub-copy
 sub-copy c = search needs
@@ -51,9 +61,8 @@ part-copy-start c = search needs
 
 part-copy-end : tie.Need-part-copy-end
 part-copy-end c =
-    let sorted = c .before .before .before .before in
-    let at = sorted .before .before .before .before .before .before in
-    buffer-room (accepted _ _ _ _ (at .pre)) (sorted .before .longest .ensures) (sorted .by-length .ensures) (c .rounds .ensures)
+    let sorted = sorted-before c in
+    buffer-room (accepted _ _ _ _ (start-of sorted .pre)) (sorted .before .longest .ensures) (sorted .by-length .ensures) (c .rounds .ensures)
 
 sub-copy-2 : tie.Need-sub-copy-2
 sub-copy-2 c = search needs
@@ -63,19 +72,20 @@ part-copy-start-2 c = search needs
 
 part-copy-end-2 : tie.Need-part-copy-end-2
 part-copy-end-2 c =
-    let sorted = c .before .before .before .before .before .before in
-    let at = sorted .before .before .before .before .before .before in
-    taps-room (accepted _ _ _ _ (at .pre)) (sorted .before .longest .ensures) (sorted .by-length .ensures) (c .before .before .rounds .ensures)
+    let ran = c .before .before in
+    let sorted = sorted-before ran in
+    taps-room (accepted _ _ _ _ (start-of sorted .pre)) (sorted .before .longest .ensures) (sorted .by-length .ensures) (ran .rounds .ensures)
 
 copy-requires : tie.Need-copy-requires
 copy-requires c κs = search needs
 
 alone-requires : tie.Need-alone-requires
 alone-requires c κs =
-    let sorted = c .before .before .before .before .before .before .before .before .before .before in
-    let at = sorted .before .before .before .before .before .before in
-    let r = running (accepted _ _ _ _ (at .pre)) (sorted .before .longest .ensures) (sorted .by-length .ensures) in
-    let size = size-within (accepted _ _ _ _ (at .pre)) (sorted .before .longest .ensures) (sorted .by-length .ensures) (c .before .before .before .before .before .before .rounds .ensures) in
+    let ran = ran-before (c .before .before) in
+    let sorted = sorted-before ran in
+    let taken = accepted _ _ _ _ (start-of sorted .pre) in
+    let r = running taken (sorted .before .longest .ensures) (sorted .by-length .ensures) in
+    let size = size-within taken (sorted .before .longest .ensures) (sorted .by-length .ensures) (ran .rounds .ensures) in
     (r .longest, r .count, size, r .shorter)
 
 same-length : tie.Need-same-length
@@ -83,11 +93,12 @@ same-length c = search needs
 
 returns : tie.Need-returns
 returns c =
-    let sorted = c .before .before .before .before .before .before .before .before .before .before .before in
-    let at = sorted .before .before .before .before .before .before in
-    let ran = c .before .before .before .before .before .before .before in
-    finds (accepted _ _ _ _ (at .pre)) (sorted .before .longest .ensures) (sorted .by-length .ensures) (ran .rounds .ensures) (at .pre)
-    (ran .rounds .result .length + 1 - 0) (c .alone .ensures) (omega arith) (c .before .before .before .copy .ensures)
+    let copied = c .before .before .before in
+    let ran = ran-before copied in
+    let sorted = sorted-before ran in
+    let pre = start-of sorted .pre in
+    finds (accepted _ _ _ _ pre) (sorted .before .longest .ensures) (sorted .by-length .ensures) (ran .rounds .ensures) pre
+    (ran .rounds .result .length + 1 - 0) (c .alone .ensures) (omega arith) (copied .copy .ensures)
 
 pub synthesize-spec : {M : Type 1} → statement M
 synthesize-spec =

@@ -66,9 +66,10 @@ add-if1-2 c =
 
 returns : tie.Need-returns Inv-loop μ-loop
 returns c =
-    let at = c .before .before .before .before .before .before .loop in
-    let args = c .before .before .before .before .before .before .before .args in
-    let pre = c .before .before .before .before .before .before .before .pre in
+    let looped = c .before .before .before .before .before .before in
+    let at = looped .loop in
+    let args = looped .before .args in
+    let pre = looped .before .pre in
     mark-fails (args .longest) (args .t2) (args .t4) (at .h) _ (pre .2) (pre .3 (at .h) (search needs)) (c .before .smaller .ensures)
     (args .count) (search needs) (c .if1 .taken)
 
@@ -80,9 +81,10 @@ loop-less c = search needs
 
 loop-again : tie.Need-loop-again Inv-loop μ-loop
 loop-again c =
-    let at = c .before .before .before .before .before .before .loop in
-    let args = c .before .before .before .before .before .before .before .args in
-    let pre = c .before .before .before .before .before .before .before .pre in (
+    let looped = c .before .before .before .before .before .before in
+    let at = looped .loop in
+    let args = looped .before .args in
+    let pre = looped .before .pre in (
       search needs,
       mark-more (args .longest) (args .t2) (args .t4) (at .h) _ (pre .2) (pre .3 (at .h) (search needs)) (c .before .smaller .ensures)
           (at .inv .1) (c .if1 .left),

@@ -1,4 +1,4 @@
--- `round` makes a round of Algorithm 4. The invariant: the sequences passed have had their step. Assumes nothing.
+-- `round` makes a round of Algorithm 4. The invariant: the sequences passed have had their step.
 use mathlib.Core.Logic.{⊎-elim}
 use Prim.Native.Nat.{_+_, _-_, _≤_}
 use native.Mathlib.Omega.{arith}
@@ -13,7 +13,8 @@ use Rattle.finder.proofs.rounds.round.Tie as tie
 
 abbrev Inv-loop : tie.InvT-loop
 Inv-loop p m longest symbols count n taps₀ saved₀ order state₀ h₀ taps saved state h =
-    (h ≤ count) × Reached p count (turn p longest (sequencesAt order count symbols) (n + 1) h (rounds p longest (sequencesAt order count symbols) n)) state taps saved
+    let ss = sequencesAt order count symbols in
+    (h ≤ count) × Reached p count (turn p longest ss (n + 1) h (rounds p longest ss n)) state taps saved
 
 abbrev μ-loop : tie.MeasureT-loop
 μ-loop p m longest symbols count n taps₀ saved₀ order state₀ h₀ taps saved state h = count - h
@@ -59,8 +60,9 @@ add-due c = search needs
 
 due-requires : tie.Need-due-requires Inv-loop μ-loop
 due-requires c κs =
-    let at = c .before .before .before .before .before .loop in
-    let pre = c .before .before .before .before .before .before .before .pre in
+    let looped = c .before .before .before .before .before in
+    let at = looped .loop in
+    let pre = looped .before .before .pre in
     let begun = ready (pre .0) (pre .1 .0) (search needs) (at .inv .1) in
     (summable begun (at .inv .1 .ended) (pre .1 .1 .1), in-reach begun (at .inv .1 .ended))
 
@@ -70,8 +72,9 @@ add-change c = search needs
 change-requires : tie.Need-change-requires Inv-loop μ-loop
 change-requires c κs =
     let computed = c .before .before .before in
-    let at = computed .before .before .before .before .before .before .loop in
-    let pre = computed .before .before .before .before .before .before .before .before .pre in
+    let looped = computed .before .before .before .before .before .before in
+    let at = looped .loop in
+    let pre = looped .before .before .pre in
     let begun = ready (pre .0) (pre .1 .0) (search needs) (at .inv .1) in
     (changeable begun (at .inv .1 .ended) (computed .due .ensures) (c .before .before .if1 .taken), at .inv .1 .ended)
 
@@ -83,10 +86,12 @@ loop-less c = search needs
 
 loop-again : tie.Need-loop-again Inv-loop μ-loop
 loop-again c =
-    let at = c .before .before .before .before .before .before .before .loop in
-    let pre = c .before .before .before .before .before .before .before .before .before .pre in
+    let computed = c .before in
+    let looped = computed .before .before .before .before .before .before in
+    let at = looped .loop in
+    let pre = looped .before .before .pre in
     let begun = ready (pre .0) (pre .1 .0) (search needs) (at .inv .1) in
-    let due = c .before .due .ensures in (
+    let due = computed .due .ensures in (
       search needs,
       stepped (pre .0) (pre .1 .0) (search needs) (at .inv .1)
           (⊎-elim

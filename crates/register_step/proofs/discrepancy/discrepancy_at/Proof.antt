@@ -46,16 +46,21 @@ shared-slice-read-wide c = search needs
 wide-requires-2 : tie.Need-wide-requires-2 Inv-loop μ-loop
 wide-requires-2 c κs = search needs
 
+-- the way back
+abbrev looped : tie.After-wide2 Inv-loop μ-loop → tie.At-loop Inv-loop μ-loop
+looped c = c .before .before .before .before .before
+
 -- the product that is added is at most p²
 added : (c : tie.After-wide2 Inv-loop μ-loop) →
-    let p = c .before .before .before .before .before .before .before .args .p in
+    let p = looped c .before .before .args .p in
     c .before .before .wide .result * c .wide2 .result ≤ p * p
 added c =
-    let at = c .before .before .before .before .before .before .before in
+    let inside = c .before .before .before .before in
+    let at = inside .before .before .before in
     product-below (c .before .before .wide .ensures) (c .wide2 .ensures) (at .pre .0 .residues _ (search needs)) (at .pre .0 .symbols _ (search needs))
 
 mul-sum : tie.Need-mul-sum Inv-loop μ-loop
-mul-sum c = record { fits = product-fits (c .before .before .before .before .before .before .before .pre .0 .modulus) (added c) }
+mul-sum c = record { fits = product-fits (looped c .before .before .pre .0 .modulus) (added c) }
 
 add-sum : tie.Need-add-sum Inv-loop μ-loop
 add-sum c =
@@ -70,8 +75,8 @@ loop-less c = search needs
 
 loop-again : tie.Need-loop-again Inv-loop μ-loop
 loop-again c =
-    let at = c .before .before .before .before .before .loop in
-    let args = c .before .before .before .before .before .before .before .args in (
+    let at = looped c .loop in
+    let args = looped c .before .before .args in (
       search needs,
       more-below (args .p) (at .i) (at .inv .1) (added c),
       total-more _ _ (at .inv .2)

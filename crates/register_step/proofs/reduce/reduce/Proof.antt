@@ -75,12 +75,14 @@ loop-less c = search needs
 loop-again : tie.Need-loop-again Inv-loop μ-loop
 loop-again c =
     let at = c .before .before .before .before .before in
-    (search needs, turn-reduces (at .before .before .pre) (at .loop .i) (omega arith) (at .loop .inv .1) (c .before .before .multiple .ensures .0) (c .difference .ensures .0))
+    let multiple = c .before .before .multiple .ensures .0 in
+    (search needs, turn-reduces (at .before .before .pre) (at .loop .i) (omega arith) (at .loop .inv .1) multiple (c .difference .ensures .0))
 
 returns : tie.Need-returns Inv-loop μ-loop
 returns c =
     let args = c .before .before .before .args in
-    reduced-all (args .p) 128 (args .taps .now) (args .q) (args .e) (block (args .h) (args .saved .now)) (c .before .loop .i) (suc (args .m)) (c .before .loop .inv .1) (omega arith)
+    let at = c .before .loop in
+    reduced-all (args .p) 128 (args .taps .now) (args .q) (args .e) (block (args .h) (args .saved .now)) (at .i) (suc (args .m)) (at .inv .1) (omega arith)
 
 pub reduce-spec : {M : Type 1} → statement M
 reduce-spec =

@@ -78,9 +78,10 @@ reduce-requires c κs =
 returns : tie.Need-returns
 unfolding stateOf
 returns c =
-    let at = start-of (c .before .before .before .before) in
+    let divided = c .before .before .before .before in
+    let at = start-of divided in
     let short = c .before .before .before .if1 .taken in (
-      stays (at .pre .0) (at .pre .1) (is-quotient (at .pre .0) (at .pre .1) (c .before .before .before .before .product .ensures .0)) (c .reduce .ensures) short,
+      stays (at .pre .0) (at .pre .1) (is-quotient (at .pre .0) (at .pre .1) (divided .product .ensures .0)) (c .reduce .ensures) short,
       saved-stays (at .pre .0) (at .pre .1) short,
     )
 

@@ -13,7 +13,8 @@ use Rattle.sequences.proofs.check.check.Tie as tie
 
 -- the tests after the first three, once these pass
 past-three : (c : tie.After-longest) →
-    let args = c .before .before .before .before .before .before .before .before .before .args in
+    let test1 = c .before .before .before .before .before in
+    let args = test1 .before .before .before .before .args in
     outcome (tests (args .p) (args .lengths .now) (args .symbols .now) (args .room)) ≡
     cond (ltb (args .room) (suc (c .longest .result))) (refused 8) (cond (not (isBelow (args .p) (args .symbols .now))) (refused 4) passed)
 unfolding tests
@@ -33,7 +34,9 @@ past-three c =
 
 -- the last test, once the others pass
 past-four : (c : tie.After-below) →
-    let args = c .before .before .before .before .before .before .before .before .before .before .before .args in
+    let test3 = c .before .before .before in
+    let test1 = test3 .before .before .before .before in
+    let args = test1 .before .before .before .before .args in
     outcome (tests (args .p) (args .lengths .now) (args .symbols .now) (args .room)) ≡ cond (not (c .below .result)) (refused 4) passed
 past-four c = past-three (c .before .before) ∙ rw (room-enough (c .before .if4 .left), ← c .below .ensures)
 
