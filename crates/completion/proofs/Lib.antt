@@ -1,10 +1,5 @@
 pub mod ColumnMending
-pub mod ColumnWeights
-pub mod Division
 pub mod MendedFrame
 pub mod MendedRow
-pub mod Quotient
-pub mod ReadForm
-pub mod ReadOff
 pub mod Reading
 pub mod RowMending

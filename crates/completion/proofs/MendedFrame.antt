@@ -18,7 +18,7 @@ use Rattle.field257.proofs.Members.{Below}
 use Rattle.frame.proofs.Rows.{cell-place, eachRow-row, length-eachRow, length-row, row-cell, row-end, same-frames}
 use Rattle.frame.proofs.Shapes.{shape-ranges}
 use Rattle.completion.specs.Mending.{mendedColumn}
-use Rattle.completion.proofs.ColumnWeights.{coefficientsOf}
+use Rattle.weights.proofs.ColumnWeights.{coefficientsOf}
 use Rattle.frame.proofs.HeldParts.{partOf, part-sums}
 use Rattle.completion.proofs.MendedRow.{mended-completed}
 use Rattle.completion.proofs.RowMending.{length-mendedCell, mendedBefore, mendedRow, mended-none, mended-more, mended-all}

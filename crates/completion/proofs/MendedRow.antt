@@ -30,9 +30,9 @@ use Rattle.field257.proofs.Members.{Below}
 use Rattle.lists.proofs.Joined.{tabulate-each}
 use Rattle.lists.proofs.Tabulated.{getD-tabulate, getD-tabulate-past, length-tabulate}
 use Rattle.completion.specs.Mending.{symbolRead}
-use Rattle.completion.specs.Weights.{coefficient}
-use Rattle.completion.proofs.ColumnWeights.{coefficientsOf}
-use Rattle.completion.proofs.ReadForm.{symbol-form}
+use Rattle.weights.specs.Weights.{coefficient}
+use Rattle.weights.proofs.ColumnWeights.{coefficientsOf}
+use Rattle.weights.proofs.ReadForm.{symbol-form}
 use Rattle.completion.proofs.RowMending.{mendedRow}
 open CRing R257 using (car, zero as 𝟘, add as _⊕_, neg, add-neg)
 

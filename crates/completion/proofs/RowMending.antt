@@ -15,7 +15,7 @@ use Rattle.lists.specs.Tabulate.{tabulate}
 use Rattle.lists.proofs.Filling.{by-entries, set-tabulate}
 use Rattle.lists.proofs.Tabulated.{getD-tabulate, length-tabulate, tabulate-ext, tabulate-getD}
 use Rattle.completion.specs.Mending.{mendedCell, symbolRead}
-use Rattle.completion.proofs.ColumnWeights.{coefficientsOf}
+use Rattle.weights.proofs.ColumnWeights.{coefficientsOf}
 use Rattle.columns.proofs.Passing.{passed, passed-none, not-yet, passed-here, passed-other, passed-all}
 
 -- ---- one cell

@@ -1,4 +1,3 @@
 // Mending a frame, or a row, at a set of columns, over the field of 257.
 pub mod mend;
 pub mod row;
-pub mod weights;

@@ -1,7 +1,6 @@
 // Mending a frame at a set of columns: each row is completed there. The rows share the coefficients, column after column.
 use crate::row::mend_cell;
 use crate::row::mend_row;
-use crate::weights::weigh;
 use columns::Columns;
 use columns::next;
 use columns::size;
@@ -9,6 +8,7 @@ use field257::locator::locator_polynomial;
 use field257::powers::powers;
 use field257::powers::wide;
 use frame::Shape;
+use weights::weigh;
 ghost use mathlib.Core.Path.{_≡_};
 ghost use mathlib.Core.Bool.{true};
 ghost use Prim.Native.Nat.{ℕ, _*_, _≤_, _<_};

@@ -1,7 +1,6 @@
 // Mending a row at a set of columns: the row is completed there. The symbols are read off the check sums that it has as it
 // was received, which are at hand, and added to its cells; so no row is summed again. Column after column, so that the
 // coefficients of one column alone are kept.
-use crate::weights::weigh;
 use columns::Columns;
 use columns::next;
 use columns::size;
@@ -9,6 +8,7 @@ use field257::locator::locator_polynomial;
 use field257::powers::powers;
 use field257::powers::wide;
 use field257::values::times;
+use weights::weigh;
 ghost use mathlib.Core.Path.{_≡_};
 ghost use mathlib.Core.Bool.{true};
 ghost use Prim.Native.Nat.{ℕ, _+_, _%_, _≤_, _<_};

@@ -8,7 +8,7 @@ use borrow.Rule.Slice.PartMut.{mid-len}
 use Rattle.columns.proofs.Walk.{walk-rises}
 use Rattle.frame.proofs.HeldSums.{held-length, held-below}
 use Rattle.frame.proofs.Shapes.{shape-ranges}
-use Rattle.completion.proofs.ColumnWeights.{Weighed, weighed-column}
+use Rattle.weights.proofs.ColumnWeights.{Weighed, weighed-column}
 use Rattle.completion.proofs.MendedFrame.{FrameMending, mending-none, mending-more, mending-all}
 use Rattle.frame.proofs.RowAlone.{row-alone, alone-completed}
 use borrow.Author.Needs.{needs}

@@ -5,7 +5,7 @@ use native.Mathlib.Omega.{arith}
 use lib.ListN.{length}
 use borrow.Rule.Slice.PartMut.{mid-len}
 use Rattle.columns.proofs.Walk.{walk-rises}
-use Rattle.completion.proofs.ColumnWeights.{Weighed, weighed-column}
+use Rattle.weights.proofs.ColumnWeights.{Weighed, weighed-column}
 use Rattle.completion.proofs.MendedRow.{mended-completed, sums-below}
 use Rattle.completion.proofs.RowMending.{Mending, mending-none, mending-more, mending-all}
 use borrow.Author.Needs.{needs}

@@ -17,7 +17,7 @@ use Rattle.field.proofs.Remainders.{mod-mul-mod}
 use Rattle.lists.proofs.Totals.{total-ext, total-mod, total-mul}
 use Rattle.frame.proofs.ClosedForm.{otherColumns, symbolFor}
 use Rattle.field257.proofs.Field257.{R257, res257, res-tells}
-use Rattle.completion.specs.Weights.{coefficient, factorOf, readOff}
+use Rattle.weights.specs.Weights.{coefficient, factorOf, readOff}
 open CRing R257 using (zero as 𝟘, add as _⊕_, mul as _⊗_, neg)
 
 infixl 60 _⊕_

@@ -1,14 +1,14 @@
--- `completion::weights::factor` meets its contract. Assumes nothing.
+-- `weights::factor` meets its contract. Assumes nothing.
 use mathlib.Core.Path.{ap, _∙_}
 use Prim.Native.Nat.{_≤_}
 use native.Mathlib.Nat.{mul-le-mul}
 use native.Mathlib.Omega.{arith}
 use lib.ListN.{length}
 use Rattle.field.specs.Residue.{times}
-use Rattle.completion.proofs.ReadOff.{factor-is}
+use Rattle.weights.proofs.ReadOff.{factor-is}
 use borrow.Author.Needs.{needs}
-use Rattle.completion.proofs.weights.factor.Statement.{statement}
-use Rattle.completion.proofs.weights.factor.Tie as tie
+use Rattle.weights.proofs.factor.Statement.{statement}
+use Rattle.weights.proofs.factor.Tie as tie
 
 sub-value-at : tie.Need-sub-value-at
 sub-value-at c = search needs

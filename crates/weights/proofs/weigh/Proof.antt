@@ -1,15 +1,15 @@
--- `completion::weights::weigh` meets its contract. Assumes nothing.
+-- `weights::weigh` meets its contract. Assumes nothing.
 use mathlib.Core.Path.{ap, _∙_}
 use Prim.Native.Nat.{ℕ, suc}
 use lib.ListN.{length}
 use Rattle.field257.specs.Powers.{locatorOf}
 use Rattle.lists.specs.Tabulate.{tabulate}
 use Rattle.lists.proofs.Tabulated.{length-tabulate}
-use Rattle.completion.specs.Weights.{carried}
-use Rattle.completion.proofs.ReadOff.{scaled-is}
+use Rattle.weights.specs.Weights.{carried}
+use Rattle.weights.proofs.ReadOff.{scaled-is}
 use borrow.Author.Needs.{needs}
-use Rattle.completion.proofs.weights.weigh.Statement.{statement}
-use Rattle.completion.proofs.weights.weigh.Tie as tie
+use Rattle.weights.proofs.weigh.Statement.{statement}
+use Rattle.weights.proofs.weigh.Tie as tie
 
 entry-requires : tie.Need-entry-requires
 entry-requires c κs = search needs

@@ -9,7 +9,7 @@ ghost use mathlib.Core.Path.{_≡_};
 ghost use Prim.Native.Nat.{suc, _≤_, _<_};
 ghost use lib.ListN.{length, getD};
 ghost use Rattle.field257.specs.Table.{table};
-ghost use Rattle.completion.specs.Weights.{carried, factorOf, readOff};
+ghost use Rattle.weights.specs.Weights.{carried, factorOf, readOff};
 ghost use Rattle.field.specs.Residue.{times};
 ghost use Rattle.field257.specs.Powers.{locatorOf};
 ghost use Rattle.lists.specs.Tabulate.{tabulate};

@@ -13,8 +13,8 @@ use Rattle.field257.specs.Powers.{locatorOf}
 use Rattle.lists.specs.Tabulate.{tabulate}
 use Rattle.lists.proofs.Parts.{length-replaced, part-replaced}
 use Rattle.lists.proofs.Tabulated.{length-tabulate}
-use Rattle.completion.specs.Weights.{carried, coefficient, readOff}
-use Rattle.completion.proofs.Quotient.{quotient-others}
+use Rattle.weights.specs.Weights.{carried, coefficient, readOff}
+use Rattle.weights.proofs.Quotient.{quotient-others}
 
 abbrev pub coefficientsOf : Columns → (i : ℕ) → List ℕ
 coefficientsOf J i = tabulate (length (members J)) (coefficient J i)

@@ -1,4 +1,4 @@
--- `completion::weights::scale` meets its contract. Assumes nothing.
+-- `weights::scale` meets its contract. Assumes nothing.
 use mathlib.Core.Path.{ap, _∙_}
 use Prim.Native.Nat.{ℕ, _-_, _*_, _%_, _≤_}
 use native.Mathlib.Nat.{mul-le-mul}
@@ -7,8 +7,8 @@ use lib.ListN.{length, getD}
 use Rattle.field.specs.Residue.{times}
 use Rattle.lists.proofs.Filling.{Filled, filled-none, filled-more, filled-rest, filled-all}
 use borrow.Author.Needs.{needs}
-use Rattle.completion.proofs.weights.scale.Statement.{statement}
-use Rattle.completion.proofs.weights.scale.Tie as tie
+use Rattle.weights.proofs.scale.Statement.{statement}
+use Rattle.weights.proofs.scale.Tie as tie
 
 abbrev Inv-loop : tie.InvT-loop
 Inv-loop row₀ c k₀ row k = Filled (λ k. times 257 (getD row₀ k 0) c) row₀ k row

@@ -1,12 +1,12 @@
--- `completion::weights::divide` meets its contract. Assumes nothing.
+-- `weights::divide` meets its contract. Assumes nothing.
 use Prim.Native.Nat.{_-_}
 use native.Mathlib.Omega.{arith}
 use lib.ListN.{length}
 use Rattle.lists.proofs.Filling.{filled-all}
-use Rattle.completion.proofs.Division.{Divided, divided-none, divided-more, carry-fits}
+use Rattle.weights.proofs.Division.{Divided, divided-none, divided-more, carry-fits}
 use borrow.Author.Needs.{needs}
-use Rattle.completion.proofs.weights.divide.Statement.{statement}
-use Rattle.completion.proofs.weights.divide.Tie as tie
+use Rattle.weights.proofs.divide.Statement.{statement}
+use Rattle.weights.proofs.divide.Tie as tie
 
 abbrev Inv-loop : tie.InvT-loop
 Inv-loop f x quotient₀ carry₀ k₀ quotient carry k = Divided f x quotient₀ k carry quotient

@@ -23,8 +23,8 @@ use Rattle.field257.proofs.Members.{members-distinct}
 use Rattle.frame.proofs.Others.{without-one}
 use Rattle.lists.specs.Tabulate.{tabulate}
 use Rattle.lists.proofs.Filling.{by-entries}
-use Rattle.completion.specs.Weights.{carried}
-use Rattle.completion.proofs.Division.{carried-zero, carried-suc}
+use Rattle.weights.specs.Weights.{carried}
+use Rattle.weights.proofs.Division.{carried-zero, carried-suc}
 use Rattle.field257.proofs.LocatorBuilding.{polynomial-below}
 use Rattle.field257.proofs.LocatorOrder.{locator-middle}
 open CRing R257 using (car, add as _⊕_, mul as _⊗_, neg)

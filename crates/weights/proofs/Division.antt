@@ -8,7 +8,7 @@ use native.Mathlib.Omega.{arith}
 use lib.Dec.{lit<}
 use lib.ListN.{length, getD, set}
 use Rattle.lists.proofs.Filling.{Filled, filled-none, filled-more}
-use Rattle.completion.specs.Weights.{carried}
+use Rattle.weights.specs.Weights.{carried}
 
 pub carried-zero : (f : List ℕ) (x : ℕ) → carried f x 0 ≡ 0
 unfolding carried

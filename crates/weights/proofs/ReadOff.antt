@@ -9,7 +9,7 @@ use Rattle.field257.specs.Powers.{powerOf3}
 use Rattle.field257.proofs.Locators.{inverse-power}
 use Rattle.frame.proofs.Weights.{weight-power}
 use Rattle.lists.specs.Tabulate.{tabulate}
-use Rattle.completion.specs.Weights.{factorOf, readOff}
+use Rattle.weights.specs.Weights.{factorOf, readOff}
 
 pub factor-is : (m i : ℕ) (others : List ℕ) (there weight part unit factor : ℕ) → i ≤ 256 → there ≡ value 257 others (powerOf3 (256 - i))
     → weight ≡ powerOf3 ((i * m) % 256) → part ≡ times 257 weight there → unit ≡ inverse 257 part → factor ≡ minus 257 0 unit

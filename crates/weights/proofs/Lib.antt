@@ -1,0 +1,5 @@
+pub mod ColumnWeights
+pub mod Division
+pub mod Quotient
+pub mod ReadForm
+pub mod ReadOff
