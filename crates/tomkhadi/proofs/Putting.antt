@@ -86,8 +86,8 @@ module _ (buffer : List ℕ) (end : ℕ) (more : Bool) (first : ℕ) where
           drop-take n (end - start) (drop start buffer) (omega arith) (omega (arith, length-drop start buffer)) ∙
           ap₂ take (let e : end - start - n ≡ end - (start + n) = omega arith in e) (drop-drop n start buffer)
 
-      pub putting-more : 0 < n → (after : List ℕ) (end′ : ℕ) → Written out used (lineOf (take (start + n - start) (drop start buffer))) after end′ → end′ ≤ length out
-          → Putting after (start + n) end′
+      pub putting-more : 0 < n → (after : List ℕ) (end′ : ℕ) → Written out used (lineOf (take (start + n - start) (drop start buffer))) after end′
+          → end′ ≤ length out → Putting after (start + n) end′
       putting-more some after end′ w room =
           record {
             after = let a = now .after in omega arith;
