@@ -1,6 +1,6 @@
 -- Records and lines as they are owed: the line of a record is that of the first refusal of its whole order, and where there is none it shows what the call
 -- answered.
-use mathlib.Core.Path.{_≡_, refl, sym, ap, subst, _∙_}
+use mathlib.Core.Path.{_≡_, refl, sym, ap, subst, subst⁻¹, _∙_}
 use mathlib.Core.Logic.{_⊎_, inl, inr, _↔_}
 use mathlib.Core.Bool.{Bool, true, false, false≢true}
 use mathlib.Core.List.{List, [], _∷_, _++_, append-nil}
@@ -39,10 +39,11 @@ use Rattle.refusal.specs.Order.{Reason, First, None}
 use Rattle.register.specs.Algorithm4.{found, foundAlone}
 use Rattle.register.specs.EachRound.{IsShortest}
 use Rattle.register.specs.Sequences.{longest, split}
-use Rattle.lines.specs.Demands.{kindOf, OfOneRecord, Bad, UnknownKind, badReason, Line, Records}
+use Rattle.lines.specs.Demands.{kindOf, OfOneRecord, Bad, UnknownKind, badReason, Line, IsLine, Records}
 use Rattle.lines.specs.Demands.{lengthsOf, sequenceSymbols, registerReasonsOf, ShowsRegister}
 use Rattle.lines.specs.Demands.{checkCountsOf, frameSymbols, frameReasonsOf, ShowsColumns}
 use Rattle.lines.proofs.Firsts.{first-same, first-or-none, first-before, first-after, none-append, none-in-turn, Below, first-below}
+use Rattle.lines.proofs.Newlines.{line-is-one, refusal-is-one}
 use Rattle.lines.proofs.Numbers.{tells-number, other-letter}
 use Rattle.lines.proofs.Parsed.{SaysSequences, SaysFrame, Told, told, sequences-not-bad, frame-not-bad, bad-exactly}
 
@@ -73,6 +74,10 @@ module _ (reasons : List Reason) (text : List ℕ) (Shown : Type 0) (below : Bel
 after-reasons : (rs qs : List Reason) (text : List ℕ) (Shown : Type 0) → None rs → Either qs text Shown → Either (rs ++ qs) text Shown
 after-reasons rs qs text Shown n (inl (m, f, t)) = inl (m, first-after rs qs m n f, t)
 after-reasons rs qs text Shown n (inr (l, s)) = inr (none-append rs qs n l, s)
+
+one-of-either : (rs : List Reason) (text : List ℕ) (Shown : Type 0) → (Shown → IsLine text) → Either rs text Shown → IsLine text
+one-of-either rs text Shown shows (inl (m, f, t)) = subst⁻¹ IsLine t (refusal-is-one m)
+one-of-either rs text Shown shows (inr (n, s)) = shows s
 
 bad-said : (r : List ℕ) → recordOf r ≡ bad → lineOf r ≡ refusalLine 9
 unfolding lineOf
@@ -253,8 +258,23 @@ module _ (r : List ℕ) (one : OfOneRecord r) where
       (omega arith, (omega arith, (omega arith, (omega arith, (omega arith, (omega arith, (omega arith, (omega arith, (omega arith, tt)))))))))
       (λ s k e. other-letter 70 _ k (λ d. let z : ⊥ = omega arith in z) (sym (s .written) ∙ e)) (frames-either kind (told r one))
 
+  one-line : IsLine (lineOf r)
+  unfolding lineOf
+  one-line = pick (told r one)
+    where
+      pick : Told r → IsLine (lineOf r)
+      pick (inl (b, e)) = subst⁻¹ IsLine (bad-said r e) (refusal-is-one 9)
+      pick (inr (inl g)) =
+          one-of-either (Finder.reasons (fieldOf r 2) (lengthsOf r) (sequenceSymbols r) 129) (lineOf r) (ShowsRegister _ _ _ (lineOf r))
+          (λ s. subst⁻¹ IsLine (s .written) (line-is-one 82 _ (λ e. let z : ⊥ = omega arith in z)))
+          (found-either (fieldOf r 2) (lengthsOf r) (sequenceSymbols r) (lineOf r) (ap outputOf (g .says)))
+      pick (inr (inr g)) =
+          one-of-either afterBad (lineOf r) (ShowsColumns _ _ _ (lineOf r))
+          (λ s. subst⁻¹ IsLine (s .written) (line-is-one 70 _ (λ e. let z : ⊥ = omega arith in z)))
+          (frame-either (fieldOf r 3) (checkCountsOf r) (frameSymbols r) (lineOf r) (ap outputOf (g .says)))
+
   unknown : UnknownKind r → lineOf r ≡ refusalLine 9
   unknown u = bad-said r (bad-exactly r one .1 (inr (inr (inl u))))
 
 pub records : Records
-records = record { bad-exactly = bad-exactly; unknown = unknown; registers = registers; frames = frames }
+records = record { one-line = one-line; bad-exactly = bad-exactly; unknown = unknown; registers = registers; frames = frames }

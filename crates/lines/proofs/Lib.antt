@@ -2,6 +2,7 @@ pub mod Demands
 pub mod Examples
 pub mod Firsts
 pub mod NextLine
+pub mod Newlines
 pub mod Numbers
 pub mod Parsed
 pub mod Runs

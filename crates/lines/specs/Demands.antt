@@ -116,12 +116,21 @@ pub record ShowsColumns (n : ℕ) (checks symbols text : List ℕ) : Type 0 wher
 
 -- ---- the line
 
--- `E k` exactly where k is the first of the reasons that holds, and what is shown where none holds
+-- `E k` exactly where k is the first of the reasons that holds, for every k of up to 20 digits, and what is shown where none holds
 pub record Line (reasons : List Reason) (text : List ℕ) (Shown : Type 0) : Type 0 where
   pub refused : (k : ℕ) → k < 10 ^ 20 → (text ≡ refusalLine k) ↔ First k reasons
   pub shown : None reasons → Shown
 
+-- one line: a newline at its end, and no other
+abbrev pub NoNewline : List ℕ → Type 0
+NoNewline [] = Unit {0}
+NoNewline (b ∷ bs) = (b ≡ 10 → ⊥) × NoNewline bs
+
+abbrev pub IsLine : List ℕ → Type 0
+IsLine text = (body : List ℕ) × (text ≡ body ++ (10 ∷ [])) × NoNewline body
+
 pub record Records : Type 0 where
+  pub one-line : (r : List ℕ) → OfOneRecord r → IsLine (lineOf r)
   pub bad-exactly : (r : List ℕ) → OfOneRecord r → (recordOf r ≡ bad) ↔ Bad r
   pub unknown : (r : List ℕ) → OfOneRecord r → UnknownKind r → lineOf r ≡ refusalLine 9
   pub registers : (r : List ℕ) → OfOneRecord r → kindOf r ≡ 1

@@ -7,9 +7,9 @@ use Prim.Native.Nat.{ℕ}
 use Rattle.lists.specs.Tabulate.{joined}
 use Rattle.lines.specs.Lines.{restOf, linesOf, textOf}
 
--- One turn. The bytes x are left of the turns before it, and more may come or not; the bytes c come, the text t is handed over, and the bytes y are left; then
--- more may come still, or not. What is to be written is what is handed over, and then what is to be written for the bytes that are left; none of a record that is
--- not all there is lost while more may come; and nothing comes after the end.
+-- One turn. The bytes x are left of the turns before it, and more may come or not; the bytes c come, the text t is handed over, and the bytes y are left;
+-- then more may come still, or not. What is to be written is what is handed over, and then what is to be written for the bytes that are left; none of a record
+-- that is not all there is lost while more may come; and nothing comes after the end.
 pub record Turn (x : List ℕ) (more : Bool) (c t y : List ℕ) (still : Bool) : Type 0 where
   pub lines : textOf still (x ++ c) ≡ t ++ textOf still y
   pub rest : still ≡ true → restOf (x ++ c) ≡ restOf y

@@ -6,7 +6,7 @@ use mathlib.Core.List.{List, [], _∷_, _++_, append-assoc}
 use Prim.Native.Nat.{ℕ, _+_, _-_, _≤_, _<_}
 use native.Mathlib.Omega.{arith}
 use lib.Dec.{leb}
-use lib.ListN.{length, take, drop, length-drop, take-append-drop}
+use lib.ListN.{length, take, drop, length-take, length-drop, take-append-drop, drop-of-length-le}
 use lib.Seq.{length-take-le, take-take, take-add, drop-drop, drop-at}
 use borrow.Author.Tests.{le-leb, lt-leb}
 use Rattle.record.specs.Line.{lineOf}
@@ -86,8 +86,8 @@ module _ (buffer : List ℕ) (end : ℕ) (more : Bool) (first : ℕ) where
           drop-take n (end - start) (drop start buffer) (omega arith) (omega (arith, length-drop start buffer)) ∙
           ap₂ take (let e : end - start - n ≡ end - (start + n) = omega arith in e) (drop-drop n start buffer)
 
-      pub putting-more : 0 < n → (after : List ℕ) (end′ : ℕ) → Written out used (lineOf (take (start + n - start) (drop start buffer))) after end′ → end′ ≤ length out
-          → Putting after (start + n) end′
+      pub putting-more : 0 < n → (after : List ℕ) (end′ : ℕ) → Written out used (lineOf (take (start + n - start) (drop start buffer))) after end′
+          → end′ ≤ length out → Putting after (start + n) end′
       putting-more some after end′ w room =
           record {
             after = let a = now .after in omega arith;
@@ -132,11 +132,20 @@ module _ (before : List ℕ) (w : Window) (after : List ℕ) (full : Window) (f 
         came = drop (w .end - w .start) (unused full after);
         used = put .used;
         fits = l .fits;
-        lines = ap (textOf (full .more)) joins ∙ l .lines;
-        rest = λ t. ap restOf joins ∙ l .rest t;
+        turn =
+            record {
+              lines = ap (textOf (full .more)) joins ∙ l .lines;
+              rest = λ t. ap restOf joins ∙ l .rest t;
+              ended = λ e. (ap (drop (w .end - w .start)) (f .ended e .1) ∙ none-left, f .ended e .0);
+            };
         stops = l .stops;
       }
     where
+      none-left : drop (w .end - w .start) (unused w before) ≡ []
+      none-left =
+          let few : length (unused w before) ≤ w .end - w .start = omega (arith, length-take (w .end - w .start) (drop (w .start) before)) in
+          drop-of-length-le (unused w before) few
+
       joins : unused w before ++ drop (w .end - w .start) (unused full after) ≡ unused full after
       joins =
           ap (λ (x : List ℕ). x ++ drop (w .end - w .start) (unused full after)) (sym (f .kept)) ∙

@@ -1,12 +1,12 @@
--- One turn of the program: bytes come after those of the window, and the lines that are due are handed to be written. By the laws of
--- lines/specs/Streams.antt the turns of a run together hand over what `linesOf` says of all that came.
+-- One turn of the program: bytes come after those of the window, and the lines that are due are handed over to be written. A run of such turns from an empty
+-- window to one that is over hands over the text of all that came (`Runs` in lines/specs/Runs.antt).
 use mathlib.Core.Path.{_≡_}
 use mathlib.Core.Logic.{_⊎_}
-use mathlib.Core.Bool.{true}
-use mathlib.Core.List.{List, [], _++_}
+use mathlib.Core.List.{List, []}
 use Prim.Native.Nat.{ℕ, _+_, _≤_, _<_}
 use lib.ListN.{length, take}
-use Rattle.lines.specs.Lines.{restOf, textOf}
+use Rattle.lines.specs.Lines.{textOf}
+use Rattle.lines.specs.Runs.{Turn}
 use Rattle.tomkhadi.specs.Window.{unused, Inside}
 use Rattle.tomkhadi.specs.declared.input.Window.{Window}
 
@@ -16,7 +16,6 @@ pub record Turned (before : List ℕ) (w : Window) (after out : List ℕ) (r : W
   pub came : List ℕ
   pub used : ℕ
   pub fits : used ≤ length out
-  -- what is to be written is what is handed over, and then what is to be written for the bytes that are left
-  pub lines : textOf (r .more) (unused w before ++ came) ≡ take used out ++ textOf (r .more) (unused r after)
-  pub rest : r .more ≡ true → restOf (unused w before ++ came) ≡ restOf (unused r after)
+  pub turn : Turn (unused w before) (w .more) came (take used out) (unused r after) (r .more)
+  -- it stops where no line is due, or where the next one may not fit
   pub stops : (textOf (r .more) (unused r after) ≡ []) ⊎ (length out < used + 1024)

@@ -33,11 +33,12 @@ pub record Refilled (before : List ℕ) (w : Window) (after : List ℕ) (r : Win
   pub no-fewer : w .end - w .start ≤ r .end - r .start
   pub told : r .more ≡ ltb (w .end - w .start) (r .end - r .start)
 
--- no byte still to be used is lost, and the window starts with all that a record claims, unless the input has no more
+-- No byte still to be used is lost, and the window starts with all that a record claims, unless the input has no more. Once it has ended nothing changes.
 pub record Filled (before : List ℕ) (w : Window) (after : List ℕ) (r : Window) : Type 0 where
   pub inside : Inside r after
   pub kept : Kept before w after r
   pub whole : isLacking r after ≡ false
+  pub ended : w .more ≡ false → (r .more ≡ false) × (unused r after ≡ unused w before)
 
 -- the input has ended, and all of it is used
 abbrev pub isOver : Window → Bool

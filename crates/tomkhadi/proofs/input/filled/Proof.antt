@@ -1,20 +1,21 @@
 -- `tomkhadi::input::filled` meets its contract. Assumes nothing.
 use mathlib.Core.Path.{_≡_, refl, sym, _∙_}
-use mathlib.Core.Bool.{Bool, true, false}
+use mathlib.Core.Bool.{Bool, true, false, false≢true}
 use Prim.Native.Nat.{ℕ, _-_, _≤_}
 use native.Mathlib.Nat.{le-refl}
 use native.Mathlib.Omega.{arith}
 use lib.ListN.{length}
 use borrow.Author.Needs.{needs}
 use borrow.Author.Tests.{ltb-true}
-use Rattle.tomkhadi.specs.Window.{Inside, Kept, isLacking}
+use Rattle.tomkhadi.specs.Window.{unused, Inside, Kept, isLacking}
 use Rattle.tomkhadi.proofs.Filling.{lacking-more, left, left-falls, kept-same, kept-on}
 use Rattle.tomkhadi.proofs.input.filled.Statement.{statement}
 use Rattle.tomkhadi.proofs.input.filled.Tie as tie
 
 abbrev Inv-loop : tie.InvT-loop
 Inv-loop buffer₀ w short₀ buffer r short =
-    Inside r buffer × Kept buffer₀ w buffer r × (w .end - w .start ≤ r .end - r .start) × (short ≡ isLacking r buffer) × (length buffer ≡ length buffer₀)
+    Inside r buffer × Kept buffer₀ w buffer r × (w .end - w .start ≤ r .end - r .start) × (short ≡ isLacking r buffer) × (length buffer ≡ length buffer₀) ×
+    (w .more ≡ false → (r .more ≡ false) × (unused r buffer ≡ unused w buffer₀))
 
 abbrev μ-loop : tie.MeasureT-loop
 μ-loop buffer₀ w short₀ buffer r short = left (length buffer₀) r
@@ -25,7 +26,7 @@ lacking-requires c κs = search needs
 loop-holds : tie.Need-loop-holds Inv-loop μ-loop
 loop-holds c =
     let start = c .before .before .before in
-    (start .pre, kept-same (start .args .w) (start .args .buffer .now), le-refl _, c .lacking .ensures, refl)
+    (start .pre, kept-same (start .args .w) (start .args .buffer .now), le-refl _, c .lacking .ensures, refl, λ e. (e, refl))
 
 refilled-requires : tie.Need-refilled-requires Inv-loop μ-loop
 refilled-requires c κs = c .before .before .loop .inv .0
@@ -38,7 +39,7 @@ loop-less c =
     let read = c .before .before .before .before in
     let inside = read .before .before in
     let at = inside .before in
-    let (within, kept, no-fewer, short, width) = at .loop .inv in
+    let (within, kept, no-fewer, short, width, ended) = at .loop .inv in
     let r = read .refilled .ensures in
     left-falls _ (at .loop .r) (read .refilled .result) (lacking-more _ _ (sym short ∙ inside .loop-test .taken)) (omega (arith, within .within))
     (omega (arith, r .inside .within, read .refilled .kept .0)) (λ t. ltb-true _ _ (sym (r .told) ∙ t))
@@ -48,17 +49,24 @@ loop-again c =
     let read = c .before .before .before .before in
     let at = read .before .before .before in
     let start = at .before .before .before .before in
-    let (within, kept, no-fewer, short, width) = at .loop .inv in
+    let (within, kept, no-fewer, short, width, ended) = at .loop .inv in
     let r = read .refilled .ensures in
-    (r .inside, kept-on _ _ _ (start .args .w) (at .loop .r) (read .refilled .result) kept no-fewer (r .kept), omega (arith, r .no-fewer), c .lacking2 .ensures, read .refilled .kept .0 ∙ width)
+    let more = lacking-more _ _ (sym short ∙ read .before .before .loop-test .taken) in (
+      r .inside,
+      kept-on _ _ _ (start .args .w) (at .loop .r) (read .refilled .result) kept no-fewer (r .kept),
+      omega (arith, r .no-fewer),
+      c .lacking2 .ensures,
+      read .refilled .kept .0 ∙ width,
+      λ e. absurd (false≢true (sym (ended e .0) ∙ more)),
+    )
 
 same-length : tie.Need-same-length Inv-loop μ-loop
 same-length c = c .before .loop .inv .4
 
 returns : tie.Need-returns Inv-loop μ-loop
 returns c =
-    let (within, kept, no-fewer, short, width) = c .before .loop .inv in
-    record { inside = within; kept = kept; whole = sym short ∙ c .loop-test .left }
+    let (within, kept, no-fewer, short, width, ended) = c .before .loop .inv in
+    record { inside = within; kept = kept; whole = sym short ∙ c .loop-test .left; ended = ended }
 
 pub filled-spec : {M : Type 1} → statement M
 filled-spec =

@@ -20,11 +20,13 @@ abbrev μ-loop : tie.MeasureT-loop
 abbrev found-one : tie.After-slice-known4 Inv-loop μ-loop → tie.Else1 Inv-loop μ-loop
 found-one c = c .before .before .before .before .before .before .before .before
 
-within-of : (c : tie.Else1 Inv-loop μ-loop)
-    → c .before .before .before .before .loop .start + c .before .next-size .result ≤ c .before .before .before .before .before .before .before .before .args .w .end
+-- and from there back to the start
+abbrev start-of : tie.Else1 Inv-loop μ-loop → tie.Start Inv-loop μ-loop
+start-of c = c .before .before .before .before .before .before .before .before
+
+within-of : (c : tie.Else1 Inv-loop μ-loop) → c .before .before .before .before .loop .start + c .before .next-size .result ≤ start-of c .args .w .end
 within-of c =
-    let at = c .before .before .before .before in
-    next-within _ _ _ _ (at .before .before .before .before .pre .0 .within) _ _ _ (at .loop .inv .0) _ (c .before .next-size .ensures)
+    next-within _ _ _ _ (start-of c .pre .0 .within) _ _ _ (c .before .before .before .before .loop .inv .0) _ (c .before .next-size .ensures)
 
 loop-holds : tie.Need-loop-holds Inv-loop μ-loop
 loop-holds c = (putting-none _ _ _ _ _ (c .before .before .before .pre .0 .ordered), refl, refl)
