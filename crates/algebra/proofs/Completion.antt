@@ -1,7 +1,6 @@
 -- Weights in closed form: the weights of m distinct nonzero elements X i for which the power sums at m exponents, following one another from any
 -- start b, take given values s j. The locator polynomial of all X but X k vanishes at the inverses of the others, so its product with s leaves the part of
 -- X k alone; that weights exist is Vandermonde's.
--- Assumes nothing.
 use mathlib.Core.Path.{_≡_, sym, ap, _∙_}
 use mathlib.Core.Logic.{_≢_}
 use mathlib.Core.List.{List, [], _∷_}

@@ -1,5 +1,4 @@
 -- Laws of the product of polynomials: linear in each factor, a shifted factor, and a factor of known degree.
--- Assumes nothing.
 use mathlib.Core.Path.{_≡_, refl, sym, ap, ap₂, _∙_}
 use mathlib.Core.Logic.{if-pos, if-neg}
 use Prim.Native.Nat.{ℕ, zero, suc, _+_, _-_, _≤_, _<_}

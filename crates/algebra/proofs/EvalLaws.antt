@@ -1,6 +1,5 @@
 -- Laws of the value of a polynomial: a greater bound of its degree, differences, a constant, the value at 0, and the
 -- product with a factor 1 − x·z.
--- Assumes nothing.
 use mathlib.Core.Path.{_≡_, refl, sym, ap, ap₂, _∙_}
 use mathlib.Core.List.{[], _∷_}
 use Prim.Native.Nat.{ℕ, suc}

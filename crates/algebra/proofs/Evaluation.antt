@@ -1,7 +1,6 @@
 -- A polynomial times a sequence of power sums is again a sequence of power sums, each weight multiplied by the
 -- polynomial's value at the inverse of its base. So a polynomial that vanishes at these inverses generates the sequence.
 -- Power sums from another exponent on are power sums with other weights: e i · X i ^ b for e i.
--- Assumes nothing.
 use mathlib.Core.Path.{_≡_, refl, sym, ap, _∙_}
 use mathlib.Core.List.{[], _∷_}
 use Prim.Native.Nat.{ℕ, suc, _+_, _-_, _≤_, _<_}

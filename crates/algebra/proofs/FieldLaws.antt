@@ -1,5 +1,4 @@
 -- The laws of a field that its ring does not have: no zero divisors, cancellation, inverses.
--- Assumes nothing.
 use mathlib.Core.Path.{_≡_, sym, ap, _∙_}
 use mathlib.Core.Logic.{_≢_}
 use mathlib.Core.List.{[], _∷_}

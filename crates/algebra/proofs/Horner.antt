@@ -2,7 +2,6 @@
 -- a − b, or c + x·p with x the first variable, c a polynomial in the other variables and p one in all. Sum, negative and
 -- product compute, and their values in a ring are the sum, negative and product of the values. A polynomial all of whose
 -- constants are 0 has the value 0.
--- Assumes nothing.
 use mathlib.Core.Path.{_≡_, refl, sym, ap, ap₂, _∙_}
 use mathlib.Core.Bool.{Bool, true, false, _&&_}
 use Prim.Native.Nat.{ℕ, zero, suc, _+_, _*_}

@@ -1,5 +1,4 @@
 -- Laws of powers: clauses as equations, sums and products of exponents, powers of products and of one.
--- Assumes nothing.
 use mathlib.Core.Path.{_≡_, refl, sym, ap, ap₂, _∙_}
 use Prim.Native.Nat.{ℕ, zero, suc, _+_, _*_}
 use native.Mathlib.Nat.{add-zero as n-add-zero, add-suc, mul-zero as n-mul-zero, mul-suc}

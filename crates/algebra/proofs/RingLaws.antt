@@ -1,5 +1,4 @@
 -- The small laws of a commutative ring that follow from its record at once.
--- Assumes nothing.
 use mathlib.Core.Path.{_≡_, refl, sym, ap, ap₂, _∙_}
 use Rattle.algebra.specs.Ring.{CRing}
 

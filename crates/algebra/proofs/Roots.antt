@@ -2,7 +2,6 @@
 -- and l distinct common roots are equal.
 -- For each k there are weights whose power sums over the roots are 0 but at k (Vandermonde); the weighted sum of the
 -- polynomial's values at the roots is then its coefficient k.
--- Assumes nothing.
 use mathlib.Core.Path.{_≡_, refl, sym, ap, ap₂, _∙_}
 use mathlib.Core.Logic.{_≢_, ite, if-pos, if-neg}
 use Prim.Native.Nat.{ℕ, suc, _<_}

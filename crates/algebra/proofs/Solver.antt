@@ -12,7 +12,6 @@
 --
 -- Write each side as it stands in the goal: `x :- y` is `x ⊕ neg y`. Whatever is no sum, product, negative, 0 or 1
 -- (a power, a finite sum, an inverse) goes into the list of variables.
--- Assumes nothing.
 use mathlib.Core.Path.{_≡_, refl, sym, ap, ap₂, _∙_}
 use mathlib.Core.Bool.{Bool}
 use mathlib.Core.List.{List, [], _∷_}

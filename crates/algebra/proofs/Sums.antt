@@ -1,5 +1,4 @@
 -- Laws of finite sums: clauses as equations, equal terms, sums and multiples of sums, exchange, split, one nonzero term.
--- Assumes nothing.
 use mathlib.Core.Path.{_≡_, refl, sym, ap, ap₂, _∙_}
 use mathlib.Core.Logic.{_≢_}
 use Prim.Native.Nat.{ℕ, zero, suc, _+_, _-_, _<_}

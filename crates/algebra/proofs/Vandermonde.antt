@@ -1,7 +1,6 @@
 -- Vandermonde: power sums of m distinct elements X i with weights e i, at m exponents that follow one another from any
 -- start b, determine the weights (unique) and take every value (exist). From 0 on, an element may be 0.
 -- Both by induction on m: the sum at j + 1 less X m times the sum at j has the weights e i · (X i − X m), one fewer.
--- Assumes nothing.
 use mathlib.Core.Path.{_≡_, sym, ap, ap₂, _∙_}
 use mathlib.Core.Logic.{_≢_, ite, if-pos, if-neg}
 use mathlib.Core.List.{[], _∷_}

@@ -1,6 +1,5 @@
 -- What is lent to the finder when locating from sums: the check counts of the shape, the sums of its rows, and a buffer of 65 zeros. The finder refuses none
 -- of it, and answers the register of the sequences that the sums hold.
--- Assumes nothing.
 use mathlib.Core.Path.{_≡_, refl, sym, ap, ap₂, _∙_}
 use mathlib.Core.Bool.{true, not, _&&_}
 use mathlib.Core.List.{List, _++_}

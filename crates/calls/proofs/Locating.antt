@@ -1,5 +1,4 @@
 -- Locating from sums, step by step: what the finder answers, the taps that it leaves, and what is given after each test.
--- Assumes nothing.
 use mathlib.Core.Path.{_≡_, refl, sym, ap, ap₂, _∙_}
 use mathlib.Core.Bool.{Bool, true, false, not}
 use mathlib.Core.List.{List, _++_}

@@ -1,4 +1,4 @@
-// The calls on a job (document 01, "A job").
+// The calls on a job (SPECIFICATION.md, "Jobs").
 pub mod encode;
 mod from_sums;
 pub mod locate;

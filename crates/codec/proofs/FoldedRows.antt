@@ -1,4 +1,4 @@
--- The rows folded for the first check sums, kept one after the other: one more of them leaves those before it. Assumes nothing.
+-- The rows folded for the first check sums, kept one after the other: one more of them leaves those before it.
 use mathlib.Core.Path.{_≡_, refl, sym, ap, ap₂, _∙_}
 use mathlib.Core.List.{List, _++_}
 use Prim.Native.Nat.{ℕ, suc, _+_, _-_, _*_, _≤_, _<_}

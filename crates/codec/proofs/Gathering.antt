@@ -1,4 +1,4 @@
--- The columns of a folded row gathered block by block: what they are after some blocks, and that they fit 32 bits. Assumes nothing.
+-- The columns of a folded row gathered block by block: what they are after some blocks, and that they fit 32 bits.
 use mathlib.Core.Path.{_≡_, refl, sym, ap, ap₂, _∙_}
 use mathlib.Core.List.{List}
 use Prim.Native.Nat.{ℕ, _+_, _-_, _*_, _%_, _≤_, _<_}

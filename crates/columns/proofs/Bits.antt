@@ -1,6 +1,5 @@
 -- Laws of a number's bits: `number` makes the only number of n bits that has given bits; a count of ones counts the set bits, trailing zeros
 -- find the lowest, and a shift, a single bit and an `or` do to the bits what they should.
--- Assumes nothing.
 use mathlib.Core.Path.{_≡_, refl, sym, ap, ap₂, _∙_}
 use mathlib.Core.Bool.{Bool, true, false, cond, _||_}
 use Prim.Native.Nat.{ℕ, zero, suc, _+_, _*_, _/_, _%_, _^_, _≤_, _<_}

@@ -1,6 +1,5 @@
 -- Laws of `least`: the least number below n that passes P, or n, is the only number r up to n with none that passes before it and, where it is
 -- below n, passing itself.
--- Assumes nothing.
 use mathlib.Core.Path.{_≡_, refl, sym, ap₂, _∙_}
 use mathlib.Core.Bool.{Bool, true, false, cond, true≢false}
 use Prim.Native.Nat.{ℕ, zero, suc, _≤_, _<_, zero-le}

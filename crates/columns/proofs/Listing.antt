@@ -1,6 +1,5 @@
 -- Laws of `count` and `listed`: the list of the numbers below n that pass P has as many entries as there are such numbers, holds exactly
 -- these, rises, and has k at the place that counts those below k.
--- Assumes nothing.
 use mathlib.Core.Path.{_≡_, refl, sym, ap, ap₂, _∙_, subst}
 use mathlib.Core.Bool.{Bool, true, false, cond}
 use mathlib.Core.List.{List, [], _∷_, _++_, append-assoc, append-nil}

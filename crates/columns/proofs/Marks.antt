@@ -1,6 +1,5 @@
 -- Laws of sets of columns: a value of four 64-bit words is told by its marks, `columnsOf` makes the one with given marks, and its members are listed
 -- rising, as many as there are marks.
--- Assumes nothing.
 use mathlib.Core.Path.{_≡_, refl, sym, ap, ap₂, _∙_, subst⁻¹}
 use mathlib.Core.Bool.{Bool, true, false, _||_, or-true, or-false}
 use mathlib.Core.List.{List}

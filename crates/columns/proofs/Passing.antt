@@ -1,4 +1,4 @@
--- Which columns of a set a walk over its members has passed. Assumes nothing.
+-- Which columns of a set a walk over its members has passed.
 use mathlib.Core.Path.{_≡_, sym, ap, ap₂, _∙_}
 use mathlib.Core.Bool.{Bool, true, false, _&&_, and-true, and-false}
 use mathlib.Core.Logic.{_≢_}

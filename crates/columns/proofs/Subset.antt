@@ -1,5 +1,4 @@
 -- Where every number below n that passes P passes Q, no more pass P than Q; and if as many do, the two tests agree.
--- Assumes nothing.
 use mathlib.Core.Path.{_≡_, sym, ap, _∙_}
 use mathlib.Core.Bool.{Bool, true, false}
 use mathlib.Core.Logic.{_⊎_, inl, inr}

@@ -1,5 +1,4 @@
 -- Walking over the members of a set in rising order, from each to the next marked column: after d members the walk stands at member d, or past the last.
--- Assumes nothing.
 use mathlib.Core.Path.{_≡_, sym, ap, _∙_, subst₂}
 use mathlib.Core.Bool.{true, false, _&&_, and-eq-true-iff, true≢false}
 use mathlib.Core.Logic.{_⊎_, inl, inr}

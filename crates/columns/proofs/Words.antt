@@ -1,5 +1,4 @@
 -- What shifts, masks, counts of ones and trailing zeros of the four words tell of the marks: the laws that the functions cite.
--- Assumes nothing.
 use mathlib.Core.Path.{_≡_, sym, ap, ap₂, _∙_, subst⁻¹}
 use mathlib.Core.Bool.{Bool, false, _&&_, _||_, or-false}
 use mathlib.Core.Logic.{_≢_}

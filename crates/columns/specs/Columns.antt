@@ -1,4 +1,4 @@
--- A set of 256 marks in four 64-bit words, column 0 lowest (document 01, 'A job'; its form under 'Forms and where they belong'):
+-- A set of 256 marks in four 64-bit words, column 0 lowest (SPECIFICATION.md, "Jobs"):
 -- which columns a value marks, the value that marks given columns, and its columns as a list.
 use mathlib.Core.Path.{_≡_}
 use mathlib.Core.Bool.{Bool, cond}

@@ -1,4 +1,4 @@
--- A column of a frame mended row after row: where the sums of the next row begin, and which rows are mended. Assumes nothing.
+-- A column of a frame mended row after row: where the sums of the next row begin, and which rows are mended.
 use mathlib.Core.Path.{_≡_, sym, ap, ap₂, _∙_}
 use mathlib.Core.List.{List}
 use Prim.Native.Nat.{ℕ, _+_, _-_, _*_, _≤_, _<_, zero-le}

@@ -1,4 +1,4 @@
--- The columns of a set mended one after the other in every row of a frame: each row is completed at the set in the end. Assumes nothing.
+-- The columns of a set mended one after the other in every row of a frame: each row is completed at the set in the end.
 use mathlib.Core.Path.{_≡_, refl, sym, ap, _∙_}
 use mathlib.Core.Bool.{true}
 use mathlib.Core.List.{List}

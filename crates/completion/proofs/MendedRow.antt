@@ -1,5 +1,5 @@
 -- A row mended at a set of columns is completed there: what is added takes its first check sums away, and no other row with the same cells outside the set
--- has them 0. Assumes nothing.
+-- has them 0.
 use mathlib.Core.Path.{_≡_, sym, ap, ap₂, _∙_}
 use mathlib.Core.Logic.{_⊎_, inl, inr}
 use mathlib.Core.Bool.{Bool, true, false, cond}

@@ -1,4 +1,4 @@
--- A symbol as it is read off the check sums, coefficient after coefficient, the last sum first. The sum fits 32 bits. Assumes nothing.
+-- A symbol as it is read off the check sums, coefficient after coefficient, the last sum first. The sum fits 32 bits.
 use mathlib.Core.Path.{_≡_, sym, ap, ap₂, _∙_}
 use mathlib.Core.List.{List}
 use Prim.Native.Nat.{ℕ, suc, _+_, _-_, _*_, _%_, _≤_, _<_, zero-le}

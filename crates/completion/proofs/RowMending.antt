@@ -1,4 +1,4 @@
--- The cells of a row mended one after the other at the columns of a set: what the row holds after some of them. Assumes nothing.
+-- The cells of a row mended one after the other at the columns of a set: what the row holds after some of them.
 use mathlib.Core.Path.{_≡_, refl, sym, ap, ap₂, _∙_}
 use mathlib.Core.Bool.{Bool, cond}
 use mathlib.Core.List.{List}

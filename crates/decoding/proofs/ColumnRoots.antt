@@ -1,6 +1,5 @@
 -- Roots at the columns of a set P. A polynomial of constant term 1 has no more roots at the columns of P than its degree; where it has as many they
 -- determine it, and it is the locator polynomial of P.
--- Assumes nothing.
 use mathlib.Core.Path.{_≡_, sym, ap, _∙_}
 use mathlib.Core.Bool.{Bool, true}
 use mathlib.Core.List.{List}

@@ -1,6 +1,5 @@
 -- A frame that completes the frame f at the columns that its register names, where these are as many as the register is long, is a codeword at that distance
 -- from f and differs from it in exactly these columns.
--- Assumes nothing.
 use mathlib.Core.Path.{_≡_, refl, sym, ap, _∙_}
 use mathlib.Core.Bool.{Bool, true, false, _&&_, false≢true}
 use mathlib.Core.List.{List, [], _∷_}

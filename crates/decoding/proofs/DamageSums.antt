@@ -1,5 +1,4 @@
 -- The sequences of a frame f are the power sums of its difference from a codeword g. So no codeword lies nearer to f than the register of f is long.
--- Assumes nothing.
 use mathlib.Core.Path.{_≡_, sym, ap, _∙_}
 use mathlib.Core.Bool.{true}
 use mathlib.Core.List.{List}

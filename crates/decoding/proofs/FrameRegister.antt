@@ -1,5 +1,4 @@
 -- The register of a frame: that of its sequences, with the laws of SequenceRegister.
--- Assumes nothing.
 use mathlib.Core.Path.{_≡_}
 use mathlib.Core.Bool.{true, false}
 use mathlib.Core.Logic.{_↔_}

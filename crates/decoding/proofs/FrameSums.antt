@@ -1,6 +1,5 @@
 -- The check sums of a frame in the field of residues modulo 257, as power sums of a word for each row, and what it means there that a frame is a codeword.
 -- The word of a row is its symbols, each scaled so that the sum S_j weighs it with power j of its locator. The sequences have these sums as symbols.
--- Assumes nothing.
 use mathlib.Core.Path.{_≡_, sym, ap, ap₂, _∙_}
 use mathlib.Core.Logic.{_≢_}
 use mathlib.Core.List.{List, [], _∷_}

@@ -1,6 +1,5 @@
 -- The columns of a shape have distinct locators that are not 0. The columns that taps name are the roots of their polynomial at the inverses of the
 -- locators: never more than the register is long.
--- Assumes nothing.
 use mathlib.Core.Path.{_≡_, sym, ap, _∙_}
 use mathlib.Core.Bool.{Bool, true, false, not, _&&_, and-eq-true-iff, false≢true}
 use mathlib.Core.List.{List}

@@ -1,7 +1,6 @@
 -- Sequences that are power sums of words on the columns, one word for each sequence, which vanish outside a set P of columns. The locator polynomial of P
 -- generates them, so their register is no longer than P has columns; where it is alone and as long, it names exactly P; and where each column of P is shown
 -- by a sequence of twice as many symbols, it is alone and as long. Frames are not spoken of here.
--- Assumes nothing.
 use mathlib.Core.Path.{_≡_, sym, ap, ap₂, fun-ext, subst, _∙_}
 use mathlib.Core.Bool.{Bool, true}
 use mathlib.Core.List.{List, []}

@@ -1,6 +1,5 @@
 -- Recovery: the legal frame g was sent and the frame f came, damaged in w columns. Where the rows with at least 2·w checks show the damage of every column,
 -- and no row has fewer than w checks, the register of f is alone and has length w, and the frame repaired at the columns that it names is g.
--- Assumes nothing.
 use mathlib.Core.Path.{_≡_, sym}
 use mathlib.Core.Bool.{true}
 use mathlib.Core.List.{List}

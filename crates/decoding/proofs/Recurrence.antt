@@ -1,7 +1,6 @@
 -- Power sums of a word e on the columns 0 .. n − 1, and the polynomials f of degree at most l whose product with them vanishes past l. f does so where it
 -- has a root at every column of the word; and where it does so up to N, at least l plus the number of these columns, only then. A sequence that starts with
 -- l zeros and has such a polynomial is 0.
--- Assumes nothing.
 use mathlib.Core.Path.{_≡_, refl, sym, ap, _∙_}
 use mathlib.Core.Bool.{Bool, true, false}
 use mathlib.Core.Logic.{_⊎_, inl, inr}

@@ -1,6 +1,5 @@
 -- A register modulo 257 as a polynomial over the field, of constant term 1. It generates a sequence where its products with the symbols vanish past its
 -- length; and every polynomial of constant term 1 whose products do so gives a register.
--- Assumes nothing.
 use mathlib.Core.Path.{_≡_, sym, ap, fun-ext, _∙_}
 use mathlib.Core.List.{List, []}
 use Prim.Native.Nat.{ℕ, suc, _-_, _*_, _≤_, _<_}

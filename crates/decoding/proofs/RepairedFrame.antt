@@ -1,6 +1,5 @@
 -- The repaired frame: well-formed, with the symbols of the frame outside the set, and the first check sums of each row, as many as the set has columns, are
 -- 0. It is the only frame of this kind.
--- Assumes nothing.
 use mathlib.Core.Path.{_≡_}
 use mathlib.Core.Bool.{true, false}
 use mathlib.Core.List.{List}

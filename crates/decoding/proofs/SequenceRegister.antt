@@ -1,6 +1,5 @@
 -- The register of sequences is a shortest one, and the mark says whether it is alone. Its length is that of every shortest register, and where it is not
 -- alone there is another one.
--- Assumes nothing.
 use mathlib.Core.Path.{_≡_, refl, sym, subst, _∙_}
 use mathlib.Core.Bool.{Bool, true, false}
 use mathlib.Core.Logic.{_↔_}

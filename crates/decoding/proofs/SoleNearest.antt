@@ -1,6 +1,5 @@
 -- Where the register of a frame is alone, a codeword at the distance of its length differs in the columns that it names. So one lies there exactly where as
 -- many columns are named, and where no row has fewer checks it is the repaired frame alone: every other legal frame lies farther.
--- Assumes nothing.
 use mathlib.Core.Path.{_≡_, sym, _∙_}
 use mathlib.Core.Bool.{true}
 use mathlib.Core.List.{List}
@@ -83,7 +82,7 @@ module _ (s : Shape) (shape : isShape s ≡ true) (f : List ℕ) where
       mended-differing = completes-differing s shape f names-count (repaired s J f) completes
 
     module _ (alone : aloneOf (sequences s f) ≡ true) where
-      -- document 01: a legal frame lies at distance c
+      -- a legal frame lies at distance c
       pub legal-at-size : (namesAll s σ c ≡ true) ↔ ((g : List ℕ) × Legal s g × (distance s g f ≡ c))
       legal-at-size = (
         λ all. (repaired s J f, mended-legal all, mended-distance all),

@@ -1,4 +1,4 @@
--- The register of sequences modulo 257, the columns that it names, and the repair of a frame at a set of columns (document 01, "A job").
+-- The register of sequences modulo 257, the columns that it names, and the repair of a frame at a set of columns (SPECIFICATION.md, "Jobs").
 use mathlib.Core.Bool.{Bool, not, _&&_}
 use mathlib.Core.List.{List}
 use Prim.Native.Nat.{ℕ}
@@ -31,7 +31,7 @@ aloneOf ss = foundAlone 257 ss (longest ss)
 unfoldable pub rowsReach : Shape → (c : ℕ) → Bool
 rowsReach s c = every (s .rows) (λ h. leb c (checksOf s h))
 
--- document 01's term: column i is named by the taps σ, the inverse of its locator being a root
+-- the specification's term: column i is named by the taps σ, the inverse of its locator being a root
 unfoldable pub named : Shape → (σ : List ℕ) (i : ℕ) → Bool
 named s σ i = ltb i (s .columns) && eqb (value 257 σ (inverse 257 (locatorOf i))) 0
 

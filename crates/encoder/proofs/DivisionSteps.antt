@@ -1,5 +1,5 @@
 -- Division by the generator polynomial in place, from the last cell down: taking off the leading cell by a multiple of the generator changes no check
--- sum, and the cells fit 32 bits all the while. Assumes nothing.
+-- sum, and the cells fit 32 bits all the while.
 use mathlib.Core.Path.{_≡_, refl, sym, ap, ap₂, _∙_}
 use mathlib.Core.List.{List}
 use Prim.Native.Nat.{ℕ, suc, _+_, _-_, _*_, _%_, _≤_, _<_}

@@ -1,4 +1,4 @@
--- The marked examples (docs/SPECIFICATION.md, "Examples") as one table, with everything that is said of them. An entry holds what is given and what comes of
+-- The marked examples (SPECIFICATION.md, "Examples") as one table, with everything that is said of them. An entry holds what is given and what comes of
 -- it; `computed` makes anew what comes of it, by the definitions of the finder and of the calls. The theorem, in proofs/Examples.antt, is that the table stays
 -- as it is.
 use mathlib.Core.Path.{_≡_}

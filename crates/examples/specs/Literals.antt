@@ -1,5 +1,5 @@
 -- What the definitions give where the literal is part of what is promised: the words of a set of columns, and the number of each refusal
--- (docs/SPECIFICATION.md, "Jobs" and "Refusals"). Proved in proofs/Examples.antt.
+-- (SPECIFICATION.md, "Jobs" and "Refusals"). Proved in proofs/Examples.antt.
 use mathlib.Core.Path.{_≡_}
 use mathlib.Core.Bool.{_||_}
 use mathlib.Core.List.{List, [], _∷_, map}

@@ -1,5 +1,4 @@
 -- Binomial coefficients: k · C(n, k) = n · C(n − 1, k − 1), the power of a + 1, and that a prime p divides C(p, k) for 0 < k < p.
--- Assumes nothing.
 use mathlib.Core.Path.{_≡_, refl, ap, _∙_}
 use Prim.Native.Nat.{ℕ, zero, suc, _+_, _*_, _%_, _^_, _<_}
 use native.Mathlib.Nat.{pow-zero, pow-suc, mod-eq-of-lt, mul-mod-right, zero-mul}

@@ -1,4 +1,4 @@
--- Sums of numbers taken in blocks: block after block, in the other order, and with terms that are 0 after the last. Assumes nothing.
+-- Sums of numbers taken in blocks: block after block, in the other order, and with terms that are 0 after the last.
 use mathlib.Core.Path.{_≡_, sym, ap, _∙_}
 use Prim.Native.Nat.{ℕ, zero, suc, _+_, _-_, _*_, _≤_, _<_}
 use native.Mathlib.Nat.{add-zero, mul-zero}

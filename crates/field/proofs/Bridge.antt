@@ -1,5 +1,5 @@
 -- From numbers to the field of residues modulo p and back: `res n` is the residue of n, `value` its number. Each operation of
--- `Residue` on numbers, and `total`, is the field's own. Assumes nothing.
+-- `Residue` on numbers, and `total`, is the field's own.
 use mathlib.Core.Path.{_≡_, refl, sym, ap, _∙_}
 use mathlib.Core.Logic.{_↔_}
 use Prim.Native.Nat.{ℕ, zero, suc, _+_, _-_, _*_, _%_, _^_, _≤_, _<_}

@@ -1,5 +1,4 @@
 -- Lists of coefficients modulo p: the entries of x^e·τ and of σ − q·x^e·τ, and that they are residues.
--- Assumes nothing.
 use mathlib.Core.Path.{_≡_}
 use mathlib.Core.List.{List}
 use Prim.Native.Nat.{ℕ, suc, _+_, _-_, _≤_, _<_}

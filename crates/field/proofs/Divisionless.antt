@@ -1,5 +1,5 @@
 -- Remainders without a division. The quotient of q·y by p comes from the ratio of q to p in parts of a power of two (Barrett for q = 1, Shoup): it is
--- right or one too small, so at most one p is left to take off; and a difference of residues goes below 0 by less than p. Assumes nothing.
+-- right or one too small, so at most one p is left to take off; and a difference of residues goes below 0 by less than p.
 use mathlib.Core.Path.{_≡_, refl, sym, ap, _∙_}
 use Prim.Native.Nat.{ℕ, _+_, _-_, _*_, _/_, _%_, _≤_, _<_}
 use native.Mathlib.Nat.{

@@ -1,5 +1,5 @@
 -- Euclid's lemma: a prime divides a product only if it divides a factor. By the remainder r of p modulo a, which is smaller than a
--- and not 0: if p divides a · b, it divides r · b too. Assumes nothing.
+-- and not 0: if p divides a · b, it divides r · b too.
 use mathlib.Core.Path.{_≡_, refl, sym, ap, _∙_}
 use Prim.Native.Nat.{ℕ, zero, suc, _+_, _-_, _*_, _/_, _%_, _≤_, _<_}
 use native.Mathlib.Nat.{add-mul, mul-assoc, add-comm, mul-mod-right, div-add-mod', mod-lt, one-mul, add-sub-of-le, mul-add}

@@ -1,5 +1,5 @@
 -- Fermat's little theorem for every prime p: a^p and a have the same remainder. So a^(p − 2) is the inverse of a number a that p does
--- not divide. By induction on a: of the terms of (a + 1)^p only the first and the last are not divided by p. Assumes nothing.
+-- not divide. By induction on a: of the terms of (a + 1)^p only the first and the last are not divided by p.
 use mathlib.Core.Path.{_≡_, sym, ap, _∙_}
 use Prim.Native.Nat.{ℕ, zero, suc, pred, _+_, _-_, _*_, _%_, _^_, _<_}
 use native.Mathlib.Nat.{

@@ -1,4 +1,4 @@
--- What fits 32 bits: the product of two residues modulo p up to 65521, and the squares that trial division compares. Assumes nothing.
+-- What fits 32 bits: the product of two residues modulo p up to 65521, and the squares that trial division compares.
 use Prim.Native.Nat.{ℕ, _*_, _^_, _≤_, _<_}
 use native.Mathlib.Nat.{mul-le-mul}
 use native.Mathlib.Decide.{decLt}

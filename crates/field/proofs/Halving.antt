@@ -1,5 +1,5 @@
 -- A multiple of a power by half of its exponent: the same multiple of the power of the square, the multiple taken once more by the base where the
--- exponent is odd. Assumes nothing.
+-- exponent is odd.
 use mathlib.Core.Path.{_≡_, sym, ap, _∙_}
 use Prim.Native.Nat.{ℕ, zero, suc, _+_, _*_, _/_, _%_, _^_, _<_}
 use native.Mathlib.Nat.{pow-zero, pow-suc, mul-assoc, mul-comm, mul-one, one-mul, mod-eq-of-lt, mod-mod}

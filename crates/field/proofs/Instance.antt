@@ -1,5 +1,5 @@
 -- The residues modulo a prime p are a field, an instance of the abstract one. Its elements are the numbers below p; the inverse is the
--- power p − 2 for every element, 0 too. Assumes nothing.
+-- power p − 2 for every element, 0 too.
 use mathlib.Core.Path.{_≡_, sym, ap, _∙_}
 use mathlib.Core.HLevel.{hedberg}
 use Prim.Native.Nat.{ℕ, zero, _+_, _-_, _*_, _%_, _^_, _<_, Fin}

@@ -1,4 +1,4 @@
--- Which numbers `isModulus` takes: the primes up to 65521, and no other. Assumes nothing.
+-- Which numbers `isModulus` takes: the primes up to 65521, and no other.
 use mathlib.Core.Path.{_≡_, refl, sym, _∙_}
 use mathlib.Core.Logic.{⊎-elim}
 use mathlib.Core.Bool.{Bool, true, false, and-eq-true-iff}

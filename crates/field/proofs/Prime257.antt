@@ -1,4 +1,4 @@
--- 257 is prime, by one computed test. Assumes nothing.
+-- 257 is prime, by one computed test.
 use mathlib.Core.Path.{refl}
 use Rattle.field.specs.Prime.{Prime, noDivisor, isPrime}
 use Rattle.field.proofs.PrimeTest.{prime-of-test}

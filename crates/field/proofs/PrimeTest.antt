@@ -1,4 +1,4 @@
--- The test `isPrime` decides `Prime`, and trial division may stop at the square root. Assumes nothing.
+-- The test `isPrime` decides `Prime`, and trial division may stop at the square root.
 use mathlib.Core.Path.{_≡_, refl, sym, ap, _∙_}
 use mathlib.Core.Logic.{_↔_, _⊎_, inl, inr, ⊎-elim}
 use mathlib.Core.Bool.{true, not, and-eq-true-iff}

@@ -1,5 +1,5 @@
 -- Remainders of products and powers: a factor or a base may be reduced first (the same for sums is in `native.Mathlib.Nat`). What has
--- remainder 0 adds nothing to a remainder, and the other way round. Assumes nothing.
+-- remainder 0 adds nothing to a remainder, and the other way round.
 use mathlib.Core.Path.{_≡_, sym, ap, _∙_}
 use Prim.Native.Nat.{ℕ, zero, suc, _+_, _-_, _*_, _/_, _%_, _^_, _<_, _≤_}
 use native.Mathlib.Nat.{

@@ -1,4 +1,4 @@
--- Which numbers are prime, and which of them are taken as a modulus (document 01, refusal 1).
+-- Which numbers are prime, and which of them are taken as a modulus (SPECIFICATION.md, "Refusals": 1).
 use mathlib.Core.Path.{_≡_}
 use mathlib.Core.Logic.{_⊎_}
 use mathlib.Core.Bool.{Bool, true, not, _&&_}

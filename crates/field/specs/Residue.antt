@@ -13,7 +13,7 @@ times p a b = (a * b) % p
 abbrev pub power : ℕ → ℕ → ℕ → ℕ
 power p a e = (a ^ e) % p
 
--- document 01: "the inverse of a nonzero d is its power p − 2"
+-- SPECIFICATION.md, "Registers": the inverse of a nonzero d is its power p − 2
 abbrev pub inverse : ℕ → ℕ → ℕ
 inverse p a = power p a (p - 2)
 

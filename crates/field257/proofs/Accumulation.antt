@@ -1,5 +1,5 @@
 -- The value of a polynomial at a power of 3, as it is accumulated: coefficients times entries of the table of powers, whose places are kept modulo 256.
--- The sum fits 64 bits, and its remainder is the value. Assumes nothing.
+-- The sum fits 64 bits, and its remainder is the value.
 use mathlib.Core.Path.{_≡_, sym, ap, ap₂, subst, _∙_}
 use mathlib.Core.List.{List}
 use Prim.Native.Nat.{ℕ, zero, suc, _+_, _*_, _/_, _%_, _^_, _≤_, _<_, zero-le}

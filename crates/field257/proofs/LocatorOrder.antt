@@ -1,4 +1,4 @@
--- The locator polynomial does not depend on the order of its factors, so that any of them may be taken out, and a column added last. Assumes nothing.
+-- The locator polynomial does not depend on the order of its factors, so that any of them may be taken out, and a column added last.
 use mathlib.Core.Path.{_≡_, refl, sym, ap, fun-ext, _∙_}
 use mathlib.Core.List.{List, [], _∷_, _++_, append-nil, map}
 use Prim.Native.Nat.{ℕ, zero, suc}

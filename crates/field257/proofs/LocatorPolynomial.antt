@@ -1,5 +1,4 @@
 -- The locator polynomial of columns, a list of coefficients, is in the field that of their locators; its value is the polynomial's value there.
--- Assumes nothing.
 use mathlib.Core.Path.{_≡_, refl, sym, ap, fun-ext, _∙_}
 use mathlib.Core.List.{List, [], _∷_, map}
 use Prim.Native.Nat.{ℕ, zero, suc, _-_, _*_, _^_, _<_}

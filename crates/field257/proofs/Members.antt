@@ -1,6 +1,5 @@
 -- The columns of a set as a family: column k of the set is its k-th member. Their locators are distinct and nonzero, and a sum over all columns whose
 -- terms are 0 outside the set is the sum over its members.
--- Assumes nothing.
 use mathlib.Core.Path.{_≡_, sym, ap, ap₂, _∙_}
 use mathlib.Core.Logic.{_⊎_, inl, inr}
 use mathlib.Core.Bool.{Bool, true, false}

@@ -1,4 +1,4 @@
--- The table of the powers of 3 holds them. Assumes nothing.
+-- The table of the powers of 3 holds them.
 use mathlib.Core.Path.{_≡_, refl, sym, ap, _∙_}
 use Prim.Native.Nat.{ℕ, zero, suc, _*_, _%_, _^_, _≤_, _<_}
 use native.Mathlib.Nat.{mul-comm, pow-suc}

@@ -1,6 +1,5 @@
 -- Words on the columns 0 .. n − 1 that vanish outside a set P of columns: a word whose power sums at as many exponents as P has columns, following one
 -- another from any start, are 0 is 0 (Vandermonde).
--- Assumes nothing.
 use mathlib.Core.Path.{_≡_, sym, ap, _∙_}
 use mathlib.Core.Bool.{Bool, true, false}
 use mathlib.Core.Logic.{_⊎_, inl, inr}

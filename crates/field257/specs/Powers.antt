@@ -1,4 +1,4 @@
--- The powers of 3 modulo 257, and the locators of the columns among them (docs/SPECIFICATION.md, "Frames").
+-- The powers of 3 modulo 257, and the locators of the columns among them (SPECIFICATION.md, "Frames").
 use Prim.Native.Nat.{ℕ}
 use Rattle.field.specs.Residue.{power}
 

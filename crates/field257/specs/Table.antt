@@ -1,4 +1,4 @@
--- The constant table of the powers of 3 (docs/SPECIFICATION.md, "Frames").
+-- The constant table of the powers of 3 (SPECIFICATION.md, "Frames").
 use mathlib.Core.List.{List}
 use Prim.Native.Nat.{ℕ, zero, suc, _*_, _%_}
 use Rattle.lists.specs.Tabulate.{tabulate}

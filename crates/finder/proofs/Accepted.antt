@@ -1,4 +1,4 @@
--- What holds of input that no test refuses: the bounds, and what they say of the sequences that it is cut into. Assumes nothing.
+-- What holds of input that no test refuses: the bounds, and what they say of the sequences that it is cut into.
 use mathlib.Core.Path.{_≡_, refl, ap₂}
 use mathlib.Core.Bool.{and-eq-true-iff}
 use mathlib.Core.List.{List, [], _∷_, map}

@@ -1,5 +1,4 @@
 -- A step at a sequence below k looks at nothing that is kept for other sequences, so states that agree on the first k sequences agree after it.
--- Assumes nothing.
 use mathlib.Core.Path.{_≡_, refl, sym, ap, ap₂, subst, _∙_}
 use mathlib.Core.Bool.{Bool, true, false, cond}
 use mathlib.Core.List.{List}

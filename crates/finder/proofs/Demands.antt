@@ -1,4 +1,4 @@
--- Demands 1 and 2 of the finder. Assumes nothing.
+-- Demands 1 and 2 of the finder.
 use mathlib.Core.Path.{_≡_, sym, ap, subst, _∙_}
 use mathlib.Core.Logic.{_↔_, _≢_}
 use mathlib.Core.Bool.{Bool}

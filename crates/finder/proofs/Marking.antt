@@ -1,4 +1,4 @@
--- The alone mark, sequence by sequence, and that it is the mark of Algorithm 4. Assumes nothing.
+-- The alone mark, sequence by sequence, and that it is the mark of Algorithm 4.
 use mathlib.Core.Path.{_≡_, sym}
 use mathlib.Core.Bool.{Bool, true, false}
 use Prim.Native.Nat.{ℕ, _+_, _-_, _≤_, _<_, max, min}

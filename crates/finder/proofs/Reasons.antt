@@ -1,4 +1,4 @@
--- The tests of the finder say their reasons: each fails exactly where its reason holds. Assumes nothing.
+-- The tests of the finder say their reasons: each fails exactly where its reason holds.
 use mathlib.Core.Path.{_≡_, refl, sym, ap₂, _∙_}
 use mathlib.Core.Logic.{_⊎_, inl, inr}
 use mathlib.Core.Bool.{Bool, true, false, _&&_, and-eq-true-iff, false≢true}

@@ -1,4 +1,4 @@
--- A refusal of the tests is the finder's answer, and leaves the buffer as it was. Assumes nothing.
+-- A refusal of the tests is the finder's answer, and leaves the buffer as it was.
 use mathlib.Core.Path.{_≡_, sym}
 use mathlib.Core.List.{List}
 use Prim.Native.Nat.{ℕ}

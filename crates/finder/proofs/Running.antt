@@ -1,4 +1,4 @@
--- The rounds on the arrays are those of Algorithm 4 on the sequences at their places: what holds when a step is made, and what it leaves. Assumes nothing.
+-- The rounds on the arrays are those of Algorithm 4 on the sequences at their places: what holds when a step is made, and what it leaves.
 use mathlib.Core.Path.{_≡_, refl, sym, ap, ap₂, subst, _∙_}
 use mathlib.Core.List.{List, []}
 use Prim.Native.Nat.{ℕ, suc, _+_, _-_, _≤_, _<_}

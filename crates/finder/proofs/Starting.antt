@@ -1,4 +1,4 @@
--- The struct and the arrays before the first round hold the state that Algorithm 4 starts with. Assumes nothing.
+-- The struct and the arrays before the first round hold the state that Algorithm 4 starts with.
 use mathlib.Core.Path.{_≡_, refl, sym, ap, subst, _∙_}
 use mathlib.Core.List.{List, [], _∷_}
 use Prim.Native.Nat.{ℕ, zero, suc, _+_, _-_, _*_, _^_, _%_, _≤_, _<_}

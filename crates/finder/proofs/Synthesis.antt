@@ -1,5 +1,5 @@
 -- On input that no test refuses the finder's parts fit together: the places are in range, and what the rounds reach is what Algorithm 4 finds for the
--- sequences lent. Assumes nothing.
+-- sequences lent.
 use mathlib.Core.Path.{_≡_, sym, ap, ap₂, _∙_}
 use mathlib.Core.Bool.{Bool}
 use mathlib.Core.List.{List, [], _++_}

@@ -26,7 +26,7 @@ Demand2 =
     (p : ℕ) (lengths symbols buffer : List ℕ) (l : ℕ) (mark : Bool) →
     answer p lengths symbols (length buffer) ≡ register l mark → Written p lengths symbols buffer l mark
 
--- the refusals of the finder in their order, each with its reason in the words of document 01
+-- the refusals of the finder in their order, each with its reason in the words of the specification
 abbrev pub reasons : (p : ℕ) (lengths symbols : List ℕ) (room : ℕ) → List Reason
 reasons p lengths symbols room =
     record { number = 1; holds = (p < 2) ⊎ ((65521 < p) ⊎ (Prime p → ⊥)) } ∷

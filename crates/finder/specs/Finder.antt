@@ -1,4 +1,4 @@
--- What the finder answers and leaves in the lent tap buffer, for every input (document 01, "Registers" and the refusals 1, 2, 3, 8, 4 in this order).
+-- What the finder answers and leaves in the lent tap buffer, for every input (SPECIFICATION.md, "Registers" and the refusals 1, 2, 3, 8, 4 in this order).
 use mathlib.Core.Path.{_≡_}
 use mathlib.Core.Bool.{Bool}
 use mathlib.Core.List.{List, _++_}
@@ -12,7 +12,7 @@ use Rattle.register.specs.Algorithm4.{found, foundAlone}
 use Rattle.register.specs.Sequences.{longest, split}
 use Rattle.sequences.specs.Tests.{tests}
 
--- the answer in the terms of document 01: a length and the alone mark, or the number of a refusal
+-- the answer in the terms of the specification: a length and the alone mark, or the number of a refusal
 pub data Answer : Type 0 where
   register : ℕ → Bool → Answer
   refused : ℕ → Answer

@@ -1,4 +1,4 @@
-// The shortest register of up to eight sequences: the rounds of Algorithm 4, and the finder (docs/SPECIFICATION.md, "Registers").
+// The shortest register of up to eight sequences: the rounds of Algorithm 4, and the finder (SPECIFICATION.md, "Registers").
 pub mod find;
 mod rounds;
 

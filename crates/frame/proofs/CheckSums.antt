@@ -1,7 +1,6 @@
 -- Check sums in the field: a check sum is the sum of a row's symbols, each times a power of its column's locator. It is linear in the row, and for a row
 -- that is 0 outside a set of columns it is a sum over the set. So a row that is 0 outside a set and whose first check sums, as many as the set has columns,
 -- are 0 is 0 (Vandermonde): two rows that agree outside the set and in these sums are equal.
--- Assumes nothing.
 use mathlib.Core.Path.{_≡_, sym, ap, _∙_}
 use mathlib.Core.Logic.{_⊎_, inl, inr}
 use mathlib.Core.Bool.{true, false}

@@ -1,6 +1,5 @@
 -- A frame with each row completed at a set of columns of its own: what it keeps, that its first check sums are 0, and that it is the only such frame.
 -- The encoder completes at the check columns of each row, the repair at the marked columns.
--- Assumes nothing.
 use mathlib.Core.Path.{_≡_, sym, ap, _∙_}
 use mathlib.Core.Bool.{false}
 use mathlib.Core.List.{List}

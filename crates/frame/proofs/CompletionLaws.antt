@@ -1,6 +1,5 @@
 -- Completing a row at a set of columns: the row keeps its length and its symbols outside the set, gets symbols below 257 in it, and its first check sums, as
 -- many as the set has columns, are 0; no other row has all this.
--- Assumes nothing.
 use mathlib.Core.Path.{_≡_, sym, ap, ap₂, _∙_}
 use mathlib.Core.Logic.{_⊎_, inl, inr}
 use mathlib.Core.Bool.{true, false}

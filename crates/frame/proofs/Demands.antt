@@ -1,5 +1,4 @@
 -- What is owed of shapes, frames and the encoder.
--- Assumes nothing.
 use Prim.Native.Nat.{_*_}
 use native.Mathlib.Decide.{decLt, ℕ-discrete}
 use native.Mathlib.Omega.{arith}

@@ -1,5 +1,4 @@
 -- The encoder: each row completed at its check columns 0 .. N_h − 1 is legal, keeps the data, and is the only such frame.
--- Assumes nothing.
 use mathlib.Core.Path.{_≡_, sym, ap, _∙_}
 use mathlib.Core.Bool.{true, false, false≢true}
 use mathlib.Core.List.{List}

@@ -1,4 +1,4 @@
--- The tests of a frame as the code makes them. Assumes nothing.
+-- The tests of a frame as the code makes them.
 use mathlib.Core.Path.{_≡_, refl, sym, ap, ap₂, _∙_}
 use mathlib.Core.Bool.{Bool, true, false, not, cond, _||_}
 use mathlib.Core.List.{List}

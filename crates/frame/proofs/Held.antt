@@ -1,4 +1,4 @@
--- The check sums of a frame as they are held, row after row: what has been written after some rows. Assumes nothing.
+-- The check sums of a frame as they are held, row after row: what has been written after some rows.
 use mathlib.Core.Path.{_≡_, refl, sym, ap, ap₂, _∙_}
 use mathlib.Core.List.{List, _++_, append-assoc}
 use Prim.Native.Nat.{ℕ, _+_, _-_, _*_, _≤_, _<_, zero-le}

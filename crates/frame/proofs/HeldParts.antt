@@ -1,4 +1,4 @@
--- The check sums of a row among those that are held. Assumes nothing.
+-- The check sums of a row among those that are held.
 use mathlib.Core.Path.{_≡_, ap, _∙_}
 use mathlib.Core.List.{List}
 use Prim.Native.Nat.{ℕ, _+_, _≤_, _<_}

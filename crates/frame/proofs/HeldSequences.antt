@@ -1,5 +1,4 @@
 -- The sequences that held sums hold, whatever these are: one for each row of the shape, none longer than the row has checks, and with no other symbols.
--- Assumes nothing.
 use mathlib.Core.Path.{_≡_, ap, subst⁻¹, _∙_}
 use mathlib.Core.List.{List, []}
 use Prim.Native.Nat.{ℕ, min, _+_, _≤_, _<_}

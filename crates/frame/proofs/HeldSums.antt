@@ -1,5 +1,4 @@
 -- The check sums of a frame as they are held: 512 entries below 257, which tell the sequences.
--- Assumes nothing.
 use mathlib.Core.Path.{_≡_, refl, sym, ap, ap₂, _∙_}
 use mathlib.Core.Bool.{true}
 use mathlib.Core.List.{List, _++_}

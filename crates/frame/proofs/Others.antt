@@ -1,6 +1,5 @@
 -- The members of a set without one of them: the list `without` makes has one entry fewer, holds every other member, and lacks that one. In the field
 -- these are the others of a family of locators.
--- Assumes nothing.
 use mathlib.Core.Path.{_≡_, refl, sym, ap, _∙_}
 use mathlib.Core.Logic.{_≢_}
 use mathlib.Core.List.{List, [], _∷_, _++_, map}

@@ -1,6 +1,5 @@
 -- The tests of shapes and frames say their reasons: each fails exactly where its reason holds. Where they pass, the shape is one, and the frame is
 -- well-formed.
--- Assumes nothing.
 use mathlib.Core.Path.{_≡_, refl, sym, ap, ap₂, _∙_}
 use mathlib.Core.Logic.{inl, inr}
 use mathlib.Core.Bool.{Bool, true, false, not, _&&_, _||_, and-eq-true-iff, false≢true}

@@ -1,5 +1,4 @@
 -- A row whose first m symbols are the negatives of the remainder of its data is the row completed at its first m columns: its first m check sums are 0.
--- Assumes nothing.
 use mathlib.Core.Path.{_≡_, sym, ap, _∙_}
 use mathlib.Core.Bool.{Bool, true, false, cond}
 use mathlib.Core.List.{List}

@@ -1,4 +1,4 @@
--- A frame of one row: the frame is the row, and the first sums that are held are its check sums. Assumes nothing.
+-- A frame of one row: the frame is the row, and the first sums that are held are its check sums.
 use mathlib.Core.Path.{_≡_, sym, ap, ap₂, _∙_}
 use mathlib.Core.List.{List}
 use Prim.Native.Nat.{ℕ, _-_, _*_, _<_}

@@ -1,4 +1,4 @@
--- The data of a row that is still to be encoded: it is as it was, and so below 257 where the data of the frame was. Assumes nothing.
+-- The data of a row that is still to be encoded: it is as it was, and so below 257 where the data of the frame was.
 use mathlib.Core.Path.{_≡_, sym, ap, _∙_}
 use mathlib.Core.Bool.{Bool, true, _||_}
 use mathlib.Core.List.{List}

@@ -1,4 +1,4 @@
--- Where row h of a frame lies: within the frame, at numbers that fit every sum and product made of them. Assumes nothing.
+-- Where row h of a frame lies: within the frame, at numbers that fit every sum and product made of them.
 use mathlib.Core.Path.{_≡_}
 use mathlib.Core.Bool.{true}
 use Prim.Native.Nat.{ℕ, suc, _+_, _*_, _≤_, _<_}

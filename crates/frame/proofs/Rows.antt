@@ -1,6 +1,5 @@
 -- The rows and cells of a frame: what a frame with another row in the place of one holds, and one with every row changed; frames with the same cells are
 -- the same.
--- Assumes nothing.
 use mathlib.Core.Path.{_≡_, refl, sym, ap, subst, _∙_}
 use mathlib.Core.Logic.{_≢_}
 use mathlib.Core.List.{List}

@@ -1,4 +1,4 @@
--- The rows of a frame changed one after the other, each lent on as its own part of the frame. Assumes nothing.
+-- The rows of a frame changed one after the other, each lent on as its own part of the frame.
 use mathlib.Core.Path.{_≡_, refl, sym, ap, _∙_}
 use mathlib.Core.List.{List}
 use Prim.Native.Nat.{ℕ, _+_, _-_, _*_, _≤_, _<_, zero-le}

@@ -1,4 +1,4 @@
--- The tests of a shape as the code makes them, one comparison after the other. Assumes nothing.
+-- The tests of a shape as the code makes them, one comparison after the other.
 use mathlib.Core.Path.{_≡_, sym, ap, ap₂, _∙_}
 use mathlib.Core.Bool.{Bool, true, false, not, cond, _&&_, and-eq-true-iff, and-false}
 use mathlib.Core.List.{List, _++_}

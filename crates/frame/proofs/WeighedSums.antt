@@ -1,6 +1,5 @@
 -- Sums of coefficients times weights, where the weight of a + k is the product of those of a and of k, as it is for the powers of an element. What
 -- multiplying by a factor, adding a multiple of a polynomial and putting a remainder make of them.
--- Assumes nothing.
 use mathlib.Core.Path.{_≡_, sym, ap, ap₂, _∙_}
 use mathlib.Core.List.{[], _∷_}
 use Prim.Native.Nat.{ℕ, suc, _+_, _<_}

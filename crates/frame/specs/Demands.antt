@@ -1,4 +1,4 @@
--- The refusals of shapes and frames, each with its reason in the words of document 01, and what is owed of them: each number is given exactly where its
+-- The refusals of shapes and frames, each with its reason in the words of the specification, and what is owed of them: each number is given exactly where its
 -- reason is the first of its order that holds. With `OnlyLegal` of Encode.antt this is what is owed of the encoder. Proved in proofs/Demands.antt.
 use mathlib.Core.Path.{_≡_}
 use mathlib.Core.Logic.{_⊎_, _↔_}

@@ -1,4 +1,4 @@
--- Encoding: the check cells of each row are filled from its data cells (document 01, "A job" and "Frames"). Checks sit in columns 0 .. N_h − 1.
+-- Encoding: the check cells of each row are filled from its data cells (SPECIFICATION.md, "Jobs" and "Frames"). Checks sit in columns 0 .. N_h − 1.
 use mathlib.Core.Path.{_≡_}
 use mathlib.Core.Bool.{Bool, not, _||_}
 use mathlib.Core.List.{List, [], _∷_, _++_}

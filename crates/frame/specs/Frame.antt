@@ -1,4 +1,4 @@
--- Frames, their check sums, which of them are legal, and how far apart two are (document 01, "Frames").
+-- Frames, their check sums, which of them are legal, and how far apart two are (SPECIFICATION.md, "Frames").
 -- A frame is the list of its symbols, row after row.
 use mathlib.Core.Path.{_≡_}
 use mathlib.Core.Bool.{Bool, not, _&&_}
@@ -55,7 +55,7 @@ sumsBefore s h = total h (checksOf s)
 unfoldable pub heldSequences : Shape → (sums : List ℕ) → List (List ℕ)
 heldSequences s sums = tabulate (s .rows) (λ h. take (checksOf s h) (drop (sumsBefore s h) sums))
 
--- document 01's term: rows × columns symbols, all below 257
+-- the specification's term: rows × columns symbols, all below 257
 pub record WellFormed (s : Shape) (f : List ℕ) : Type 0 where
   pub size : length f ≡ s .rows * s .columns
   pub symbols : (k : ℕ) → k < length f → getD f k 0 < 257
@@ -71,7 +71,7 @@ frameTests s f =
 abbrev pub Codeword : Shape → (f : List ℕ) → Type 0
 Codeword s f = (h j : ℕ) → h < s .rows → 1 ≤ j → j ≤ checksOf s h → checkSum (s .columns) (row (s .columns) f h) j ≡ 0
 
--- document 01's term: a frame that the encoder may send
+-- the specification's term: a frame that the encoder may send
 pub record Legal (s : Shape) (f : List ℕ) : Type 0 where
   pub well-formed : WellFormed s f
   pub codeword : Codeword s f

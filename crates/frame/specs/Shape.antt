@@ -1,4 +1,4 @@
--- Shapes of frames, and the refusals 2, 5, 6 of a shape (document 01, "Frames"). Rows are numbered from 0 here, and from 1 in document 01.
+-- Shapes of frames, and the refusals 2, 5, 6 of a shape (SPECIFICATION.md, "Frames"). Rows are numbered from 0 here, and from 1 there.
 use mathlib.Core.Bool.{Bool, not, _&&_}
 use mathlib.Core.List.{List, [], _∷_, _++_}
 use Prim.Native.Nat.{ℕ, _-_}

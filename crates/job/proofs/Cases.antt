@@ -1,6 +1,5 @@
 -- A call by cases, whatever it is: refused by a test that leaves the job as it was, or by one that leaves it shaped, or every test passes and it gives what
 -- it is for.
--- Assumes nothing.
 use mathlib.Core.Path.{_≡_, _∙_}
 use Prim.Native.Nat.{ℕ}
 use Rattle.refusal.proofs.Orders.{Among, Pass, by-tests, pass-otherwise}

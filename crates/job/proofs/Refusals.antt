@@ -1,6 +1,5 @@
 -- Demand 1 for the calls on a job: each number is answered exactly where its reason is the first of the call's order that holds, and a refusal leaves what
 -- it must.
--- Assumes nothing.
 use mathlib.Core.Path.{_≡_, sym, subst}
 use mathlib.Core.Logic.{_↔_}
 use mathlib.Core.List.{List, [], _++_, append-nil}

@@ -1,4 +1,4 @@
--- What the functions return, in the terms of document 01: the numbers and values of each answer, and with the job's arrays and the lent frame as they are
+-- What the functions return, in the terms of the specification: the numbers and values of each answer, and with the job's arrays and the lent frame as they are
 -- left the whole outcome of a call.
 use mathlib.Core.List.{List, []}
 use Prim.Native.Nat.{ℕ}

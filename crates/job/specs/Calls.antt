@@ -1,4 +1,4 @@
--- What each call on a job answers and leaves, for every job and everything lent (document 01, "A job" and the orders of its refusals). Each call is
+-- What each call on a job answers and leaves, for every job and everything lent (SPECIFICATION.md, "Jobs", and the orders of "Refusals"). Each call is
 -- described once, and `step` carries out what is described.
 use mathlib.Core.Bool.{Bool, not, _||_}
 use mathlib.Core.List.{List, [], _∷_, _++_}
@@ -126,6 +126,6 @@ step j c =
     let d : Described = describe j c in
     firstOf (refusing j (d .lent)) (d .keeping) (firstOf (refusing (reshaped j) (d .lent)) (d .shaping) (d .gives))
 
--- document 01: the refusals after which the job is shaped; after every other one it is as it was
+-- SPECIFICATION.md, "Refusals": those after which the job is shaped; after every other one it is as it was
 unfoldable pub late : ℕ → Bool
 late k = eqb k 24 || (eqb k 25 || eqb k 26)

@@ -1,4 +1,4 @@
--- Jobs (document 01, "A job"): a head, and the arrays beside it. The empty one, a shaped one, a located one; and which values are sound.
+-- Jobs (SPECIFICATION.md, "Jobs"): a head, and the arrays beside it. The empty one, a shaped one, a located one; and which values are sound.
 use mathlib.Core.Bool.{Bool, true, false, not, _&&_, _||_}
 use mathlib.Core.List.{List, _++_}
 use Prim.Native.Nat.{ℕ, _-_}

@@ -1,4 +1,4 @@
--- Demand 1 for the calls on a job: the refusals of each call in their order, each with its reason in the words of document 01, and what a refusal leaves.
+-- Demand 1 for the calls on a job: the refusals of each call in their order, each with its reason in the words of the specification, and what a refusal leaves.
 -- Proved in proofs/Refusals.antt.
 use mathlib.Core.Path.{_≡_}
 use mathlib.Core.Logic.{_⊎_, _↔_}

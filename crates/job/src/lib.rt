@@ -1,10 +1,11 @@
-// The job of the receiving end: its types, and the mathematics of its calls. There are no functions here (document 01, "A job").
+// The job of the receiving end: its types, and the mathematics of its calls. There are no functions here (SPECIFICATION.md, "Jobs").
 use columns::Columns;
 use frame::Shape;
 use refusal::Checked;
 use refusal::Refusal;
 
-// Where a job stands. What a located one has found carries the length of the register, which is the number of columns to mend, and whether the register is alone.
+// Where a job stands. What a located one has found carries the length of the register, which is the number of columns to mend, and whether the register is
+// alone.
 pub enum Phase {
     Empty,
     Shaped,

@@ -1,4 +1,4 @@
--- Records in the words of docs/SPECIFICATION.md, "Records and lines": which are bad, what the fields of the others say, and which line is owed.
+-- Records in the words of SPECIFICATION.md, "Records and lines": which are bad, what the fields of the others say, and which line is owed.
 -- Proved in proofs/Demands.antt.
 use mathlib.Core.Path.{_≡_}
 use mathlib.Core.Logic.{_⊎_, _↔_}

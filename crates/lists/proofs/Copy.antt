@@ -1,5 +1,4 @@
 -- A list copied over another of the same length, entry by entry: `copied to from i` is `to` with its first i entries replaced by those of `from`.
--- Assumes nothing.
 use mathlib.Core.Path.{_≡_, sym, ap, ap₂, _∙_}
 use mathlib.Core.List.{List, _++_, append-nil}
 use Prim.Native.Nat.{ℕ, suc, _+_, _≤_, _<_}

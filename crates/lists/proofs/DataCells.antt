@@ -1,4 +1,4 @@
--- The data of a row copied over zeros, from column m on. Assumes nothing.
+-- The data of a row copied over zeros, from column m on.
 use mathlib.Core.Path.{_≡_, refl, sym, ap, _∙_}
 use mathlib.Core.Bool.{Bool, cond}
 use mathlib.Core.List.{List}

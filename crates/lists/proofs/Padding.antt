@@ -1,4 +1,4 @@
--- A row copied over zeros. Assumes nothing.
+-- A row copied over zeros.
 use mathlib.Core.Path.{_≡_, sym, ap, _∙_}
 use mathlib.Core.List.{List, _++_}
 use Prim.Native.Nat.{ℕ, _+_, _-_, _≤_, _<_}

@@ -1,4 +1,4 @@
--- Laws of lists and tests by index: what `tabulate` holds, when two such lists are equal, and what `every` says. Assumes nothing.
+-- Laws of lists and tests by index: what `tabulate` holds, when two such lists are equal, and what `every` says.
 use mathlib.Core.Path.{_≡_, refl, sym, ap, ap₂, subst, _∙_}
 use mathlib.Core.Bool.{Bool, true, false, _&&_, and-eq-true-iff, false≢true}
 use mathlib.Core.List.{List, [], _∷_, _++_}

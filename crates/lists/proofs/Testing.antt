@@ -1,4 +1,4 @@
--- A test of all of n entries, entry after entry, with no way out at the first that fails: whether those tested so far have passed. Assumes nothing.
+-- A test of all of n entries, entry after entry, with no way out at the first that fails: whether those tested so far have passed.
 use mathlib.Core.Path.{_≡_, sym, ap, _∙_}
 use mathlib.Core.Bool.{Bool, true, false, _&&_, and-true, and-false}
 use Prim.Native.Nat.{ℕ, _+_, _≤_, _<_, zero-le}

@@ -1,4 +1,4 @@
--- Lists of zeros: every entry is 0, past the end too, and a part is one. Assumes nothing.
+-- Lists of zeros: every entry is 0, past the end too, and a part is one.
 use mathlib.Core.Path.{_≡_, refl, sym, ap, _∙_}
 use mathlib.Core.List.{List}
 use Prim.Native.Nat.{ℕ, zero, suc, _+_}

@@ -1,4 +1,4 @@
--- Fields read into entries: nothing is read yet, and one field more. Assumes nothing.
+-- Fields read into entries: nothing is read yet, and one field more.
 use mathlib.Core.Path.{_≡_, refl, sym, ap, ap₂, _∙_}
 use mathlib.Core.List.{List, [], _∷_, _++_}
 use Prim.Native.Nat.{ℕ, _+_, _/_, _<_}

@@ -1,5 +1,4 @@
 -- What a reader hands out at a place: a value where two bytes are left, and the end where not; and what that says of the field's number.
--- Assumes nothing.
 use mathlib.Core.Path.{_≡_, refl}
 use mathlib.Core.Bool.{Bool, true, false, cond}
 use mathlib.Core.List.{List}

@@ -1,4 +1,4 @@
--- The fields of a record's bytes: 16 bits each, little-endian (document 01, "Records and lines").
+-- The fields of a record's bytes: 16 bits each, little-endian (SPECIFICATION.md, "Records and lines").
 use mathlib.Core.Path.{_≡_}
 use mathlib.Core.Bool.{cond}
 use mathlib.Core.List.{List}

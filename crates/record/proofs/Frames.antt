@@ -1,4 +1,4 @@
--- The line of a record of a frame, by what the calls on a job return; a located frame has 64 marked columns at most. Assumes nothing.
+-- The line of a record of a frame, by what the calls on a job return; a located frame has 64 marked columns at most.
 use mathlib.Core.Path.{_≡_, refl, sym, ap, _∙_, subst, subst⁻¹}
 use mathlib.Core.Bool.{true}
 use mathlib.Core.List.{List}

@@ -1,4 +1,4 @@
--- A line written piece by piece: a letter, numbers, more numbers, and the newline. Assumes nothing.
+-- A line written piece by piece: a letter, numbers, more numbers, and the newline.
 use mathlib.Core.Path.{sym, ap}
 use mathlib.Core.List.{List, [], _∷_, _++_}
 use Prim.Native.Nat.{ℕ, _^_, _≤_, _<_}

@@ -1,4 +1,4 @@
--- What a record is, by the tests of its bytes and of its fields. Assumes nothing.
+-- What a record is, by the tests of its bytes and of its fields.
 use mathlib.Core.Path.{_≡_, refl, sym, ap, ap₂, _∙_}
 use mathlib.Core.Bool.{Bool, true, false, cond, _&&_}
 use mathlib.Core.List.{List, _++_}

@@ -1,4 +1,4 @@
--- The line of a record of sequences, by what the finder answers and leaves in its tap buffer. Assumes nothing.
+-- The line of a record of sequences, by what the finder answers and leaves in its tap buffer.
 use mathlib.Core.Path.{_≡_, sym, ap, ap₂, _∙_, subst}
 use mathlib.Core.Bool.{Bool}
 use mathlib.Core.List.{List}

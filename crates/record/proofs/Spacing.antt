@@ -1,4 +1,4 @@
--- Numbers written one after another, each after a space. Assumes nothing.
+-- Numbers written one after another, each after a space.
 use mathlib.Core.Path.{_≡_, sym, ap, _∙_}
 use mathlib.Core.List.{List, [], _∷_, _++_}
 use Prim.Native.Nat.{ℕ, _+_, _*_, _^_, _≤_, _<_}

@@ -1,5 +1,4 @@
 -- Texts written one after another into a buffer: nothing, a byte, one text after another; the buffer keeps its length.
--- Assumes nothing.
 use mathlib.Core.Path.{_≡_, refl, sym, ap, _∙_, subst}
 use mathlib.Core.List.{List, [], _∷_, _++_, append-assoc}
 use Prim.Native.Nat.{ℕ, _+_, _≤_, _<_}

@@ -1,4 +1,4 @@
--- What the bytes of a record say (document 01, "Records and lines"): a little-endian 16-bit length that counts the bytes after it, a kind, and a body of
+-- What the bytes of a record say (SPECIFICATION.md, "Records and lines"): a little-endian 16-bit length that counts the bytes after it, a kind, and a body of
 -- 16-bit fields.
 use mathlib.Core.Bool.{Bool, cond, _&&_}
 use mathlib.Core.List.{List, _++_}

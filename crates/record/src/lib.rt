@@ -1,4 +1,4 @@
-// The line that the program writes for a record (document 01, "Records and lines").
+// The line that the program writes for a record (SPECIFICATION.md, "Records and lines").
 mod answers;
 pub mod line;
 pub mod parse;

@@ -1,6 +1,5 @@
 -- Orders of refusals. What is given goes by cases: a number of the order, or what stands for no refusal, and then every test passes. Where tests and
 -- reasons say the same, one by one, the number given is that of the first reason that holds, and no test fails exactly where no reason holds.
--- Assumes nothing.
 use mathlib.Core.Path.{_≡_, refl, sym, ap, subst, _∙_}
 use mathlib.Core.Logic.{_⊎_, inl, inr, _↔_, _≢_}
 use mathlib.Core.Bool.{Bool, true, false, cond, not, false≢true}

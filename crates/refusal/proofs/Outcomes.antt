@@ -1,4 +1,4 @@
--- What is given by an order of refusals is read off the outcome of its tests. Assumes nothing.
+-- What is given by an order of refusals is read off the outcome of its tests.
 use mathlib.Core.Path.{_≡_, sym, ap, _∙_}
 use mathlib.Core.List.{List}
 use Prim.Native.Nat.{ℕ}

@@ -1,4 +1,4 @@
--- A test of a range says its reason: it fails exactly where the number is outside of the range. Assumes nothing.
+-- A test of a range says its reason: it fails exactly where the number is outside of the range.
 use mathlib.Core.Path.{_≡_, sym, ap₂, _∙_}
 use mathlib.Core.Logic.{_⊎_, inl, inr}
 use mathlib.Core.Bool.{true, false, not, _&&_, and-eq-true-iff, false≢true}

@@ -1,4 +1,4 @@
--- The number that document 01 gives each refusal: "Refused because of the input" and "Refused because of the state".
+-- The number of each refusal (SPECIFICATION.md, "Refusals").
 use Prim.Native.Nat.{ℕ}
 use Rattle.refusal.specs.declared.Refusal.{Refusal}
 use Rattle.refusal.specs.declared.Refusal.the-variants.{

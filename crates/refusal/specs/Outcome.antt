@@ -1,4 +1,4 @@
--- What a test of the input finds, in the numbers of document 01.
+-- What a test of the input finds, in the numbers of the refusals.
 use mathlib.Core.List.{List}
 use Prim.Native.Nat.{ℕ}
 use Rattle.refusal.specs.Number.{number}

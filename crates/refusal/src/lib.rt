@@ -1,4 +1,4 @@
-// The refusals that the calls of the library answer, one name for each number of document 01.
+// The refusals that the calls of the library answer, one name for each number (SPECIFICATION.md, "Refusals").
 ghost use mathlib.Core.Path.{_≡_};
 ghost use Rattle.refusal.specs.Number.{number};
 
@@ -26,7 +26,7 @@ pub enum Checked {
     Refuse(Refusal),
 }
 
-// The number that document 01 gives a refusal.
+// The number of a refusal (SPECIFICATION.md, "Refusals").
 pub fn number_of(r: Refusal) -> u32
     ensures { λ k. ⌜ k ≡ number r ⌝ }
 {

@@ -1,5 +1,4 @@
 -- The state of Algorithm 4 on lists, seen over the field of residues, goes through the steps of Algorithm 4 over a field.
--- Assumes nothing.
 use mathlib.Core.Path.{_≡_, refl, sym, ap, ap₂, fun-ext, _∙_}
 use mathlib.Core.Bool.{Bool, true, false, cond}
 use mathlib.Core.List.{List, [], _∷_}

@@ -1,6 +1,5 @@
 -- Sequences that end at the same position N, as Algorithm 4 reads them: position m of a sequence s is its symbol m − (N − length s). The discrepancy
 -- of a register there is the product of its polynomial with the symbols. What stands before the first symbol is never asked for.
--- Assumes nothing.
 use mathlib.Core.Path.{_≡_, sym, ap, _∙_}
 use mathlib.Core.List.{List, []}
 use Prim.Native.Nat.{ℕ, suc, _+_, _-_, _*_, _%_, _≤_, _<_}

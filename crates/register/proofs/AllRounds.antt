@@ -1,4 +1,4 @@
--- What Algorithm 4 has found after all of its rounds: a shortest register of the sequences themselves. Assumes nothing.
+-- What Algorithm 4 has found after all of its rounds: a shortest register of the sequences themselves.
 use mathlib.Core.Path.{_≡_, refl, ap, ap₂, subst, _∙_}
 use mathlib.Core.Bool.{false}
 use mathlib.Core.List.{List, [], _∷_}

@@ -1,6 +1,5 @@
 -- How large the state of Algorithm 4 gets: after round n, or inside it, the register has at most n taps after the first, each a
 -- residue, and what is saved was saved no later than in round n. So nothing that the code computes overflows.
--- Assumes nothing.
 use mathlib.Core.Path.{_≡_, refl}
 use mathlib.Core.List.{List, [], _∷_}
 use Prim.Native.Nat.{ℕ, zero, suc, _+_, _-_, _*_, _≤_, _<_, max}

@@ -1,5 +1,4 @@
 -- A step of Algorithm 4 by its cases: nothing is asked for at (n, h); the discrepancy is 0; the length grows; the length stays.
--- Assumes nothing.
 use mathlib.Core.Path.{_≡_, refl}
 use mathlib.Core.Logic.{_≢_}
 use mathlib.Core.Bool.{Bool, true, false, cond}

@@ -1,6 +1,5 @@
 -- Demand 2 of Algorithm 4: after every finished round n it has found a shortest register of the sequences without their last N − n symbols, and
 -- the mark says whether that is alone. The theory of the shortest register over a field, carried to lists.
--- Assumes nothing.
 use mathlib.Core.Path.{_≡_, refl, sym, ap, subst, fun-ext, _∙_}
 use mathlib.Core.Bool.{Bool, true, false}
 use mathlib.Core.List.{List, []}

@@ -1,5 +1,4 @@
 -- A step of Algorithm 4 over a field, by its cases: nothing is asked for at (n, h); the discrepancy is 0; the length grows; the length stays.
--- Assumes nothing.
 use mathlib.Core.Path.{_≡_}
 use mathlib.Core.Logic.{_≢_, if-pos, if-neg}
 use Prim.Native.Nat.{ℕ, _+_, _-_, _≤_, _<_}

@@ -1,6 +1,5 @@
 -- A list of taps generates the sequences without their last N − n symbols exactly where its polynomial generates the ordered and aligned sequences
 -- up to position n. N is the longest length; the order does not matter, since it is asked of every sequence.
--- Assumes nothing.
 use mathlib.Core.Path.{_≡_, sym, ap, subst, _∙_}
 use mathlib.Core.List.{List, []}
 use Prim.Native.Nat.{ℕ, zero, suc, _-_, _≤_, _<_}

@@ -1,5 +1,4 @@
 -- Symbols lent one sequence after the other: each sequence stands at the sum of the lengths before it.
--- Assumes nothing.
 use mathlib.Core.Path.{_≡_, sym, ap, ap₂, _∙_}
 use mathlib.Core.List.{List, _∷_}
 use Prim.Native.Nat.{ℕ, zero, suc}

@@ -1,6 +1,5 @@
 -- Sequences of equal length keep the order given: those of length k, taken out of the ordered sequences, stand as they stood before. That this and
 -- `falling-ordered` fix the order is proved in InOrder.antt.
--- Assumes nothing.
 use mathlib.Core.Path.{_≡_, refl, sym, ap, _∙_}
 use mathlib.Core.Bool.{Bool, true, false, cond}
 use mathlib.Core.List.{List, [], _∷_}

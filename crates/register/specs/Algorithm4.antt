@@ -1,4 +1,4 @@
--- Algorithm 4 of Schmidt and Sidorenko as document 01, "Registers", states it, on lists of numbers modulo p.
+-- Algorithm 4 of Schmidt and Sidorenko as SPECIFICATION.md, "Registers", states it, on lists of numbers modulo p.
 -- Sequences are ordered by falling length and numbered from 0. N is the longest length, n a round from 1 to N.
 use mathlib.Core.Bool.{Bool, cond}
 use mathlib.Core.List.{List, [], _∷_}

@@ -1,4 +1,4 @@
--- Registers, and the shortest one (document 01, "Registers"; Problem 2 of Schmidt and Sidorenko). No algorithm is spoken of here.
+-- Registers, and the shortest one (SPECIFICATION.md, "Registers"; Problem 2 of Schmidt and Sidorenko). No algorithm is spoken of here.
 use mathlib.Core.Path.{_≡_}
 use mathlib.Core.List.{List, []}
 use Prim.Native.Nat.{ℕ, suc, _+_, _-_, _*_, _%_, _≤_, _<_}
@@ -29,7 +29,7 @@ pub record Generator (p l : ℕ) (ss : List (List ℕ)) (σ : List ℕ) : Type 0
 abbrev pub Least : (p l : ℕ) (ss : List (List ℕ)) → Type 0
 Least p l ss = (m : ℕ) → m < l → (τ : List ℕ) → Generator p m ss τ → ⊥
 
--- document 01's term: no other taps of this length generate them all
+-- the specification's term: no other taps of this length generate them all
 abbrev pub Alone : (p l : ℕ) (ss : List (List ℕ)) (σ : List ℕ) → Type 0
 Alone p l ss σ = (τ : List ℕ) → Generator p l ss τ → τ ≡ σ
 

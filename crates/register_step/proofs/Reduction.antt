@@ -1,5 +1,5 @@
 -- The taps of a register less q·x^e·τ, worked tap by tap: `reduced` by no tap of τ, by one more, and by all of them; and its entries at one length and
--- at another. Assumes nothing.
+-- at another.
 use mathlib.Core.Path.{_≡_, sym, ap, ap₂, _∙_}
 use mathlib.Core.Logic.{_≢_}
 use mathlib.Core.List.{List, []}

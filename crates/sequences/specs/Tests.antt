@@ -1,4 +1,4 @@
--- The tests of what is lent to the finder: the refusals 1, 2, 3, 8, 4 in this order (docs/SPECIFICATION.md, "Refusals").
+-- The tests of what is lent to the finder: the refusals 1, 2, 3, 8, 4 in this order (SPECIFICATION.md, "Refusals").
 use mathlib.Core.Bool.{Bool, not, _&&_}
 use mathlib.Core.List.{List, [], _∷_}
 use Prim.Native.Nat.{ℕ, suc}

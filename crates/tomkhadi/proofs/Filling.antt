@@ -1,4 +1,4 @@
--- A window that is filled again by one read after the other. Assumes nothing.
+-- A window that is filled again by one read after the other.
 use mathlib.Core.Path.{_≡_, sym, ap, _∙_}
 use mathlib.Core.Bool.{Bool, true, false, cond, _&&_, false≢true}
 use mathlib.Core.List.{List}

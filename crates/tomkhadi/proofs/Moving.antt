@@ -1,4 +1,4 @@
--- Bytes moved to the front of a buffer one by one. Assumes nothing.
+-- Bytes moved to the front of a buffer one by one.
 use mathlib.Core.Path.{_≡_, refl, sym, ap, ap₂, _∙_}
 use mathlib.Core.List.{List, [], _∷_, _++_}
 use Prim.Native.Nat.{ℕ, _+_, _<_}

@@ -1,4 +1,4 @@
--- The coefficients of one column, from what the code computes for them, and the part of the array that holds them. Assumes nothing.
+-- The coefficients of one column, from what the code computes for them, and the part of the array that holds them.
 use mathlib.Core.Path.{_≡_, ap, _∙_}
 use mathlib.Core.List.{List}
 use Prim.Native.Nat.{ℕ, suc, _-_, _≤_, _<_}

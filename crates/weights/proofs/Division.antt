@@ -1,4 +1,4 @@
--- Synthetic division, coefficient after coefficient, and what it gives: where f is g times 1 − x·z, the quotient is g. Assumes nothing.
+-- Synthetic division, coefficient after coefficient, and what it gives: where f is g times 1 − x·z, the quotient is g.
 use mathlib.Core.Path.{_≡_, refl, sym, ap, ap₂, _∙_}
 use mathlib.Core.List.{List}
 use Prim.Native.Nat.{ℕ, suc, _+_, _*_, _%_, _≤_, _<_}

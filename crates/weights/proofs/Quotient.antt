@@ -1,4 +1,4 @@
--- Synthetic division of the locator polynomial of a set by the factor of a member gives the locator polynomial of the other members. Assumes nothing.
+-- Synthetic division of the locator polynomial of a set by the factor of a member gives the locator polynomial of the other members.
 use mathlib.Core.Path.{_≡_, sym, ap, ap₂, fun-ext, _∙_}
 use mathlib.Core.List.{List, [], _∷_, _++_, map}
 use Prim.Native.Nat.{ℕ, zero, suc, _+_, _*_, _<_}

@@ -1,4 +1,4 @@
--- What is read off check sums with the coefficients of a column is the symbol in closed form. Assumes nothing.
+-- What is read off check sums with the coefficients of a column is the symbol in closed form.
 use mathlib.Core.Path.{_≡_, sym, ap, ap₂, _∙_}
 use mathlib.Core.List.{[], _∷_}
 use Prim.Native.Nat.{ℕ, _-_, _*_, _%_, _≤_}

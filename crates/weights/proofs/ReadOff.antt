@@ -1,4 +1,4 @@
--- The coefficients of a column, from what the code computes for them. Assumes nothing.
+-- The coefficients of a column, from what the code computes for them.
 use mathlib.Core.Path.{_≡_, sym, ap, ap₂, _∙_}
 use mathlib.Core.List.{List}
 use Prim.Native.Nat.{ℕ, _-_, _*_, _%_, _≤_}

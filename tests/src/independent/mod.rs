@@ -1,4 +1,4 @@
-//! The calls of the library from what docs/SPECIFICATION.md says of them, by elimination and direct
+//! The calls of the library from what SPECIFICATION.md says of them, by elimination and direct
 //! sums. It shares no method with the library, but for the taps of a register that is not alone,
 //! which are defined by Algorithm 4.
 

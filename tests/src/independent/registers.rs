@@ -1,5 +1,5 @@
 //! Registers by their definition: which generate the sequences, the shortest by solving for the
-//! taps at each length in turn, and the taps of Algorithm 4, step by step (docs/SPECIFICATION.md,
+//! taps at each length in turn, and the taps of Algorithm 4, step by step (SPECIFICATION.md,
 //! "Registers").
 
 use super::elimination::{System, inverse};
@@ -54,7 +54,7 @@ pub fn shortest(p: u32, sequences: &[Vec<u64>]) -> (usize, Option<Vec<u64>>) {
     (l, system.is_unique().then_some(taps))
 }
 
-/// The taps that Algorithm 4 of document 003 finds.
+/// The taps that Algorithm 4 of Schmidt and Sidorenko finds.
 pub fn algorithm_4(p: u32, sequences: &[Vec<u64>]) -> Vec<u64> {
     let p = u64::from(p);
     let mut sequences = sequences.to_vec();

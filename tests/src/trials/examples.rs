@@ -1,4 +1,4 @@
-//! The marked examples (docs/SPECIFICATION.md, "Examples"), with the answers that stand there.
+//! The marked examples (SPECIFICATION.md, "Examples"), with the answers that stand there.
 
 use common::interface::Marks;
 

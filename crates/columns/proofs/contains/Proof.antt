@@ -1,4 +1,4 @@
--- `columns::contains` meets its contract. Assumes nothing.
+-- `columns::contains` meets its contract.
 use mathlib.Core.Path.{sym}
 use borrow.Author.Needs.{needs}
 use native.Mathlib.Omega.{arith}

@@ -1,4 +1,4 @@
--- `columns::empty` meets its contract: the words of the value with no marks compute to 0. Assumes nothing.
+-- `columns::empty` meets its contract: the words of the value with no marks compute to 0.
 use mathlib.Core.Path.{refl}
 use Rattle.columns.specs.Columns.{number, columnsOf}
 use Rattle.columns.proofs.empty.Statement.{statement}

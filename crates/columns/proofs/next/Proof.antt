@@ -1,4 +1,4 @@
--- `columns::next` meets its contract. The loop's invariant: no column from `from` up to `at` is marked. Assumes nothing.
+-- `columns::next` meets its contract. The loop's invariant: no column from `from` up to `at` is marked.
 use Prim.Native.Nat.{_-_}
 use native.Mathlib.Omega.{arith}
 use lib.Count.{trailing-le}

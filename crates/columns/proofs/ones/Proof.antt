@@ -1,4 +1,4 @@
--- `columns::ones` meets its contract. Assumes nothing.
+-- `columns::ones` meets its contract.
 use borrow.Author.Needs.{needs}
 use native.Mathlib.Omega.{arith}
 use lib.Count.{ones-le}

@@ -1,4 +1,4 @@
--- `columns::size` meets its contract. Assumes nothing.
+-- `columns::size` meets its contract.
 use borrow.Author.Needs.{needs}
 use native.Mathlib.Omega.{arith}
 use Rattle.columns.proofs.Words.{counted}

@@ -1,4 +1,4 @@
--- `columns::with` meets its contract. Assumes nothing.
+-- `columns::with` meets its contract.
 use borrow.Author.Needs.{needs}
 use Rattle.columns.proofs.Marks.{sound}
 use Rattle.columns.proofs.Words.{marked-is}

@@ -1,6 +1,6 @@
 -- `reader::advanced` meets its contract: a walk of its MIR, by hand. A struct is made anew of the slice that the one passed holds, and a later place.
--- The struct is Copy: what it owns is had twice, one copy is kept whole for the exit, and the other, with the facts of the new place instead of the old one's, is what the result owns.
--- Assumes nothing.
+-- The struct is Copy: what it owns is had twice, one copy is kept whole for the exit, and the other, with the facts of the new place instead of the old one's,
+-- is what the result owns.
 use mathlib.Core.Path.{refl}
 use Prim.Native.Nat.{ℕ, _+_, _*_, _<_, _^_}
 use native.Mathlib.Omega.{arith}

@@ -1,4 +1,4 @@
--- `reader::field_at` meets its contract: each test says which case of `fieldAt` holds. Assumes nothing.
+-- `reader::field_at` meets its contract: each test says which case of `fieldAt` holds.
 use mathlib.Core.Path.{ap₂, _∙_}
 use Prim.Native.Nat.{ℕ, _+_, _*_}
 use native.Mathlib.Omega.{arith}

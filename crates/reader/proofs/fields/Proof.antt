@@ -1,5 +1,4 @@
 -- `reader::fields` meets its contract. The loop's invariant: the fields passed stand in `out`, and its later entries are as they were.
--- Assumes nothing.
 use mathlib.Core.Path.{_≡_, refl, sym, _∙_}
 use Prim.Native.Nat.{_-_, _/_, _≤_}
 use native.Mathlib.Omega.{arith}

@@ -1,6 +1,6 @@
--- `reader::next` meets its contract: a walk of its MIR, by hand. The struct is taken apart, and `field_at` is called on the slice and the number. All that the proof knows of `field_at` is that it meets its contract.
--- The struct is Copy: what it owns is had twice, one copy is kept whole for the exit, and of the other what src owns goes to the callee, beside the lifetime's token, which comes back.
--- Assumes nothing.
+-- `reader::next` meets its contract: a walk of its MIR, by hand. The struct is taken apart, and `field_at` is called on the slice and the number. All that the
+-- proof knows of `field_at` is that it meets its contract. The struct is Copy: what it owns is had twice, one copy is kept whole for the exit, and of the other
+-- what src owns goes to the callee, beside the lifetime's token, which comes back.
 use mathlib.Core.Path.{_≡_, refl}
 use Prim.Native.Nat.{_<_, _^_}
 use mathlib.Core.List.{[], _∷_}

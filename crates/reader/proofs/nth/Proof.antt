@@ -1,6 +1,6 @@
--- `reader::nth` meets its contract: a walk of its MIR, by hand. A `Reader` that one call returns is held in a local and passed to the next. All that the proof knows of `new`, `advanced` and `next` is that each meets its contract.
--- In a local of a body MIR erases the lifetime of the struct's type, so the value is shown to have the type at `erased`: what the struct owns does not say the lifetime's name.
--- Assumes nothing.
+-- `reader::nth` meets its contract: a walk of its MIR, by hand. A `Reader` that one call returns is held in a local and passed to the next. All that the proof
+-- knows of `new`, `advanced` and `next` is that each meets its contract. In a local of a body MIR erases the lifetime of the struct's type, so the value is
+-- shown to have the type at `erased`: what the struct owns does not say the lifetime's name.
 use mathlib.Core.Path.{_≡_, refl, ap₂, _∙_}
 use Prim.Native.Nat.{ℕ, _+_, _*_, _<_, _^_}
 use native.Mathlib.Omega.{arith}

@@ -1,4 +1,4 @@
--- `weights::divide` meets its contract. Assumes nothing.
+-- `weights::divide` meets its contract.
 use Prim.Native.Nat.{_-_}
 use native.Mathlib.Omega.{arith}
 use lib.ListN.{length}

@@ -1,4 +1,4 @@
--- `weights::factor` meets its contract. Assumes nothing.
+-- `weights::factor` meets its contract.
 use mathlib.Core.Path.{ap, _∙_}
 use Prim.Native.Nat.{_≤_}
 use native.Mathlib.Nat.{mul-le-mul}

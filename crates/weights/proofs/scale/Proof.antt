@@ -1,4 +1,4 @@
--- `weights::scale` meets its contract. Assumes nothing.
+-- `weights::scale` meets its contract.
 use mathlib.Core.Path.{ap, _∙_}
 use Prim.Native.Nat.{ℕ, _-_, _*_, _%_, _≤_}
 use native.Mathlib.Nat.{mul-le-mul}

@@ -1,4 +1,4 @@
--- `weights::weigh` meets its contract. Assumes nothing.
+-- `weights::weigh` meets its contract.
 use mathlib.Core.Path.{ap, _∙_}
 use Prim.Native.Nat.{ℕ, suc}
 use lib.ListN.{length}

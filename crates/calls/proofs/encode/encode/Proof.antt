@@ -1,4 +1,4 @@
--- `calls::encode::encode` meets its contract. Assumes nothing.
+-- `calls::encode::encode` meets its contract.
 use mathlib.Core.Path.{_≡_, sym, _∙_}
 use mathlib.Core.Bool.{false}
 use Rattle.job.specs.Job.{countsEmpty}

@@ -1,4 +1,4 @@
--- `calls::from_sums::locate_from` meets its contract. Assumes nothing.
+-- `calls::from_sums::locate_from` meets its contract.
 use mathlib.Core.Path.{_≡_, sym, ap, _∙_}
 use mathlib.Core.Bool.{true}
 use native.Mathlib.Omega.{arith}

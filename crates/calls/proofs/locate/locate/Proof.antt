@@ -1,4 +1,4 @@
--- `calls::locate::locate` meets its contract. Assumes nothing.
+-- `calls::locate::locate` meets its contract.
 use mathlib.Core.Path.{_≡_, refl, sym, ap, subst⁻¹, _∙_}
 use mathlib.Core.Bool.{false}
 use mathlib.Core.List.{List}

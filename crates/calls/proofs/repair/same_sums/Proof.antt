@@ -1,4 +1,4 @@
--- `calls::repair::same_sums` meets its contract. Assumes nothing.
+-- `calls::repair::same_sums` meets its contract.
 use mathlib.Core.Bool.{Bool}
 use mathlib.Core.List.{List}
 use mathlib.Core.Logic.{⊎-elim}

@@ -1,4 +1,4 @@
--- `calls::search::is_root` meets its contract. Assumes nothing.
+-- `calls::search::is_root` meets its contract.
 use mathlib.Core.Path.{sym, ap, _∙_}
 use Prim.Native.Nat.{ℕ}
 use denote.Ref.{now}

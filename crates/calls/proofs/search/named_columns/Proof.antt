@@ -1,4 +1,4 @@
--- `calls::search::named_columns` meets its contract: after i turns the columns below i are searched. Assumes nothing.
+-- `calls::search::named_columns` meets its contract: after i turns the columns below i are searched.
 use mathlib.Core.Path.{_≡_, sym, _∙_}
 use Prim.Native.Nat.{_-_, _≤_}
 use native.Mathlib.Omega.{arith}

@@ -1,4 +1,4 @@
--- `calls::shape::shape` meets its contract. Assumes nothing.
+-- `calls::shape::shape` meets its contract.
 use mathlib.Core.Path.{sym, ap, _∙_}
 use Rattle.job.specs.Job.{shapedHead}
 use Rattle.refusal.specs.Outcome.{outcomeOf}

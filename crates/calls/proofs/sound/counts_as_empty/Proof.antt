@@ -1,4 +1,4 @@
--- `calls::sound::counts_as_empty` meets its contract. Assumes nothing.
+-- `calls::sound::counts_as_empty` meets its contract.
 use mathlib.Core.Path.{_≡_, sym, ap, _∙_}
 use mathlib.Core.Bool.{true}
 use borrow.Author.Tests.{not-true, not-false}

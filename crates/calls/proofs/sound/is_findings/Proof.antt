@@ -1,4 +1,4 @@
--- `calls::sound::is_findings` meets its contract. Assumes nothing.
+-- `calls::sound::is_findings` meets its contract.
 use mathlib.Core.Path.{sym, _∙_}
 use borrow.Author.Tests.{not-true, not-false}
 use Rattle.job.proofs.Emptiness.{not-alone, outside, miscounted, reach-left}

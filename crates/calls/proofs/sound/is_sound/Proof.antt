@@ -1,4 +1,4 @@
--- `calls::sound::is_sound` meets its contract. Assumes nothing.
+-- `calls::sound::is_sound` meets its contract.
 use mathlib.Core.Path.{_≡_, sym, _∙_}
 use mathlib.Core.Bool.{true}
 use borrow.Author.Tests.{not-true, not-false}

@@ -1,4 +1,4 @@
--- `calls::sound::marks_below` meets its contract. Assumes nothing.
+-- `calls::sound::marks_below` meets its contract.
 use mathlib.Core.Path.{ap, _∙_}
 use Prim.Native.Nat.{ℕ}
 use lib.Dec.{eqb}

@@ -1,4 +1,4 @@
--- `calls::sound::rows_reach` meets its contract: the rows passed have at least c checks. Assumes nothing.
+-- `calls::sound::rows_reach` meets its contract: the rows passed have at least c checks.
 use mathlib.Core.Path.{_≡_, sym}
 use mathlib.Core.Bool.{true}
 use Prim.Native.Nat.{ℕ, _-_, _≤_, _<_}

@@ -1,4 +1,4 @@
--- `calls::states::mended` meets its contract. Assumes nothing.
+-- `calls::states::mended` meets its contract.
 use borrow.Author.Needs.{needs}
 use Rattle.calls.proofs.states.mended.Statement.{statement}
 use Rattle.calls.proofs.states.mended.Tie as tie

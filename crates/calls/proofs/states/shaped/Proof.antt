@@ -1,4 +1,4 @@
--- `calls::states::shaped` meets its contract. Assumes nothing.
+-- `calls::states::shaped` meets its contract.
 use Rattle.job.specs.Job.{noColumns}
 use borrow.Author.Needs.{needs}
 use Rattle.calls.proofs.states.shaped.Statement.{statement}

@@ -1,4 +1,4 @@
--- `capi::find::register_of` meets its contract, case by case. Assumes nothing.
+-- `capi::find::register_of` meets its contract, case by case.
 use mathlib.Core.Path.{ap}
 use borrow.Author.Needs.{needs}
 use Rattle.finder.specs.Finder.{answerOf}

@@ -1,4 +1,4 @@
--- `capi::find::tomkhadi_find` meets its contract, by the finder's. Assumes nothing.
+-- `capi::find::tomkhadi_find` meets its contract, by the finder's.
 use mathlib.Core.Path.{_∙_, ap}
 use borrow.Author.Needs.{needs}
 use Rattle.capi.specs.Mirror.{registerOf}

@@ -1,4 +1,4 @@
--- `capi::jobs::answered_of` meets its contract, by those of the functions that it calls. Assumes nothing.
+-- `capi::jobs::answered_of` meets its contract, by those of the functions that it calls.
 use borrow.Author.Needs.{needs}
 use Rattle.capi.proofs.jobs.answered_of.Statement.{statement}
 use Rattle.capi.proofs.jobs.answered_of.Tie as tie

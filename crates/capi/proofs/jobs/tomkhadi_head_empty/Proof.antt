@@ -1,4 +1,4 @@
--- `capi::jobs::tomkhadi_head_empty` meets its contract, by those of the functions that it calls. Assumes nothing.
+-- `capi::jobs::tomkhadi_head_empty` meets its contract, by those of the functions that it calls.
 use mathlib.Core.Path.{_∙_, ap}
 use borrow.Author.Needs.{needs}
 use Rattle.capi.specs.Mirror.{mirrorOf}

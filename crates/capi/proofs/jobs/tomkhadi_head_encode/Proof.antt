@@ -1,4 +1,4 @@
--- `capi::jobs::tomkhadi_head_encode` meets its contract, by those of the functions that it calls. Assumes nothing.
+-- `capi::jobs::tomkhadi_head_encode` meets its contract, by those of the functions that it calls.
 use mathlib.Core.Path.{_∙_, ap, sym}
 use borrow.Author.Needs.{needs}
 use Rattle.capi.specs.Mirror.{refusalOf}

@@ -1,4 +1,4 @@
--- `capi::jobs::tomkhadi_head_locate` meets its contract, by those of the functions that it calls. Assumes nothing.
+-- `capi::jobs::tomkhadi_head_locate` meets its contract, by those of the functions that it calls.
 use mathlib.Core.Path.{_∙_, ap}
 use mathlib.Core.List.{[]}
 use borrow.Author.Needs.{needs}

@@ -1,4 +1,4 @@
--- `capi::mirror::head_of` meets its contract, by that of the phase. Assumes nothing.
+-- `capi::mirror::head_of` meets its contract, by that of the phase.
 use borrow.Author.Needs.{needs}
 use Rattle.capi.proofs.mirror.head_of.Statement.{statement}
 use Rattle.capi.proofs.mirror.head_of.Tie as tie

@@ -1,4 +1,4 @@
--- `capi::mirror::mirror_of` meets its contract, by those of the phase's numbers. Assumes nothing.
+-- `capi::mirror::mirror_of` meets its contract, by those of the phase's numbers.
 use borrow.Author.Needs.{needs}
 use Rattle.capi.proofs.mirror.mirror_of.Statement.{statement}
 use Rattle.capi.proofs.mirror.mirror_of.Tie as tie

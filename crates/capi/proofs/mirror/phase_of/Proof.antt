@@ -1,4 +1,4 @@
--- `capi::mirror::phase_of` meets its contract: each test picks its case. Assumes nothing.
+-- `capi::mirror::phase_of` meets its contract: each test picks its case.
 use borrow.Author.Tests.{eq-eqb, ne-eqb}
 use Rattle.capi.proofs.mirror.phase_of.Statement.{statement}
 use Rattle.capi.proofs.mirror.phase_of.Tie as tie

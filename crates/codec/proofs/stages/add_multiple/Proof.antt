@@ -1,4 +1,4 @@
--- `codec::stages::add_multiple` meets its contract. Assumes nothing.
+-- `codec::stages::add_multiple` meets its contract.
 use mathlib.Core.Path.{ap, ap₂, _∙_}
 use Prim.Native.Nat.{ℕ, _+_, _-_, _*_}
 use native.Mathlib.Omega.{arith}

@@ -1,4 +1,4 @@
--- `codec::stages::fold` meets its contract. Assumes nothing.
+-- `codec::stages::fold` meets its contract.
 use mathlib.Core.Path.{_≡_, ap, _∙_}
 use mathlib.Core.List.{List}
 use Prim.Native.Nat.{ℕ, _-_, _%_}

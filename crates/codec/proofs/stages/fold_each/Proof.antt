@@ -1,4 +1,4 @@
--- `codec::stages::fold_each` meets its contract. Assumes nothing.
+-- `codec::stages::fold_each` meets its contract.
 use Prim.Native.Nat.{_-_, _≤_}
 use native.Mathlib.Omega.{arith}
 use Rattle.codec.proofs.FoldedRows.{Each, each-none, each-more}

@@ -1,4 +1,4 @@
--- `codec::stages::gather` meets its contract. Assumes nothing.
+-- `codec::stages::gather` meets its contract.
 use mathlib.Core.Path.{_≡_, ap, _∙_}
 use Prim.Native.Nat.{ℕ, _-_, _*_, _≤_}
 use native.Mathlib.Nat.{mul-le-mul}

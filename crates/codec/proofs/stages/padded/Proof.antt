@@ -1,4 +1,4 @@
--- `codec::stages::padded` meets its contract. Assumes nothing.
+-- `codec::stages::padded` meets its contract.
 use mathlib.Core.Path.{_≡_, refl}
 use Prim.Native.Nat.{_-_, _≤_}
 use native.Mathlib.Omega.{arith}

@@ -1,4 +1,4 @@
--- `codec::stages::staged_sums` meets its contract. The loop fills the list with the check sums. Assumes nothing.
+-- `codec::stages::staged_sums` meets its contract. The loop fills the list with the check sums.
 use mathlib.Core.Path.{_∙_}
 use Prim.Native.Nat.{suc, _-_, _%_}
 use native.Mathlib.Omega.{arith}

@@ -1,4 +1,4 @@
--- `codec::sums::check_sum` meets its contract. Assumes nothing.
+-- `codec::sums::check_sum` meets its contract.
 use mathlib.Core.Path.{_∙_}
 use Rattle.frame.proofs.CheckSums.{check-sum-value}
 use borrow.Author.Needs.{needs}

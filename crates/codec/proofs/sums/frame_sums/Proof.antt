@@ -1,4 +1,4 @@
--- `codec::sums::frame_sums` meets its contract. Assumes nothing.
+-- `codec::sums::frame_sums` meets its contract.
 use Prim.Native.Nat.{_-_}
 use native.Mathlib.Omega.{arith}
 use lib.ListN.{length}

@@ -1,4 +1,4 @@
--- `codec::sums::plain_sums` meets its contract. The loop fills the list with the check sums. Assumes nothing.
+-- `codec::sums::plain_sums` meets its contract. The loop fills the list with the check sums.
 use Prim.Native.Nat.{suc, _-_}
 use mathlib.Core.Path.{ap, _∙_}
 use native.Mathlib.Numerals.{add-one}

@@ -1,4 +1,4 @@
--- `completion::mend::mend` meets its contract. Assumes nothing.
+-- `completion::mend::mend` meets its contract.
 use mathlib.Core.Path.{_≡_, ap, subst⁻¹, _∙_}
 use mathlib.Core.List.{List}
 use Prim.Native.Nat.{ℕ, _+_, _-_, _≤_, _<_}

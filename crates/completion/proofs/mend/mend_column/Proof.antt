@@ -1,4 +1,4 @@
--- `completion::mend::mend_column` meets its contract. Assumes nothing.
+-- `completion::mend::mend_column` meets its contract.
 use Prim.Native.Nat.{ℕ, _+_, _-_, _*_, _≤_}
 use native.Mathlib.Omega.{arith}
 use lib.ListN.{length}

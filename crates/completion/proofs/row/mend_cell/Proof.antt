@@ -1,4 +1,4 @@
--- `completion::row::mend_cell` meets its contract. Assumes nothing.
+-- `completion::row::mend_cell` meets its contract.
 use borrow.Author.Needs.{needs}
 use Rattle.completion.proofs.RowMending.{cell-written}
 use Rattle.completion.proofs.row.mend_cell.Statement.{statement}

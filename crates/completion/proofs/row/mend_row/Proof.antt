@@ -1,4 +1,4 @@
--- `completion::row::mend_row` meets its contract. Assumes nothing.
+-- `completion::row::mend_row` meets its contract.
 use mathlib.Core.Path.{_≡_, refl, _∙_}
 use Prim.Native.Nat.{ℕ, _+_, _-_, _≤_}
 use native.Mathlib.Omega.{arith}

@@ -1,4 +1,4 @@
--- `completion::row::read_off` meets its contract. Assumes nothing.
+-- `completion::row::read_off` meets its contract.
 use Prim.Native.Nat.{_+_, _-_}
 use native.Mathlib.Omega.{arith}
 use Rattle.completion.proofs.Reading.{Read, read-none, read-more, read-fits, read-all}

@@ -1,4 +1,4 @@
--- `encoder::division::data_cells` meets its contract. Assumes nothing.
+-- `encoder::division::data_cells` meets its contract.
 use Prim.Native.Nat.{_-_}
 use native.Mathlib.Omega.{arith}
 use lib.ListN.{length}

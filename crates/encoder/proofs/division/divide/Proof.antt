@@ -1,4 +1,4 @@
--- `encoder::division::divide` meets its contract. Assumes nothing.
+-- `encoder::division::divide` meets its contract.
 use native.Mathlib.Omega.{arith}
 use Rattle.encoder.proofs.DivisionSteps.{Divided, divided-none, divided-more, divided-all, same-size, added-fits}
 use Rattle.encoder.proofs.division.divide.Statement.{statement}

@@ -1,4 +1,4 @@
--- `encoder::division::encode_row` meets its contract. Assumes nothing.
+-- `encoder::division::encode_row` meets its contract.
 use mathlib.Core.Path.{_≡_}
 use Prim.Native.Nat.{_-_}
 use native.Mathlib.Omega.{arith}

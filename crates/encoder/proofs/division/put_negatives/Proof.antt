@@ -1,4 +1,4 @@
--- `encoder::division::put_negatives` meets its contract. Assumes nothing.
+-- `encoder::division::put_negatives` meets its contract.
 use mathlib.Core.Path.{_≡_, refl, ap, _∙_}
 use mathlib.Core.Bool.{cond}
 use Prim.Native.Nat.{ℕ, _-_, _%_, _≤_}

@@ -1,4 +1,4 @@
--- `encoder::encode::encode_frame` meets its contract: by each way its answer and the frame that it leaves. Assumes nothing.
+-- `encoder::encode::encode_frame` meets its contract: by each way its answer and the frame that it leaves.
 use mathlib.Core.Path.{refl, sym, _∙_}
 use mathlib.Core.Bool.{true, false}
 use native.Mathlib.Omega.{arith}

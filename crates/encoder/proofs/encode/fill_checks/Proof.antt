@@ -1,4 +1,4 @@
--- `encoder::encode::fill_checks` meets its contract. Assumes nothing.
+-- `encoder::encode::fill_checks` meets its contract.
 use mathlib.Core.Path.{ap}
 use Prim.Native.Nat.{_-_}
 use native.Mathlib.Omega.{arith}

@@ -1,4 +1,4 @@
--- `encoder::encode::generator_for` meets its contract. Assumes nothing.
+-- `encoder::encode::generator_for` meets its contract.
 use mathlib.Core.Path.{sym, subst}
 use Prim.Native.Nat.{ℕ}
 use borrow.Author.Needs.{needs}

@@ -1,4 +1,4 @@
--- `encoder::generator::generator` meets its contract. Assumes nothing.
+-- `encoder::generator::generator` meets its contract.
 use Prim.Native.Nat.{_-_, _≤_}
 use native.Mathlib.Omega.{arith}
 use Rattle.encoder.proofs.GeneratorBuilding.{Building, building-none, building-more, generator-built}

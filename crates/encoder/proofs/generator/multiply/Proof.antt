@@ -1,4 +1,4 @@
--- `encoder::generator::multiply` meets its contract. Assumes nothing.
+-- `encoder::generator::multiply` meets its contract.
 use mathlib.Core.Path.{refl}
 use Prim.Native.Nat.{_-_}
 use native.Mathlib.Omega.{arith}

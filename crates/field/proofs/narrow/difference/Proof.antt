@@ -1,4 +1,4 @@
--- `field::narrow::difference` meets its contract. Assumes nothing.
+-- `field::narrow::difference` meets its contract.
 use native.Mathlib.Omega.{arith}
 use borrow.Author.Needs.{needs}
 use Rattle.field.proofs.Divisionless.{taken, borrowed}

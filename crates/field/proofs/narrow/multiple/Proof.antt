@@ -1,4 +1,4 @@
--- `field::narrow::multiple` meets its contract. Assumes nothing.
+-- `field::narrow::multiple` meets its contract.
 use mathlib.Core.Path.{refl}
 use Prim.Native.Nat.{_≤_, _<_}
 use native.Mathlib.Omega.{arith}

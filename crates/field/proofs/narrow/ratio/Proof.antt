@@ -1,4 +1,4 @@
--- `field::narrow::ratio` meets its contract. Assumes nothing.
+-- `field::narrow::ratio` meets its contract.
 use mathlib.Core.Path.{refl}
 use borrow.Author.Needs.{needs}
 use Rattle.field.proofs.Divisionless.{ratio-fits}

@@ -1,5 +1,4 @@
 -- `field::prime::is_modulus` meets its contract. The invariant: no number from 2 to d − 1 divides p, and d is odd and at most 257.
--- Assumes nothing.
 use mathlib.Core.Path.{_≡_, refl, sym}
 use Prim.Native.Nat.{_-_, _%_, _≤_}
 use native.Mathlib.Nat.{mul-le-mul}

@@ -1,4 +1,4 @@
--- `field::reciprocal::remainder` meets its contract. Assumes nothing.
+-- `field::reciprocal::remainder` meets its contract.
 use native.Mathlib.Omega.{arith}
 use Rattle.field.proofs.Divisionless.{reciprocal-fits, reciprocal-not-above, reciprocal-right, reciprocal-corrected}
 use Rattle.field.proofs.reciprocal.remainder.Statement.{statement}

@@ -1,4 +1,4 @@
--- `field::reciprocal::wide_remainder` meets its contract. Assumes nothing.
+-- `field::reciprocal::wide_remainder` meets its contract.
 use native.Mathlib.Omega.{arith}
 use borrow.Author.Needs.{needs}
 use Rattle.field.proofs.Divisionless.{wide-reciprocal-fits, wide-below, reciprocal-not-above, reciprocal-right, reciprocal-corrected}

@@ -1,4 +1,4 @@
--- The proof of the cycle of calls {raise}. The measure is the exponent, which is halved at each call. Assumes nothing.
+-- The proof of the cycle of calls {raise}. The measure is the exponent, which is halved at each call.
 use Prim.Native.Nat.{ℕ, _<_}
 use native.Mathlib.Omega.{arith}
 use borrow.Fn.Kinds.{In}

@@ -1,4 +1,4 @@
--- `field::residue::power` meets its contract. Assumes nothing.
+-- `field::residue::power` meets its contract.
 use native.Mathlib.Nat.{mod-lt}
 use native.Mathlib.Omega.{arith}
 use borrow.Author.Needs.{needs}

@@ -1,4 +1,4 @@
--- `field::residue::product` meets its contract. Assumes nothing.
+-- `field::residue::product` meets its contract.
 use mathlib.Core.Path.{refl}
 use native.Mathlib.Nat.{mod-lt}
 use native.Mathlib.Omega.{arith}

@@ -1,4 +1,4 @@
--- `field::residue::sum` meets its contract. Assumes nothing.
+-- `field::residue::sum` meets its contract.
 use mathlib.Core.Path.{refl}
 use native.Mathlib.Nat.{mod-lt}
 use native.Mathlib.Omega.{arith}

@@ -1,4 +1,4 @@
--- `field257::inverses::inverse` meets its contract. Assumes nothing.
+-- `field257::inverses::inverse` meets its contract.
 use mathlib.Core.Path.{_≡_, ap, subst⁻¹, _∙_}
 use mathlib.Core.List.{List}
 use Prim.Native.Nat.{ℕ, _<_}

@@ -1,4 +1,4 @@
--- `field257::inverses::inverses` meets its contract: the whole table follows its rule, by one computed equation. Assumes nothing.
+-- `field257::inverses::inverses` meets its contract: the whole table follows its rule, by one computed equation.
 use mathlib.Core.Path.{refl}
 use Rattle.lists.specs.Tabulate.{tabulate}
 use Rattle.field257.specs.Inverses.{inverseTable}

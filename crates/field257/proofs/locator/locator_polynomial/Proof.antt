@@ -1,4 +1,4 @@
--- `field257::locator::locator_polynomial` meets its contract. Assumes nothing.
+-- `field257::locator::locator_polynomial` meets its contract.
 use mathlib.Core.Path.{_≡_, ap, _∙_}
 use mathlib.Core.List.{List}
 use Prim.Native.Nat.{ℕ, _+_, _-_, _≤_}

@@ -1,4 +1,4 @@
--- `field257::locator::multiply` meets its contract. Assumes nothing.
+-- `field257::locator::multiply` meets its contract.
 use mathlib.Core.Path.{refl}
 use Prim.Native.Nat.{_-_}
 use native.Mathlib.Omega.{arith}

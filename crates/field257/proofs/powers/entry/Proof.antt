@@ -1,4 +1,4 @@
--- `field257::powers::entry` meets its contract. Assumes nothing.
+-- `field257::powers::entry` meets its contract.
 use mathlib.Core.List.{List}
 use Prim.Native.Nat.{ℕ}
 use lib.ListN.{getD}

@@ -1,4 +1,4 @@
--- `field257::powers::power_of_3` meets its contract. Assumes nothing.
+-- `field257::powers::power_of_3` meets its contract.
 use mathlib.Core.Path.{sym, _∙_}
 use Rattle.field257.proofs.Locators.{power-mod}
 use borrow.Author.Needs.{needs}

@@ -1,4 +1,4 @@
--- `field257::values::above` meets its contract. Assumes nothing.
+-- `field257::values::above` meets its contract.
 use mathlib.Core.Path.{ap}
 use Prim.Native.Nat.{ℕ, _+_, _*_, _≤_}
 use native.Mathlib.Nat.{le-refl, mul-le-mul}

@@ -1,4 +1,4 @@
--- `field257::values::cubic` meets its contract. Assumes nothing.
+-- `field257::values::cubic` meets its contract.
 use mathlib.Core.Path.{ap, _∙_}
 use Prim.Native.Nat.{ℕ, _+_, _*_}
 use native.Mathlib.Omega.{arith}

@@ -1,4 +1,4 @@
--- `field257::values::fours` meets its contract. Assumes nothing.
+-- `field257::values::fours` meets its contract.
 use mathlib.Core.Path.{_≡_, ap, _∙_}
 use Prim.Native.Nat.{_+_, _-_, _*_, _%_}
 use native.Mathlib.Omega.{arith}

@@ -1,4 +1,4 @@
--- `field257::values::times` meets its contract. Assumes nothing.
+-- `field257::values::times` meets its contract.
 use Prim.Native.Nat.{_≤_}
 use native.Mathlib.Nat.{mul-le-mul}
 use native.Mathlib.Omega.{arith}

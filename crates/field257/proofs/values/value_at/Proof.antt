@@ -1,4 +1,4 @@
--- `field257::values::value_at` meets its contract. Assumes nothing.
+-- `field257::values::value_at` meets its contract.
 use Prim.Native.Nat.{_+_, _-_, _*_, _/_, _%_, _≤_, _<_}
 use native.Mathlib.Nat.{mod-lt, mul-le-mul}
 use native.Mathlib.Omega.{arith}

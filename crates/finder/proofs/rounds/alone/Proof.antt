@@ -1,4 +1,4 @@
--- `alone` answers the alone mark. The invariant: no sequence passed has a part that is free. Assumes nothing.
+-- `alone` answers the alone mark. The invariant: no sequence passed has a part that is free.
 use mathlib.Core.Path.{_≡_}
 use mathlib.Core.Bool.{true}
 use Prim.Native.Nat.{_-_, _≤_}

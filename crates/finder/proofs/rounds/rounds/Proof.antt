@@ -1,4 +1,4 @@
--- `rounds` makes all rounds. The invariant: n rounds are made. Assumes nothing.
+-- `rounds` makes all rounds. The invariant: n rounds are made.
 use Prim.Native.Nat.{_-_, _≤_}
 use native.Mathlib.Omega.{arith}
 use borrow.Author.Needs.{needs}

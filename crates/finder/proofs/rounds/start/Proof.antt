@@ -1,4 +1,4 @@
--- `start` sets the places of the struct. The invariant: those of the sequences passed are set. Assumes nothing.
+-- `start` sets the places of the struct. The invariant: those of the sequences passed are set.
 use mathlib.Core.Path.{_≡_, refl, _∙_}
 use Prim.Native.Nat.{_-_, _≤_}
 use native.Mathlib.Omega.{arith}

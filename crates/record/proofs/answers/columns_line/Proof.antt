@@ -1,4 +1,4 @@
--- `record::answers::columns_line` meets its contract. Assumes nothing.
+-- `record::answers::columns_line` meets its contract.
 use native.Mathlib.Omega.{arith}
 use borrow.Author.Needs.{needs}
 use Rattle.record.specs.Line.{columnsLine}

@@ -1,4 +1,4 @@
--- `record::answers::found_line` meets its contract. Assumes nothing.
+-- `record::answers::found_line` meets its contract.
 use Prim.Native.Nat.{_+_, _-_}
 use native.Mathlib.Omega.{arith}
 use borrow.Author.Needs.{needs}

@@ -1,4 +1,4 @@
--- `record::answers::put_head` meets its contract. Assumes nothing.
+-- `record::answers::put_head` meets its contract.
 use native.Mathlib.Omega.{arith}
 use borrow.Author.Needs.{needs}
 use Rattle.record.proofs.Writing.{written-then}

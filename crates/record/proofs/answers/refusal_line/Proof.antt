@@ -1,4 +1,4 @@
--- `record::answers::refusal_line` meets its contract. Assumes nothing.
+-- `record::answers::refusal_line` meets its contract.
 use mathlib.Core.Path.{ap}
 use mathlib.Core.List.{[], _∷_}
 use Prim.Native.Nat.{ℕ}

@@ -1,4 +1,4 @@
--- `record::answers::reply_line` meets its contract. Assumes nothing.
+-- `record::answers::reply_line` meets its contract.
 use borrow.Author.Needs.{needs}
 use Rattle.record.proofs.Frames.{refusal-replied, columns-replied, count-replied}
 use Rattle.record.proofs.Writing.{written-as}

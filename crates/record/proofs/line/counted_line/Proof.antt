@@ -1,4 +1,4 @@
--- `record::line::counted_line` meets its contract. Assumes nothing.
+-- `record::line::counted_line` meets its contract.
 use mathlib.Core.Path.{ap}
 use native.Mathlib.Omega.{arith}
 use borrow.Author.Needs.{needs}

@@ -1,4 +1,4 @@
--- `record::line::frame_line` meets its contract. Assumes nothing.
+-- `record::line::frame_line` meets its contract.
 use borrow.Author.Needs.{needs}
 use Rattle.job.specs.Job.{noArrays}
 use Rattle.record.proofs.Frames.{few-marks, frame-refused, frame-located}

@@ -1,4 +1,4 @@
--- `record::line::line` meets its contract. Assumes nothing.
+-- `record::line::line` meets its contract.
 use borrow.Author.Needs.{needs}
 use borrow.Author.Tests.{not-true, not-false}
 use Rattle.record.proofs.Parsing.{broken-line, broken-left, whole-line, whole-left}

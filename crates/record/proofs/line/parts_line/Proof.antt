@@ -1,4 +1,4 @@
--- `record::line::parts_line` meets its contract. Assumes nothing.
+-- `record::line::parts_line` meets its contract.
 use mathlib.Core.Path.{ap}
 use borrow.Author.Needs.{needs}
 use Rattle.record.specs.Line.{outputOf}

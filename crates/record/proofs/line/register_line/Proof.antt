@@ -1,4 +1,4 @@
--- `record::line::register_line` meets its contract. Assumes nothing.
+-- `record::line::register_line` meets its contract.
 use mathlib.Core.Path.{refl}
 use native.Mathlib.Omega.{arith}
 use borrow.Author.Needs.{needs}

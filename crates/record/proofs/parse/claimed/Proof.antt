@@ -1,4 +1,4 @@
--- `record::parse::claimed` meets its contract. Assumes nothing.
+-- `record::parse::claimed` meets its contract.
 use mathlib.Core.Path.{sym, _∙_}
 use native.Mathlib.Omega.{arith}
 use borrow.Author.Needs.{needs}

@@ -1,4 +1,4 @@
--- `record::parse::whole` meets its contract. Assumes nothing.
+-- `record::parse::whole` meets its contract.
 use native.Mathlib.Omega.{arith}
 use mathlib.Core.Bool.{false≢true}
 use borrow.Author.Needs.{needs}

@@ -1,4 +1,4 @@
--- `record::text::put_decimal` meets its contract. Each call is for a tenth of the number. Assumes nothing.
+-- `record::text::put_decimal` meets its contract. Each call is for a tenth of the number.
 use mathlib.Core.Path.{_≡_, refl, ap}
 use Prim.Native.Nat.{ℕ, _<_}
 use native.Mathlib.Omega.{arith}

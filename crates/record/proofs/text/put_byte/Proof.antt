@@ -1,4 +1,4 @@
--- `record::text::put_byte` meets its contract. Assumes nothing.
+-- `record::text::put_byte` meets its contract.
 use borrow.Author.Needs.{needs}
 use Rattle.record.proofs.Writing.{written-byte}
 use Rattle.record.proofs.text.put_byte.Statement.{statement}

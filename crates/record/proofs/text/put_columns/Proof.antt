@@ -1,4 +1,4 @@
--- `record::text::put_columns` meets its contract. Assumes nothing.
+-- `record::text::put_columns` meets its contract.
 use Prim.Native.Nat.{ℕ, _-_}
 use native.Mathlib.Omega.{arith}
 use borrow.Author.Needs.{needs}

@@ -1,4 +1,4 @@
--- `record::text::put_number` meets its contract. Assumes nothing.
+-- `record::text::put_number` meets its contract.
 use native.Mathlib.Omega.{arith}
 use borrow.Author.Needs.{needs}
 use Rattle.record.proofs.Digits.{decimal-length, space-then}

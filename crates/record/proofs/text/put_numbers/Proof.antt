@@ -1,4 +1,4 @@
--- `record::text::put_numbers` meets its contract. Assumes nothing.
+-- `record::text::put_numbers` meets its contract.
 use mathlib.Core.Path.{refl}
 use Prim.Native.Nat.{_-_}
 use native.Mathlib.Omega.{arith}

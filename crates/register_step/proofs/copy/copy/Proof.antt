@@ -1,4 +1,4 @@
--- `copy` leaves what it copied. The invariant: the entries passed are those of the other slice. Assumes nothing.
+-- `copy` leaves what it copied. The invariant: the entries passed are those of the other slice.
 use mathlib.Core.Path.{_≡_}
 use Prim.Native.Nat.{_-_, _≤_}
 use native.Mathlib.Omega.{arith}

@@ -1,4 +1,4 @@
--- `discrepancy_at` computes the discrepancy. The invariant: the sum is that of the terms passed, each at most p². Assumes nothing.
+-- `discrepancy_at` computes the discrepancy. The invariant: the sum is that of the terms passed, each at most p².
 use mathlib.Core.Path.{_≡_, sym, ap, ap₂, _∙_}
 use Prim.Native.Nat.{ℕ, suc, _%_, _-_, _*_, _≤_}
 use native.Mathlib.Omega.{arith}

@@ -1,4 +1,4 @@
--- `keep` puts the taps in the place of the block of a sequence. Assumes nothing.
+-- `keep` puts the taps in the place of the block of a sequence.
 use mathlib.Core.Path.{ap₂}
 use mathlib.Core.List.{List}
 use Prim.Native.Nat.{ℕ, _*_}

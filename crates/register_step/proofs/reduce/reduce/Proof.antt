@@ -1,4 +1,4 @@
--- `reduce` leaves the taps less the multiple. The invariant: they are reduced by the saved taps passed. Assumes nothing.
+-- `reduce` leaves the taps less the multiple. The invariant: they are reduced by the saved taps passed.
 use mathlib.Core.Path.{_≡_}
 use Prim.Native.Nat.{suc, _-_, _≤_}
 use native.Mathlib.Omega.{arith}

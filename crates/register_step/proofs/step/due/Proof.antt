@@ -1,4 +1,4 @@
--- `due` answers the discrepancy that is due. Assumes nothing.
+-- `due` answers the discrepancy that is due.
 use borrow.Author.Needs.{needs}
 use Rattle.register_step.proofs.Steps.{not-due, is-due}
 use Rattle.register_step.proofs.step.due.Statement.{statement}

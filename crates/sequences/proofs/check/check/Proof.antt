@@ -1,4 +1,4 @@
--- `check` answers the refusal of the first test that fails. Assumes nothing.
+-- `check` answers the refusal of the first test that fails.
 use mathlib.Core.Path.{_≡_, sym, _∙_}
 use mathlib.Core.Bool.{not, cond}
 use Prim.Native.Nat.{suc}

@@ -1,4 +1,4 @@
--- `counted` answers whether there are 1 to 8 sequences. Assumes nothing.
+-- `counted` answers whether there are 1 to 8 sequences.
 use mathlib.Core.Path.{sym, ap}
 use mathlib.Core.Bool.{Bool, _&&_}
 use borrow.Author.Tests.{le-leb, lt-leb}

@@ -1,4 +1,4 @@
--- `longest` answers the largest length. The invariant: the largest is that of what was found and of what is to come. Assumes nothing.
+-- `longest` answers the largest length. The invariant: the largest is that of what was found and of what is to come.
 use mathlib.Core.Path.{_≡_}
 use mathlib.Core.Logic.{⊎-elim}
 use Prim.Native.Nat.{_-_, _≤_, max}

@@ -1,4 +1,4 @@
--- `measured` answers whether the lengths are small enough and add up. Assumes nothing.
+-- `measured` answers whether the lengths are small enough and add up.
 use borrow.Author.Needs.{needs}
 use borrow.Author.Tests.{not-true, not-false}
 use Rattle.sequences.proofs.check.measured.Statement.{statement}

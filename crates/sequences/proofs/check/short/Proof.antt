@@ -1,4 +1,4 @@
--- `short` answers whether every length is at most 128. The invariant: the lengths passed are. Assumes nothing.
+-- `short` answers whether every length is at most 128. The invariant: the lengths passed are.
 use mathlib.Core.Path.{_≡_, sym}
 use mathlib.Core.Bool.{true}
 use Prim.Native.Nat.{_-_, _≤_}

@@ -1,4 +1,4 @@
--- `sum` answers the sum of the lengths. The invariant: it is that of the lengths passed. Assumes nothing.
+-- `sum` answers the sum of the lengths. The invariant: it is that of the lengths passed.
 use mathlib.Core.Path.{_≡_, refl, sym}
 use Prim.Native.Nat.{_-_, _*_, _≤_}
 use native.Mathlib.Omega.{arith}

@@ -1,4 +1,4 @@
--- `shapes::shape::check_shape` meets its contract. Assumes nothing.
+-- `shapes::shape::check_shape` meets its contract.
 use mathlib.Core.Path.{_≡_, refl, sym, _∙_}
 use mathlib.Core.Bool.{Bool, true, false, not, cond}
 use borrow.Author.Tests.{not-true, not-false}

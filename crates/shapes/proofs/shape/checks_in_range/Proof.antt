@@ -1,4 +1,4 @@
--- `shapes::shape::checks_in_range` meets its contract. Assumes nothing.
+-- `shapes::shape::checks_in_range` meets its contract.
 use mathlib.Core.Path.{_≡_, sym, ap, _∙_}
 use mathlib.Core.Bool.{true, false}
 use Prim.Native.Nat.{ℕ, _-_, _≤_, _<_}

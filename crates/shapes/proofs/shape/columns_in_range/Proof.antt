@@ -1,4 +1,4 @@
--- `shapes::shape::columns_in_range` meets its contract. Assumes nothing.
+-- `shapes::shape::columns_in_range` meets its contract.
 use mathlib.Core.Path.{sym}
 use Rattle.frame.proofs.ShapeTests.{few-columns, many-columns, columns-taken}
 use Rattle.shapes.proofs.shape.columns_in_range.Statement.{statement}

@@ -1,4 +1,4 @@
--- `shapes::shape::rows_in_range` meets its contract. Assumes nothing.
+-- `shapes::shape::rows_in_range` meets its contract.
 use mathlib.Core.Path.{sym}
 use Rattle.frame.proofs.ShapeTests.{no-row, many-rows, rows-taken}
 use Rattle.shapes.proofs.shape.rows_in_range.Statement.{statement}

@@ -1,4 +1,4 @@
--- `shapes::shape::shape_of` meets its contract. Assumes nothing.
+-- `shapes::shape::shape_of` meets its contract.
 use mathlib.Core.Path.{_≡_, refl, ap, _∙_}
 use Prim.Native.Nat.{_-_, _≤_}
 use native.Mathlib.Omega.{arith}

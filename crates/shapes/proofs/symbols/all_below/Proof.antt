@@ -1,4 +1,4 @@
--- `shapes::symbols::all_below` meets its contract. Assumes nothing.
+-- `shapes::symbols::all_below` meets its contract.
 use mathlib.Core.Bool.{Bool}
 use mathlib.Core.List.{List}
 use mathlib.Core.Logic.{⊎-elim}

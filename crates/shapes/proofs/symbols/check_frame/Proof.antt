@@ -1,4 +1,4 @@
--- `shapes::symbols::check_frame` meets its contract. Assumes nothing.
+-- `shapes::symbols::check_frame` meets its contract.
 use mathlib.Core.Path.{refl, sym, _∙_}
 use mathlib.Core.Bool.{true, false}
 use native.Mathlib.Omega.{arith}

@@ -1,4 +1,4 @@
--- `shapes::symbols::data_below` meets its contract. Assumes nothing.
+-- `shapes::symbols::data_below` meets its contract.
 use mathlib.Core.Path.{_≡_, sym, _∙_}
 use mathlib.Core.Bool.{true}
 use Prim.Native.Nat.{ℕ, _-_, _≤_, _<_}

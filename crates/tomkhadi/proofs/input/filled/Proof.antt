@@ -1,4 +1,4 @@
--- `tomkhadi::input::filled` meets its contract. Assumes nothing.
+-- `tomkhadi::input::filled` meets its contract.
 use mathlib.Core.Path.{_≡_, refl, sym, _∙_}
 use mathlib.Core.Bool.{Bool, true, false, false≢true}
 use Prim.Native.Nat.{ℕ, _-_, _≤_}

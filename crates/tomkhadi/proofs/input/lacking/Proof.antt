@@ -1,4 +1,4 @@
--- `tomkhadi::input::lacking` meets its contract. Assumes nothing.
+-- `tomkhadi::input::lacking` meets its contract.
 use borrow.Author.Needs.{needs}
 use borrow.Author.Tests.{not-true, not-false}
 use Rattle.tomkhadi.proofs.Filling.{none-lacking, some-lacking}

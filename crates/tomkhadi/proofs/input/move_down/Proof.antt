@@ -1,4 +1,4 @@
--- `tomkhadi::input::move_down` meets its contract. Assumes nothing.
+-- `tomkhadi::input::move_down` meets its contract.
 use mathlib.Core.Path.{_≡_, subst}
 use Prim.Native.Nat.{ℕ, _-_, _≤_}
 use native.Mathlib.Omega.{arith}

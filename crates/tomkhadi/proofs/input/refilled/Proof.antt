@@ -1,4 +1,4 @@
--- `tomkhadi::input::refilled` meets its contract. Assumes nothing.
+-- `tomkhadi::input::refilled` meets its contract.
 use native.Mathlib.Omega.{arith}
 use borrow.Author.Needs.{needs}
 use Rattle.tomkhadi.proofs.Filling.{refills}
