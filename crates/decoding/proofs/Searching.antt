@@ -72,5 +72,6 @@ module _ (σ : List ℕ) where
   unfolding namedColumns named
   names-none s short one =
       columnsOf-ext (λ k. false) (λ i. ltb i (s .columns) && isRoot σ i) (λ k l.
-      sym (ap (λ (b : Bool). ltb k (s .columns) && b) (ne-eqb (value 257 σ (inverse 257 (locatorOf k))) 0 (λ e. let v = constant (inverse 257 (locatorOf k)) short one in omega arith))
+      sym (ap (λ (b : Bool). ltb k (s .columns) && b) (ne-eqb (value 257 σ (inverse 257 (locatorOf k))) 0
+      (λ e. let v = constant (inverse 257 (locatorOf k)) short one in omega arith))
       ∙ and-false (ltb k (s .columns))))

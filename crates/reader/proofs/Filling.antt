@@ -21,9 +21,11 @@ module _ (bytes : List ℕ) where
   pub filled-none : (before : List ℕ) → Filled bytes before before 0
   filled-none before = record { read = refl; kept = refl }
 
-  pub filled-more : (before after : List ℕ) (k v : ℕ) → k < length bytes / 2 → v ≡ fieldOf bytes k → k < length after → Filled bytes before after k → Filled bytes before (set after k v) (k + 1)
+  pub filled-more : (before after : List ℕ) (k v : ℕ) → k < length bytes / 2 → v ≡ fieldOf bytes k → k < length after → Filled bytes before after k
+      → Filled bytes before (set after k v) (k + 1)
   filled-more before after k v h e w f =
       record {
-        read = rw add-one (take-suc-set after k v w ∙ ap₂ (λ (l : List ℕ) (x : ℕ). l ++ (x ∷ [])) (f .read) (e ∙ sym (field-of k h)) ∙ sym (take-suc (fieldsOf bytes) k 0 (rw length-fields h)));
+        read = rw add-one (take-suc-set after k v w ∙ ap₂ (λ (l : List ℕ) (x : ℕ). l ++ (x ∷ [])) (f .read) (e ∙ sym (field-of k h))
+            ∙ sym (take-suc (fieldsOf bytes) k 0 (rw length-fields h)));
         kept = drop-set-lt (k + 1) after k v (omega arith) ∙ sym (drop-drop 1 k after) ∙ ap (drop 1) (f .kept) ∙ drop-drop 1 k before;
       }

@@ -22,7 +22,8 @@ module _ (bytes : List ℕ) where
     unfolding fieldOf
     value-means v = pick (ltb (2 * k + 1) (length bytes)) refl
       where
-        pick : (b : Bool) → ltb (2 * k + 1) (length bytes) ≡ b → Value v ≡ cond b (Value (valueAt bytes (2 * k))) End → (k < length bytes / 2) × (v ≡ valueAt bytes (2 * k))
+        pick : (b : Bool) → ltb (2 * k + 1) (length bytes) ≡ b → Value v ≡ cond b (Value (valueAt bytes (2 * k))) End
+            → (k < length bytes / 2) × (v ≡ valueAt bytes (2 * k))
         pick true t e = (omega (arith, ltb-true (2 * k + 1) (length bytes) t), cc)
         pick false t e = absurd (let z : _≡_ {A = ℕ} 0 1 = cc in let b : ⊥ = omega arith in b)
 

@@ -48,4 +48,5 @@ module _ (l : List ℕ) (at : ℕ) where
         }
       where
         rest : drop f m ≡ drop f l
-        rest = ap (λ (k : ℕ). drop k m) (v .place) ∙ sym (drop-drop (length t) e m) ∙ ap (drop (length t)) after-end ∙ drop-drop (length t) e l ∙ ap (λ (k : ℕ). drop k l) (sym (v .place))
+        rest = ap (λ (k : ℕ). drop k m) (v .place) ∙ sym (drop-drop (length t) e m) ∙ ap (drop (length t)) after-end ∙ drop-drop (length t) e l
+            ∙ ap (λ (k : ℕ). drop k l) (sym (v .place))

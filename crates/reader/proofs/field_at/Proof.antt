@@ -43,7 +43,8 @@ add-t13 c = search needs
 returns-3 : tie.Need-returns-3
 returns-3 c =
     let start = c .before .before .before .before .before .before .before in
-    ap₂ (λ (l h : ℕ). Value (l + 256 * h)) (c .before .before .wide .ensures .0) (c .wide2 .ensures .0) ∙ value-handed (now (start .args .s)) (start .args .at) (omega arith)
+    ap₂ (λ (l h : ℕ). Value (l + 256 * h)) (c .before .before .wide .ensures .0) (c .wide2 .ensures .0)
+    ∙ value-handed (now (start .args .s)) (start .args .at) (omega arith)
 
 pub field-at-spec : {M : Type 1} → statement M
 field-at-spec =

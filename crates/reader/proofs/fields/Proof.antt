@@ -56,7 +56,8 @@ loop-again : tie.Need-loop-again Inv-loop μ-loop
 loop-again c =
     let start = c .before .before .before .before .before .before .before .before in
     let at = c .before .before .before .before .before .loop in
-    let handed = value-means (now (start .args .s)) (at .k) (c .before .v .given .0 .0) (sym (c .before .v .given .1) ∙ c .before .before .before .nth .ensures) in
+    let handed = value-means (now (start .args .s)) (at .k) (c .before .v .given .0 .0)
+    (sym (c .before .v .given .1) ∙ c .before .before .before .nth .ensures) in
     (omega arith, omega arith, search needs, filled-more _ _ (at .out) (at .k) _ (handed .0) (handed .1) (omega arith) (at .inv .3))
 
 same-length-2 : tie.Need-same-length-2 Inv-loop μ-loop

@@ -42,8 +42,10 @@ returns : tie.Need-returns
 returns c =
     let start = c .before .before .before .before .before .before .before in
     let wide = c .before .before .before in (
-      factor-is (length (start .args .others .now)) (start .args .i) _ (wide .before .before .value-at .result) (wide .before .entry .result) (c .before .before .product .result)
-          (c .before .inverse .result) (c .difference .result) (omega (arith, start .pre .1)) (wide .before .before .value-at .ensures .0) (wide .before .entry .ensures)
+      factor-is (length (start .args .others .now)) (start .args .i) _ (wide .before .before .value-at .result) (wide .before .entry .result)
+          (c .before .before .product .result)
+          (c .before .inverse .result) (c .difference .result) (omega (arith, start .pre .1)) (wide .before .before .value-at .ensures .0)
+          (wide .before .entry .ensures)
           (c .before .before .product .ensures .0 ∙ ap (times 257 (wide .before .entry .result)) (wide .wide .ensures .0)) (c .before .inverse .ensures .0)
           (c .difference .ensures .0),
       c .difference .ensures .1,

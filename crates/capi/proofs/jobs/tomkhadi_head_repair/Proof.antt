@@ -25,7 +25,8 @@ returns : tie.Need-returns
 returns c = λ b.
     let called = c .before .before .before in
     let a = called .before .before .before .before .args in
-    let done = called .repair .ensures b ∙ ap (λ (h : Head). step (beside h (withSums b (a .sums .now))) (repair (a .frame .now))) (called .before .before .head-of .ensures) in
+    let done = called .repair .ensures b ∙ ap (λ (h : Head). step (beside h (withSums b (a .sums .now))) (repair (a .frame .now)))
+    (called .before .before .head-of .ensures) in
     record {
       answers = c .answered-of .ensures b [] ∙ ap answeredOf done;
       arrays = sym (ap (λ (o : Outcome). o .job .arrays) done);

@@ -18,7 +18,11 @@ enum-known-found-2 : tie.Need-enum-known-found-2
 enum-known-found-2 c = search needs
 
 add-end : tie.Need-add-end
-add-end c = omega (arith, count-found (c .before .before .before .before .before .args .found) _ _ (c .before .found2 .given .1) _ (c .before .before .before .before .before .pre .2))
+add-end c = omega (
+  arith,
+  count-found (c .before .before .before .before .before .args .found) _ _ (c .before .found2 .given .1) _
+      (c .before .before .before .before .before .pre .2),
+)
 
 sub-taps-line : tie.Need-sub-taps-line
 sub-taps-line c = search needs
@@ -27,12 +31,24 @@ part-taps-line-start : tie.Need-part-taps-line-start
 part-taps-line-start c = search needs
 
 part-taps-line-end : tie.Need-part-taps-line-end
-part-taps-line-end c = omega (arith, count-found (c .before .before .before .before .before .before .args .found) _ _ (c .before .before .found2 .given .1) _ (c .before .before .before .before .before .before .pre .2))
+part-taps-line-end c = omega (
+  arith,
+  count-found (c .before .before .before .before .before .before .args .found) _ _
+      (c .before .before .found2 .given .1) _ (c .before .before .before .before .before .before .pre .2),
+)
 
 taps-line-requires : tie.Need-taps-line-requires
 taps-line-requires c κs =
-    let fits = count-found (c .before .before .before .before .before .before .before .args .found) _ _ (c .before .before .before .found2 .given .1) _ (c .before .before .before .before .before .before .before .pre .2) in
-    (search needs, omega arith, omega (arith, length-take (c .before .before .before .found2 .given .0 .0 + 1 - 0) (c .before .before .before .before .before .before .before .args .taps .now)))
+    let fits = count-found (c .before .before .before .before .before .before .before .args .found) _ _ (c .before .before .before .found2 .given .1) _
+    (c .before .before .before .before .before .before .before .pre .2) in (
+      search needs,
+      omega arith,
+      omega (
+        arith,
+        length-take (c .before .before .before .found2 .given .0 .0 + 1 - 0)
+            (c .before .before .before .before .before .before .before .args .taps .now),
+      ),
+    )
 
 same-length : tie.Need-same-length
 same-length c = search needs

@@ -24,16 +24,22 @@ same-length c = search needs
 
 returns : tie.Need-returns
 returns c =
-    let line = c .before .before .refusal-line .ensures in
-    (written-as _ _ _ _ _ _ (refusal-replied (c .before .before .before .before .before .before .before .before .args .reply) _ _ (c .before .before .before .before .before .reply .given .1)) (line .0), line .1)
+    let line = c .before .before .refusal-line .ensures in (
+      written-as _ _ _ _ _ _ (refusal-replied (c .before .before .before .before .before .before .before .before .args .reply) _ _
+          (c .before .before .before .before .before .reply .given .1)) (line .0),
+      line .1,
+    )
 
 same-length-2 : tie.Need-same-length-2
 same-length-2 c = search needs
 
 returns-2 : tie.Need-returns-2
 returns-2 c =
-    let line = c .before .before .columns-line .ensures in
-    (written-as _ _ _ _ _ _ (columns-replied (c .before .before .before .before .before .before .before .before .args .reply) _ _ (c .before .before .before .before .before .reply2 .given .1)) (line .0), line .1)
+    let line = c .before .before .columns-line .ensures in (
+      written-as _ _ _ _ _ _ (columns-replied (c .before .before .before .before .before .before .before .before .args .reply) _ _
+          (c .before .before .before .before .before .reply2 .given .1)) (line .0),
+      line .1,
+    )
 
 pub reply-line-spec : {M : Type 1} → statement M
 reply-line-spec =

@@ -40,7 +40,8 @@ returns c =
     let taps = c .before .before .before .before .before .before .put-numbers .ensures in
     let byte = c .before .before .put-byte .ensures in
     let given = c .before .before .before .before .before .before .before .before .before .before .before .before .before .before .before .before .before .before .before .args in (
-      written-as _ _ _ _ _ _ (ap (λ (k : ℕ). line 82 (given .size ∷ k ∷ given .taps .now)) (c .before .before .before .before .before .before .before .before .before .before .before .mark-of .ensures))
+      written-as _ _ _ _ _ _ (ap (λ (k : ℕ). line 82 (given .size ∷ k ∷ given .taps .now))
+          (c .before .before .before .before .before .before .before .before .before .before .before .mark-of .ensures))
           (line-end _ _ _ _ _ _ (omega arith)
           (line-more _ _ _ _ _ _ (omega arith) (line-more _ _ _ _ _ _ (omega arith) (head .0) _ _ _ (mark .0)) _ _ _ (taps .0)) _ _ byte),
       omega (arith, byte .place),

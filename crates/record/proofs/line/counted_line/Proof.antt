@@ -19,8 +19,11 @@ same-length c = search needs
 
 returns : tie.Need-returns
 returns c =
-    let line = c .before .before .refusal-line .ensures in
-    (written-as _ _ _ _ _ _ (bad-line _ (counted-short (c .before .before .before .before .before .before .before .args .xs .now) _ _ (omega arith))) (line .0), line .1)
+    let line = c .before .before .refusal-line .ensures in (
+      written-as _ _ _ _ _ _ (bad-line _ (counted-short (c .before .before .before .before .before .before .before .args .xs .now) _ _ (omega arith)))
+          (line .0),
+      line .1,
+    )
 
 shared-slice-read-parts-line : tie.Need-shared-slice-read-parts-line
 shared-slice-read-parts-line c = search needs
@@ -54,8 +57,11 @@ same-length-2 c = search needs
 
 returns-2 : tie.Need-returns-2
 returns-2 c =
-    let line = c .before .before .parts-line .ensures in
-    (written-as _ _ _ _ _ _ (ap outputOf (counted-said (c .before .before .before .before .before .before .before .before .before .before .args .xs .now) _ _ (omega arith))) (line .0), line .1)
+    let line = c .before .before .parts-line .ensures in (
+      written-as _ _ _ _ _ _ (ap outputOf (counted-said (c .before .before .before .before .before .before .before .before .before .before .args .xs .now) _
+          _ (omega arith))) (line .0),
+      line .1,
+    )
 
 pub counted-line-spec : {M : Type 1} → statement M
 counted-line-spec =

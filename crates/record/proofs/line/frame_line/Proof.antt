@@ -50,7 +50,8 @@ returns-2 c =
     let passed = located .before .before .before in
     let shaped = passed .before .before in
     let same =
-    frame-located _ _ _ _ (shaped .before .empty .ensures) (shaped .shape .result) (shaped .shape .ensures) (located .locate .result) _ (passed .enum-told .given .1)
+    frame-located _ _ _ _ (shaped .before .empty .ensures) (shaped .shape .result) (shaped .shape .ensures) (located .locate .result) _
+    (passed .enum-told .given .1)
     (located .locate .ensures noArrays) in
     (written-as _ _ _ _ _ _ same (line .0), line .1)
 

@@ -15,8 +15,11 @@ same-length c = search needs
 
 returns : tie.Need-returns
 returns c =
-    let line = c .before .before .register-line .ensures in
-    (written-as _ _ _ _ _ _ (ap outputOf (kind-sequences (c .before .before .before .before .before .before .before .before .args .kind) _ _ _ (search needs))) (line .0), line .1)
+    let line = c .before .before .register-line .ensures in (
+      written-as _ _ _ _ _ _ (ap outputOf (kind-sequences (c .before .before .before .before .before .before .before .before .args .kind) _ _ _
+          (search needs))) (line .0),
+      line .1,
+    )
 
 frame-line-requires : tie.Need-frame-line-requires
 frame-line-requires c κs = search needs
@@ -26,8 +29,11 @@ same-length-2 c = search needs
 
 returns-2 : tie.Need-returns-2
 returns-2 c =
-    let line = c .before .before .frame-line .ensures in
-    (written-as _ _ _ _ _ _ (ap outputOf (kind-frame (c .before .before .before .before .before .before .before .before .args .kind) _ _ _ (search needs))) (line .0), line .1)
+    let line = c .before .before .frame-line .ensures in (
+      written-as _ _ _ _ _ _ (ap outputOf (kind-frame (c .before .before .before .before .before .before .before .before .args .kind) _ _ _ (search needs)))
+          (line .0),
+      line .1,
+    )
 
 pub parts-line-spec : {M : Type 1} → statement M
 parts-line-spec =

@@ -18,8 +18,12 @@ slice-aggregate-found-line c = search needs
 
 found-line-requires : tie.Need-found-line-requires
 found-line-requires c κs =
-    let found = c .before .before .before .find in
-    (search needs, omega (arith, found .kept .1 .1 .1 .0), found-taps _ _ _ _ _ refl (found .kept .1 .1 .1 .0) (found .ensures .leaves) (found .result) (found .ensures .answers))
+    let found = c .before .before .before .find in (
+      search needs,
+      omega (arith, found .kept .1 .1 .1 .0),
+      found-taps _ _ _ _ _ refl (found .kept .1 .1 .1 .0) (found .ensures .leaves) (found .result)
+          (found .ensures .answers),
+    )
 
 same-length : tie.Need-same-length
 same-length c = search needs
@@ -27,8 +31,11 @@ same-length c = search needs
 returns : tie.Need-returns
 returns c =
     let found = c .before .before .before .before .before .before .find in
-    let line = c .before .before .found-line .ensures in
-    (written-as _ _ _ _ _ _ (found-output _ _ _ _ _ refl (found .kept .1 .1 .1 .0) (found .ensures .leaves) (found .result) (found .ensures .answers)) (line .0), line .1)
+    let line = c .before .before .found-line .ensures in (
+      written-as _ _ _ _ _ _ (found-output _ _ _ _ _ refl (found .kept .1 .1 .1 .0) (found .ensures .leaves) (found .result) (found .ensures .answers))
+          (line .0),
+      line .1,
+    )
 
 pub register-line-spec : {M : Type 1} → statement M
 register-line-spec =

@@ -72,7 +72,9 @@ put-decimal-returns-2 t c =
     let n : ℕ = c .before .before .before .before .before .before .before .before .before .before .before .args .n in
     let e = last-room n _ refl (omega arith) (omega arith) in
     let p = c .before .before .before .before .before .before .before .put-decimal .ensures .place in
-    more-digits n _ (c .before .before .before .digit2 .ensures) (omega arith) (omega arith) _ _ _ _ _ _ (omega (arith, c .before .before .before .before .before .before .before .before .before .before .before .pre .1)) (c .before .before .before .before .before .before .before .put-decimal .ensures) (c .before .before .put-byte2 .ensures)
+    more-digits n _ (c .before .before .before .digit2 .ensures) (omega arith) (omega arith) _ _ _ _ _ _
+    (omega (arith, c .before .before .before .before .before .before .before .before .before .before .before .pre .1))
+    (c .before .before .before .before .before .before .before .put-decimal .ensures) (c .before .before .put-byte2 .ensures)
 
 pub +put-decimal-spec : {M : Type 1} → statement M
 +put-decimal-spec = close μ-put-decimal λ t. put-decimal-lts.spec (claims t)

@@ -45,7 +45,8 @@ loop-again c =
     let m = walk-member _ _ _ (v .1) (omega arith) in (
       _,
       walk-next _ _ _ (v .1) _ (omega arith) (c .next2 .ensures),
-      spaced-next _ _ _ (c .before .before .before .before .before .before .before .before .before .pre) _ _ _ (v .2) _ _ _ (m .0) (m .1) (omega arith) (c .before .before .before .put-number .ensures .0),
+      spaced-next _ _ _ (c .before .before .before .before .before .before .before .before .before .pre) _ _ _ (v .2) _ _ _ (m .0) (m .1) (omega arith)
+          (c .before .before .before .put-number .ensures .0),
     )
 
 same-length : tie.Need-same-length Inv-loop μ-loop

@@ -35,7 +35,9 @@ loop-less c = search needs
 
 loop-again : tie.Need-loop-again Inv-loop μ-loop
 loop-again c =
-    spaced-next _ _ _ (c .before .before .before .before .before .before .before .before .before .pre) _ _ _ (c .before .before .before .before .before .before .loop .inv) _ _ _ (omega arith) refl (omega (arith, c .before .before .before .shared-slice-known2 .given (c .before .before .before .before .before .before .loop .i)))
+    spaced-next _ _ _ (c .before .before .before .before .before .before .before .before .before .pre) _ _ _
+    (c .before .before .before .before .before .before .loop .inv) _ _ _ (omega arith) refl
+    (omega (arith, c .before .before .before .shared-slice-known2 .given (c .before .before .before .before .before .before .loop .i)))
     (c .before .before .put-number .ensures .0)
 
 same-length : tie.Need-same-length Inv-loop μ-loop

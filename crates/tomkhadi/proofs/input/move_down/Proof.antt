@@ -42,7 +42,8 @@ returns : tie.Need-returns Inv-loop μ-loop
 returns c =
     let done = c .before .loop .inv in
     let all : c .before .loop .i ≡ c .before .before .args .n = omega (arith, done .0) in
-    subst (λ (k : ℕ). take k (c .before .loop .buffer) ≡ take k (drop (c .before .before .args .from) (c .before .before .args .buffer .now))) all (done .1 .moved)
+    subst (λ (k : ℕ). take k (c .before .loop .buffer) ≡ take k (drop (c .before .before .args .from) (c .before .before .args .buffer .now))) all
+    (done .1 .moved)
 
 pub move-down-spec : {M : Type 1} → statement M
 move-down-spec =

@@ -34,7 +34,8 @@ returns c =
     let start = c .before .before .before .before .before .before .before .before .before .before in
     let move = c .before .before .before .before .before .before .move-down in
     let read = c .before .before .read in
-    refills (start .args .w) (start .args .buffer .now) (start .pre) (move .last .0) (read .last .0) (read .result) (move .kept .0) (read .kept .0) (read .ensures) (move .ensures)
+    refills (start .args .w) (start .args .buffer .now) (start .pre) (move .last .0) (read .last .0) (read .result) (move .kept .0) (read .kept .0)
+    (read .ensures) (move .ensures)
 
 pub refilled-spec : {M : Type 1} → statement M
 refilled-spec =
