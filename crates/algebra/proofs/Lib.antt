@@ -5,9 +5,11 @@ pub mod Evaluation
 pub mod FieldLaws
 pub mod Horner
 pub mod LocatorLaws
+pub mod LocatorOrder
 pub mod Powers
 pub mod RingLaws
 pub mod Roots
 pub mod Solver
 pub mod Sums
 pub mod Vandermonde
+pub mod WeighedSums

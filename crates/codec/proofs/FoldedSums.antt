@@ -19,7 +19,7 @@ use Rattle.field257.proofs.Locators.{power-mod}
 use Rattle.codec.specs.Folded.{gathered, folded}
 use Rattle.frame.proofs.CheckSums.{check-sum-value}
 use Rattle.frame.proofs.Weights.{weight-add}
-use Rattle.field.proofs.BlockSums.{total-swap, total-blocks, total-rest}
+use Rattle.lists.proofs.BlockSums.{total-swap, total-blocks, total-rest}
 
 module _ (x : List ℕ) (j blocks : ℕ) where
   abbrev term : ℕ → ℕ

@@ -167,22 +167,6 @@ entry n P j h =
     let (k, e) = placed n P j h in
     subst (Entry n P j) (sym (ap (λ (i : ℕ). getD (listed n P) i 0) (sym (e .place)) ∙ listed-at k n P (e .below) (e .passes))) e
 
--- the list rises
-pub listed-rises : (n : ℕ) (P : ℕ → Bool) (i j : ℕ) → i < j → j < count n P → getD (listed n P) i 0 < getD (listed n P) j 0
-listed-rises n P i j h l =
-    let a = entry n P i (let p : i < count n P = omega arith in p) in
-    let b = entry n P j l in
-    lt-of-not-le (λ g.
-    let z : ⊥ = omega (arith, count-mono (getD (listed n P) j 0) (getD (listed n P) i 0) P g, a .place, b .place) in
-    z)
-
--- it holds exactly the numbers that pass
-pub listed-holds : (n : ℕ) (P : ℕ → Bool) (k : ℕ) → k < n → (P k ≡ true) ↔ ((j : ℕ) × (j < count n P) × (getD (listed n P) j 0 ≡ k))
-listed-holds n P k h = (
-  λ e. (count k P, count-lt k n P h e, listed-at k n P h e),
-  λ (j, l, q). subst (λ (i : ℕ). P i ≡ true) q (entry n P j l .passes),
-)
-
 -- ---- the numbers below m
 
 pub count-below : (m n : ℕ) → m ≤ n → count n (λ k. ltb k m) ≡ m

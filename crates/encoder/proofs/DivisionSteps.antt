@@ -20,7 +20,7 @@ use Rattle.lists.proofs.Entries.{getD-part}
 use Rattle.lists.proofs.Parts.{replaced-before, replaced-in, replaced-after}
 use Rattle.lists.proofs.Tabulated.{length-tabulate, getD-tabulate}
 use Rattle.encoder.specs.GeneratorPolynomial.{GeneratorPolynomial}
-use Rattle.frame.proofs.WeighedSums.{multiple-added}
+use Rattle.algebra.proofs.WeighedSums.{multiple-added}
 open CRing R257 using (add as _⊕_, mul as _⊗_)
 
 infixl 60 _⊕_

@@ -26,7 +26,7 @@ use Rattle.field257.proofs.Field257.{symbols, R257, res257, res-negative}
 use Rattle.lists.specs.Tabulate.{tabulate}
 use Rattle.lists.proofs.Zeros.{zeros, zeros-entry}
 use Rattle.encoder.specs.GeneratorPolynomial.{GeneratorPolynomial}
-use Rattle.frame.proofs.WeighedSums.{factor-multiplied}
+use Rattle.algebra.proofs.WeighedSums.{factor-multiplied}
 open CRing R257 using (zero as 𝟘, add as _⊕_, mul as _⊗_, neg, add-neg)
 
 infixl 60 _⊕_

@@ -1,5 +1,4 @@
 pub mod Binomial
-pub mod BlockSums
 pub mod Bridge
 pub mod Coefficients
 pub mod Divisionless

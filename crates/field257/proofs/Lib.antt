@@ -1,7 +1,6 @@
 pub mod Accumulation
 pub mod Field257
 pub mod LocatorBuilding
-pub mod LocatorOrder
 pub mod LocatorPolynomial
 pub mod Locators
 pub mod Members

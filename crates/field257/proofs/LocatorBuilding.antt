@@ -26,7 +26,7 @@ use Rattle.field257.specs.LocatorPolynomial.{locatorPolynomial}
 use Rattle.field257.specs.Powers.{locatorOf}
 use Rattle.field257.proofs.Field257.{symbols, R257, res257, res-tells, locatorAt}
 use Rattle.field257.proofs.LocatorPolynomial.{factor-entry, locator-coefficients}
-use Rattle.field257.proofs.LocatorOrder.{locator-last}
+use Rattle.algebra.proofs.LocatorOrder.{locator-last}
 use Rattle.field.proofs.Multiplication.{made, shifted-suc, length-front, front-length, front-made, front-rest}
 
 length-reduced : (l : ℕ) (f : List ℕ) (x : ℕ) → length (reduced 257 l f x 1 f) ≡ suc l

@@ -4,7 +4,7 @@ use mathlib.Core.List.{List}
 use Prim.Native.Nat.{ℕ, _-_, _≤_, _<_}
 use lib.ListN.{length, getD, List·getD-eq-default}
 use Rattle.frame.specs.Shape.{checksOf, shapeOf}
-use Rattle.frame.proofs.Padded.{padded-entry, padded-length}
+use Rattle.lists.proofs.Padded.{padded-entry, padded-length}
 
 module _ (n : ℕ) (checks : List ℕ) where
   pub given-checks : (h : ℕ) → h < length checks → checksOf (shapeOf n checks) h ≡ getD checks h 0

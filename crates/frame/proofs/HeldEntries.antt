@@ -11,7 +11,7 @@ use Rattle.frame.specs.Frame.{row, checkSum, checkSums, rowSums, sequenc
 use Rattle.frame.specs.Shape.{checksOf}
 use Rattle.frame.specs.declared.Shape.{Shape}
 use Rattle.frame.proofs.HeldSums.{held-row, sums-before}
-use Rattle.frame.proofs.Padded.{padded-entry}
+use Rattle.lists.proofs.Padded.{padded-entry}
 
 pub held-entry : (s : Shape) (f : List ℕ) (h j : ℕ) → h < s .rows → j < checksOf s h
     → getD (heldSums s f) (sumsBefore s h + j) 0 ≡ checkSum (s .columns) (row (s .columns) f h) (suc j)

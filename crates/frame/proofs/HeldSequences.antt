@@ -28,11 +28,3 @@ module _ (s : Shape) (sums : List ℕ) where
     held-short =
         let m : min (checksOf s h) (length (drop (sumsBefore s h) sums)) ≤ checksOf s h = min-le-left _ _ in
         omega (arith, ap length held-at ∙ length-take (checksOf s h) (drop (sumsBefore s h) sums))
-
-    pub held-symbol : (P : ℕ → Type 0) → ((k : ℕ) → P (getD sums k 0)) → (i : ℕ) → i < length (getD (heldSequences s sums) h [])
-        → P (getD (getD (heldSequences s sums) h []) i 0)
-    held-symbol P each i short =
-        subst⁻¹ P
-        (ap (λ (x : List ℕ). getD x i 0) held-at ∙ getD-take (checksOf s h) (drop (sumsBefore s h) sums) i 0 (omega (arith, held-short))
-        ∙ getD-drop (sumsBefore s h) sums i 0)
-        (each (sumsBefore s h + i))

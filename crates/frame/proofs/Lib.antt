@@ -13,7 +13,6 @@ pub mod HeldParts
 pub mod HeldSequences
 pub mod HeldSums
 pub mod Others
-pub mod Padded
 pub mod Reasons
 pub mod Remainder
 pub mod RowAlone
@@ -25,5 +24,4 @@ pub mod RowsCompleted
 pub mod ShapeTests
 pub mod Shapes
 pub mod SymbolsPut
-pub mod WeighedSums
 pub mod Weights

@@ -27,7 +27,7 @@ use Rattle.lists.specs.Tabulate.{tabulate}
 use Rattle.lists.proofs.Entries.{getD-part}
 use Rattle.lists.proofs.Parts.{replaced-in}
 use Rattle.lists.proofs.Tabulated.{length-tabulate, getD-tabulate}
-use Rattle.frame.proofs.WeighedSums.{remainder-put}
+use Rattle.algebra.proofs.WeighedSums.{remainder-put}
 open CRing R257 using (neg)
 
 module _ (m : ℕ) (x cells : List ℕ) (fewer : m ≤ length x) (narrow : length x ≤ 256) (room : length cells ≡ 256)

@@ -13,7 +13,7 @@ use Rattle.frame.specs.declared.Shape.{Shape}
 use Rattle.frame.proofs.GivenShapes.{given-checks, no-checks, eight-places}
 use Rattle.frame.proofs.HeldEntries.{held-entry, held-rest}
 use Rattle.frame.proofs.HeldSums.{held-length}
-use Rattle.frame.proofs.Padded.{padded-entry, padded-length}
+use Rattle.lists.proofs.Padded.{padded-entry, padded-length}
 use Rattle.frame.proofs.Reasons.{shape-passes}
 use Rattle.frame.proofs.Shapes.{shape-ranges}
 use Rattle.lists.proofs.Tabulated.{every-at}

@@ -42,9 +42,9 @@ use Rattle.register.specs.Sequences.{longest, split}
 use Rattle.lines.specs.Demands.{kindOf, OfOneRecord, Bad, UnknownKind, badReason, Line, IsLine, Records}
 use Rattle.lines.specs.Demands.{lengthsOf, sequenceSymbols, registerReasonsOf, ShowsRegister}
 use Rattle.lines.specs.Demands.{checkCountsOf, frameSymbols, frameReasonsOf, ShowsColumns}
-use Rattle.lines.proofs.Firsts.{first-same, first-or-none, first-before, first-after, none-append, none-in-turn, Below, first-below}
+use Rattle.refusal.proofs.Firsts.{first-same, first-or-none, first-before, first-after, none-append, none-in-turn, Below, first-below}
 use Rattle.lines.proofs.Newlines.{line-is-one, refusal-is-one}
-use Rattle.lines.proofs.Numbers.{tells-number, other-letter}
+use Rattle.record.proofs.Numbers.{tells-number, other-letter}
 use Rattle.lines.proofs.Parsed.{SaysSequences, SaysFrame, Told, told, sequences-not-bad, frame-not-bad, bad-exactly}
 
 -- ---- a line by its reasons
@@ -276,5 +276,5 @@ module _ (r : List ℕ) (one : OfOneRecord r) where
   unknown : UnknownKind r → lineOf r ≡ refusalLine 9
   unknown u = bad-said r (bad-exactly r one .1 (inr (inr (inl u))))
 
-pub records : Records
+records : Records
 records = record { one-line = one-line; bad-exactly = bad-exactly; unknown = unknown; registers = registers; frames = frames }

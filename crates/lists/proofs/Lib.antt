@@ -1,8 +1,11 @@
+pub mod BlockSums
 pub mod Copy
 pub mod DataCells
 pub mod Entries
 pub mod Filling
 pub mod Joined
+pub mod Moving
+pub mod Padded
 pub mod Padding
 pub mod Parts
 pub mod Tabulated

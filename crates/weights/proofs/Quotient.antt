@@ -26,7 +26,7 @@ use Rattle.lists.proofs.Filling.{by-entries}
 use Rattle.weights.specs.Weights.{carried}
 use Rattle.weights.proofs.Division.{carried-zero, carried-suc}
 use Rattle.field257.proofs.LocatorBuilding.{polynomial-below}
-use Rattle.field257.proofs.LocatorOrder.{locator-middle}
+use Rattle.algebra.proofs.LocatorOrder.{locator-middle}
 open CRing R257 using (car, add as _⊕_, mul as _⊗_, neg)
 
 infixl 60 _⊕_

@@ -56,10 +56,6 @@ module _ (F : Field) (Q : Sequences (F .ring .car)) where
     saved-gen (inl r) = λ g m _ _ _. conv-zero ring (v .taps) (symbol g) m (λ i _. r .taps i)
     saved-gen (inr k) = k .fails .before
 
-    pub saved-size : FreshOrKept l s h v → v .size ≤ l
-    saved-size (inl r) = let z : v .size ≡ 0 = r .size in omega arith
-    saved-size (inr k) = let p : v .size < l = k .shorter in omega arith
-
   pub saved-later : (l l' s s' h : ℕ) (v : Saved car) → l ≤ l' → s ≤ s' → FreshOrKept l s h v → FreshOrKept l' s' h v
   saved-later l l' s s' h v hl hs =
       ⊎-map (λ r. r) (λ k. record {
@@ -75,12 +71,6 @@ module _ (F : Field) (Q : Sequences (F .ring .car)) where
   pub saved-before : (l n h : ℕ) (v : Saved car) → h < t → l + lag h < n → FreshOrKept l (n * t + h) h v → v .place < n
   saved-before l n h v hh q (inl r) = let p : v .place ≡ lag h = r .place in omega arith
   saved-before l n h v hh q (inr k) = position-lt t (v .place) n h hh (k .placed)
-
-  -- bounds in round n
-  pub saved-place : (l s n h : ℕ) (v : Saved car) → s ≤ suc n * t → FreshOrKept l s h v → v .place ≤ max n (lag h)
-  saved-place l s n h v q (inl r) = let p : v .place ≡ lag h = r .place in omega arith
-  saved-place l s n h v q (inr k) =
-      omega (arith, position-in-round t (v .place) n h (omega (arith, k .placed)))
 
   pub size-le : (s n : ℕ) (st : State car) → s ≤ suc n * t → Invariant st s → st .size ≤ n
   size-le s n st q I = go (st .size) refl

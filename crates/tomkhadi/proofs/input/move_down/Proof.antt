@@ -4,7 +4,7 @@ use Prim.Native.Nat.{ℕ, _-_, _≤_}
 use native.Mathlib.Omega.{arith}
 use borrow.Author.Needs.{needs}
 use lib.ListN.{take, drop}
-use Rattle.tomkhadi.proofs.Moving.{Moved, moved-none, moved-more}
+use Rattle.lists.proofs.Moving.{Moved, moved-none, moved-more}
 use Rattle.tomkhadi.proofs.input.move_down.Statement.{statement}
 use Rattle.tomkhadi.proofs.input.move_down.Tie as tie
 
