@@ -1,14 +1,19 @@
 // Damage of frames: symbols of columns that are chosen at random are changed.
-use crate::locator::cell;
 use crate::random::draw;
 use crate::random::draw_from;
-use crate::random::fill;
+use crate::random::fill_from;
 use crate::values::get;
 use crate::values::part;
 use crate::values::plus_product;
+use crate::values::product;
 use crate::values::put;
 use crate::values::remainder;
 use crate::values::times;
+ghost use mathlib.Core.Path.{_≡_};
+ghost use mathlib.Core.List.{List};
+ghost use Prim.Native.Nat.{ℕ, _≤_};
+ghost use lib.ListN.{length};
+ghost use Rattle.brute.specs.Frames.{Damaged, Struck};
 
 fn number(order: &mut [u16], n: u16) {
     for i in 0..n {
@@ -37,7 +42,7 @@ fn draw_factors(state: &mut u64, kind: u16, factors: &mut [u16], rows: usize) {
         put(factors, h as usize, 1);
         return;
     }
-    fill(state, 257, factors, rows);
+    fill_from(state, 0, 257, factors, rows);
     put(factors, 0, draw_from(state, 1, 256));
 }
 
@@ -48,19 +53,31 @@ fn error(state: &mut u64, kind: u16, factor: u16, e: u16) -> u16 {
     times(257, factor, e)
 }
 
+// A frame has at most eight rows.
+fn at_most_eight(rows: usize) -> u16
+    ensures { λ r. ⌜ (r ≤ rows) × (r ≤ 8) ⌝ }
+{
+    if rows < 8 {
+        return rows as u16;
+    }
+    8
+}
+
 fn damage_column(
     state: &mut u64,
     kind: u16,
     factors: &[u16],
     columns: u16,
-    rows: usize,
+    rows: u16,
     i: u16,
     frame: &mut [u16],
-) {
+)
+    ensures { λ r. ⌜ Struck columns rows i (now (frame .entry)) (now (frame .exit)) ⌝ }
+{
     let e = draw_from(state, 1, 256);
     for h in 0..rows {
-        let at = cell(columns, h, i as usize);
-        let x = error(state, kind, get(factors, h), e);
+        let at = product(h, columns) as usize + i as usize;
+        let x = error(state, kind, get(factors, h as usize), e);
         let v = plus_product(257, get(frame, at), x, 1);
         put(frame, at, v);
     }
@@ -71,18 +88,24 @@ fn damage_columns(
     kind: u16,
     factors: &[u16],
     columns: u16,
-    rows: usize,
+    rows: u16,
     order: &[u16],
     frame: &mut [u16],
-) {
+)
+    ensures { λ r. ⌜ Damaged columns rows (now (order .entry)) (length (now (order .entry))) (now (frame .entry)) (now (frame .exit)) ⌝ }
+{
     for k in 0..order.len() {
         let i = get(order, k);
         damage_column(state, kind, factors, columns, rows, i, frame);
     }
 }
 
-// Damages w columns.
-pub fn damage(state: &mut u64, columns: u16, rows: usize, w: u16, frame: &mut [u16]) {
+// Damages at most w columns: some symbols of them are changed, and no others.
+pub fn damage(state: &mut u64, columns: u16, rows: usize, w: u16, frame: &mut [u16])
+    ensures { λ r. ⌜
+        ((order : List ℕ) × ((length order ≤ w) × Damaged columns rows order (length order) (now (frame .entry)) (now (frame .exit))))
+        ⌝ }
+{
     let mut order = [0u16; 256];
     number(&mut order, columns);
     mix(state, &mut order, columns);
@@ -90,5 +113,13 @@ pub fn damage(state: &mut u64, columns: u16, rows: usize, w: u16, frame: &mut [u
     let mut factors = [0u16; 8];
     draw_factors(state, kind, &mut factors, rows);
     let chosen = part(&order, 0, w as usize);
-    damage_columns(state, kind, &factors, columns, rows, chosen, frame);
+    damage_columns(
+        state,
+        kind,
+        &factors,
+        columns,
+        at_most_eight(rows),
+        chosen,
+        frame,
+    );
 }

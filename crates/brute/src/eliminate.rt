@@ -4,6 +4,12 @@
 use crate::values::cross;
 use crate::values::get;
 use crate::values::put;
+ghost use mathlib.Core.Path.{_≡_};
+ghost use Prim.Native.Nat.{ℕ, _+_, _*_, _<_, _≤_};
+ghost use lib.ListN.{length, getD, replicate};
+ghost use Rattle.brute.specs.Equations.{Cleared, Decided, placeOf};
+ghost use Rattle.brute.specs.Plain.{Each, Tells};
+ghost use Rattle.brute.specs.declared.eliminate.Added.the-variants.{Follows, Contradicts};
 
 // How many values a row has room for. The table has as many rows.
 const SPAN: usize = 129;
@@ -15,7 +21,9 @@ pub enum Added {
     Contradicts,
 }
 
-pub fn follows(added: Added) -> bool {
+pub(crate) fn follows(added: Added) -> bool
+    ensures { λ r. ⌜ Tells r (added ≡ Follows) ⌝ }
+{
     match added {
         Added::Follows => true,
         Added::Leads => false,
@@ -23,7 +31,9 @@ pub fn follows(added: Added) -> bool {
     }
 }
 
-pub fn contradicts(added: Added) -> bool {
+pub fn contradicts(added: Added) -> bool
+    ensures { λ r. ⌜ Tells r (added ≡ Contradicts) ⌝ }
+{
     match added {
         Added::Follows => false,
         Added::Leads => false,
@@ -31,12 +41,16 @@ pub fn contradicts(added: Added) -> bool {
     }
 }
 
-pub fn table() -> [u16; 16641] {
+pub fn table() -> [u16; 16641]
+    ensures { λ r. ⌜ r ≡ replicate 16641 0 ⌝ }
+{
     [0; 16641]
 }
 
 // Where value j of row k stands.
-fn place(k: usize, j: usize) -> usize {
+fn place(k: usize, j: usize) -> usize
+    ensures { λ r. ⌜ r ≡ placeOf k j ⌝ }
+{
     if k < SPAN {
         if j < SPAN {
             return k * SPAN + j;
@@ -45,26 +59,34 @@ fn place(k: usize, j: usize) -> usize {
     SPAN * SPAN
 }
 
-fn value(table: &[u16], k: usize, j: usize) -> u16 {
+fn value(table: &[u16], k: usize, j: usize) -> u16
+    ensures { λ r. ⌜ r ≡ getD (now (table .entry)) (placeOf k j) 0 ⌝ }
+{
     get(table, place(k, j))
 }
 
 // Empties the table for rows of n values.
-pub fn clear(table: &mut [u16], n: usize) {
+pub fn clear(table: &mut [u16], n: usize)
+    ensures { λ r. ⌜ Cleared (now (table .entry)) (now (table .exit)) n ⌝ }
+{
     for k in 1..n {
         put(table, place(k, k), 0);
     }
 }
 
 // Takes the multiple of row k by which unknown k falls out from value j of the equation that is being added.
-fn cancel_value(p: u16, table: &mut [u16], k: usize, j: usize, x: u16) {
+fn cancel_value(p: u16, table: &mut [u16], k: usize, j: usize, x: u16)
+    ensures { λ r. ⌜ length (now (table .exit)) ≡ length (now (table .entry)) ⌝ }
+{
     let lead = value(table, k, k);
     let v = cross(p, get(table, j), lead, value(table, k, j), x);
     put(table, j, v);
 }
 
 // Takes unknown k out of the equation that is being added, by row k.
-fn cancel(p: u16, table: &mut [u16], k: usize, n: usize) {
+fn cancel(p: u16, table: &mut [u16], k: usize, n: usize)
+    ensures { λ r. ⌜ length (now (table .exit)) ≡ length (now (table .entry)) ⌝ }
+{
     let x = get(table, k);
     if x == 0 {
         return;
@@ -74,7 +96,9 @@ fn cancel(p: u16, table: &mut [u16], k: usize, n: usize) {
     }
 }
 
-fn keep(table: &mut [u16], k: usize, n: usize) {
+fn keep(table: &mut [u16], k: usize, n: usize)
+    ensures { λ r. ⌜ length (now (table .exit)) ≡ length (now (table .entry)) ⌝ }
+{
     for j in 0..n {
         let v = get(table, j);
         put(table, place(k, j), v);
@@ -90,7 +114,9 @@ fn is_new(table: &[u16], k: usize) -> bool {
 }
 
 // Adds the equation of row 0, which has n values.
-pub fn add(p: u16, table: &mut [u16], n: usize) -> Added {
+pub fn add(p: u16, table: &mut [u16], n: usize) -> Added
+    ensures { λ r. ⌜ Decided r (now (table .entry)) (now (table .exit)) ⌝ }
+{
     for k in 1..n {
         if is_new(table, k) {
             keep(table, k, n);
@@ -105,7 +131,9 @@ pub fn add(p: u16, table: &mut [u16], n: usize) -> Added {
 }
 
 // Every unknown leads a row: there is at most one solution.
-pub fn determined(table: &[u16], n: usize) -> bool {
+pub(crate) fn determined(table: &[u16], n: usize) -> bool
+    ensures { λ r. ⌜ Tells r (Each 1 n (λ k. getD (now (table .entry)) (placeOf k k) 0 ≡ 0 → ⊥)) ⌝ }
+{
     for k in 1..n {
         if value(table, k, k) == 0 {
             return false;

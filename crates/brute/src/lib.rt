@@ -1,5 +1,5 @@
-// What the trials share: random numbers, counts and their lines, and second implementations that share no code with the library. They are
-// proved to be safe and to end, and promise nothing else: a trial compares them with the library, whose contracts say what is right.
+// What the trials share: random numbers, counts and their lines, and second implementations that share no code with the library. Their
+// contracts are plain arithmetic over the numbers and lists that are lent, and cite no definition of the library's.
 pub mod answers;
 pub mod compare;
 pub mod counting;

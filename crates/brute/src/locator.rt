@@ -5,10 +5,19 @@ use crate::sequences::start;
 use crate::shortest::shortest;
 use crate::values::get;
 use crate::values::part;
+use crate::values::plus;
 use crate::values::plus_product;
 use crate::values::product;
 use crate::values::put;
+use crate::values::put_at;
 use crate::values::times;
+ghost use mathlib.Core.Path.{_≡_};
+ghost use mathlib.Core.Bool.{true, false};
+ghost use Prim.Native.Nat.{ℕ, suc, _+_, _*_, _-_, _%_, _^_, _<_, _≤_};
+ghost use lib.ListN.{length, getD};
+ghost use Rattle.brute.specs.Frames.{Located, Marked, Summed, checkSum, row};
+ghost use Rattle.brute.specs.Plain.{Each, Tells, capped, sum};
+ghost use Rattle.brute.specs.Written.{Wrote};
 
 // What locating must answer: the number of the refusal, or 0, and the length of the shortest register.
 pub struct Expected {
@@ -16,7 +25,9 @@ pub struct Expected {
     pub length: usize,
 }
 
-pub fn power(x: u16, e: usize) -> u16 {
+pub fn power(x: u16, e: usize) -> u16
+    ensures { λ r. ⌜ r ≡ x ^ e % 257 ⌝ }
+{
     let mut r: u16 = 1;
     for _ in 0..e {
         r = times(257, r, x);
@@ -24,20 +35,20 @@ pub fn power(x: u16, e: usize) -> u16 {
     r
 }
 
-// Where the cell of row h at column i stands. A frame has at most eight rows.
-pub fn cell(columns: u16, h: usize, i: usize) -> usize {
+// Row h of a frame, which has at most eight.
+pub fn row(frame: &[u16], columns: u16, h: usize) -> &[u16]
+    ensures { λ r. ⌜ now r ≡ row (now (frame .entry)) columns h ⌝ }
+{
     if h < 8 {
-        return std::num::wrapping_add_usize(product(h as u16, columns) as usize, i);
+        return part(frame, product(h as u16, columns) as usize, columns as usize);
     }
-    2048
-}
-
-pub fn row(frame: &[u16], columns: u16, h: usize) -> &[u16] {
-    part(frame, cell(columns, h, 0), columns as usize)
+    part(frame, 1, 0)
 }
 
 // The check sum S_j of a row.
-fn check_sum(row: &[u16], j: usize) -> u16 {
+fn check_sum(row: &[u16], j: usize) -> u16
+    ensures { λ r. ⌜ r ≡ checkSum (now (row .entry)) j ⌝ }
+{
     let step = power(3, j);
     let mut weight: u16 = 1;
     let mut sum: u16 = 0;
@@ -48,26 +59,30 @@ fn check_sum(row: &[u16], j: usize) -> u16 {
     sum
 }
 
-fn row_sums(row: &[u16], n: u16, sums: &mut [u16], at: usize) {
+fn row_sums(row: &[u16], n: u16, sums: &mut [u16], at: usize)
+    ensures { λ r. ⌜ Wrote (now (sums .entry)) (now (sums .exit)) at (at + n) (λ k. checkSum (now (row .entry)) (suc (k - at))) ⌝ }
+{
     for j in 0..n {
         let i = j as usize;
-        put(
-            sums,
-            std::num::wrapping_add_usize(at, i),
-            check_sum(row, i + 1),
-        );
+        put_at(sums, at, i, check_sum(row, i + 1));
     }
 }
 
 // The check sums of all rows, row after row.
-pub fn check_sums(columns: u16, checks: &[u16], frame: &[u16], sums: &mut [u16]) {
+pub fn check_sums(columns: u16, checks: &[u16], frame: &[u16], sums: &mut [u16])
+    ensures { λ r. ⌜
+        Summed columns (now (checks .entry)) (now (frame .entry)) (length (now (checks .entry))) (now (sums .entry)) (now (sums .exit))
+        ⌝ }
+{
     for h in 0..checks.len() {
         let at = start(checks, h);
         row_sums(row(frame, columns, h), get(checks, h), sums, at);
     }
 }
 
-fn all_zero(a: &[u16]) -> bool {
+fn all_zero(a: &[u16]) -> bool
+    ensures { λ r. ⌜ Tells r (Each 0 (length (now (a .entry))) (λ i. getD (now (a .entry)) i 0 ≡ 0)) ⌝ }
+{
     for i in 0..a.len() {
         if get(a, i) != 0 {
             return false;
@@ -76,15 +91,22 @@ fn all_zero(a: &[u16]) -> bool {
     true
 }
 
-// Every check sum of the frame is 0.
-pub fn legal(columns: u16, checks: &[u16], frame: &[u16]) -> bool {
+// Every check sum of the frame is 0. There is room for 512 of them.
+pub fn legal(columns: u16, checks: &[u16], frame: &[u16]) -> bool
+    ensures { λ r. ⌜
+        Tells r (Each 0 (length (now (checks .entry))) (λ h. Each 0 (getD (now (checks .entry)) h 0) (λ j.
+        sum h (λ i. getD (now (checks .entry)) i 0) + j < 512 → checkSum (row (now (frame .entry)) columns h) (suc j) ≡ 0)))
+        ⌝ }
+{
     let mut sums = [0u16; 512];
     check_sums(columns, checks, frame, &mut sums);
     all_zero(&sums)
 }
 
 // Some row has fewer than c checks.
-fn short_row(checks: &[u16], c: usize) -> bool {
+fn short_row(checks: &[u16], c: usize) -> bool
+    ensures { λ r. ⌜ Tells r ((h : ℕ) × (h < length (now (checks .entry))) × (getD (now (checks .entry)) h 0 < c)) ⌝ }
+{
     for h in 0..checks.len() {
         if (get(checks, h) as usize) < c {
             return true;
@@ -94,7 +116,9 @@ fn short_row(checks: &[u16], c: usize) -> bool {
 }
 
 // The equation that the register is 0 at y: the powers of y, times the taps, add up to 0.
-fn pose_root(table: &mut [u16], y: u16, n: usize) {
+fn pose_root(table: &mut [u16], y: u16, n: usize)
+    ensures { λ r. ⌜ Wrote (now (table .entry)) (now (table .exit)) 0 n (λ k. y ^ k % 257) ⌝ }
+{
     let mut v: u16 = 1;
     for k in 0..n {
         put(table, k, v);
@@ -103,13 +127,17 @@ fn pose_root(table: &mut [u16], y: u16, n: usize) {
 }
 
 // The conditions of the one register, which stand in the table, make it 0 at the inverse of 3^i, which is the power 255 of it.
-fn names(table: &mut [u16], i: u16, n: usize) -> bool {
+fn names(table: &mut [u16], i: u16, n: usize) -> bool
+    ensures { λ r. ⌜ length (now (table .exit)) ≡ length (now (table .entry)) ⌝ }
+{
     let y = power(power(3, i as usize), 255);
     pose_root(table, y, n);
     eliminate::follows(eliminate::add(257, table, n))
 }
 
-fn mark(table: &mut [u16], columns: u16, n: usize, named: &mut [u16]) {
+fn mark(table: &mut [u16], columns: u16, n: usize, named: &mut [u16])
+    ensures { λ r. ⌜ Marked (now (named .entry)) (now (named .exit)) columns ⌝ }
+{
     for i in 0..columns {
         let marked = names(table, i, n);
         put(named, i as usize, marked as u16);
@@ -117,16 +145,20 @@ fn mark(table: &mut [u16], columns: u16, n: usize, named: &mut [u16]) {
 }
 
 // How many marks are set.
-pub fn size(marks: &[u16]) -> usize {
+pub fn size(marks: &[u16]) -> usize
+    ensures { λ r. ⌜ r ≡ capped (sum (length (now (marks .entry))) (λ i. getD (now (marks .entry)) i 0)) ⌝ }
+{
     let mut n: usize = 0;
     for i in 0..marks.len() {
-        n = std::num::wrapping_add_usize(n, get(marks, i) as usize);
+        n = plus(n, get(marks, i) as usize);
     }
     n
 }
 
 // What locating answers for these check sums; the marks of the named columns are left in the lent array.
-pub fn locate(columns: u16, checks: &[u16], sums: &[u16], named: &mut [u16]) -> Expected {
+pub fn locate(columns: u16, checks: &[u16], sums: &[u16], named: &mut [u16]) -> Expected
+    ensures { λ r. ⌜ Located columns (now (checks .entry)) (now (named .entry)) (now (named .exit)) (r .number) (r .length) ⌝ }
+{
     let mut table = eliminate::table();
     let found = shortest(257, checks, sums, &mut table);
     let length = found.length;

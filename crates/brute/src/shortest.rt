@@ -8,6 +8,11 @@ use crate::sequences::discrepancy;
 use crate::sequences::sequence;
 use crate::values::before;
 use crate::values::put;
+ghost use mathlib.Core.Path.{_≡_};
+ghost use mathlib.Core.Bool.{true, false};
+ghost use Prim.Native.Nat.{_+_, _≤_};
+ghost use lib.ListN.{length, getD};
+ghost use Rattle.brute.specs.Plain.{Each, Tells, discrepancy, sequence};
 
 pub struct Answer {
     pub length: usize,
@@ -15,14 +20,18 @@ pub struct Answer {
 }
 
 // The equation of the symbol at place j: it and the symbols before it, times the taps, add up to 0.
-fn pose(table: &mut [u16], s: &[u16], j: usize, n: usize) {
+fn pose(table: &mut [u16], s: &[u16], j: usize, n: usize)
+    ensures { λ r. ⌜ length (now (table .exit)) ≡ length (now (table .entry)) ⌝ }
+{
     for k in 0..n {
         put(table, k, before(s, j, k));
     }
 }
 
 // The conditions of one sequence; false where no taps meet them. With l from its length on there is nothing to meet.
-fn add_sequence(p: u16, table: &mut [u16], s: &[u16], l: usize) -> bool {
+fn add_sequence(p: u16, table: &mut [u16], s: &[u16], l: usize) -> bool
+    ensures { λ r. ⌜ length (now (table .exit)) ≡ length (now (table .entry)) ⌝ }
+{
     if s.len() <= l {
         return true;
     }
@@ -36,7 +45,9 @@ fn add_sequence(p: u16, table: &mut [u16], s: &[u16], l: usize) -> bool {
 }
 
 // Some register of length l generates all sequences. Its conditions are left in the table.
-fn solvable(p: u16, lengths: &[u16], symbols: &[u16], l: usize, table: &mut [u16]) -> bool {
+fn solvable(p: u16, lengths: &[u16], symbols: &[u16], l: usize, table: &mut [u16]) -> bool
+    ensures { λ r. ⌜ length (now (table .exit)) ≡ length (now (table .entry)) ⌝ }
+{
     clear(table, std::num::wrapping_add_usize(l, 1));
     for h in 0..lengths.len() {
         if !add_sequence(p, table, sequence(lengths, symbols, h), l) {
@@ -46,7 +57,10 @@ fn solvable(p: u16, lengths: &[u16], symbols: &[u16], l: usize, table: &mut [u16
     true
 }
 
-pub fn shortest(p: u16, lengths: &[u16], symbols: &[u16], table: &mut [u16]) -> Answer {
+// The length is at most 128, or 129 where no register was found.
+pub fn shortest(p: u16, lengths: &[u16], symbols: &[u16], table: &mut [u16]) -> Answer
+    ensures { λ r. ⌜ (r .length ≤ 129) × (length (now (table .exit)) ≡ length (now (table .entry))) ⌝ }
+{
     for l in 0..129 {
         if solvable(p, lengths, symbols, l, table) {
             let alone = determined(table, l + 1);
@@ -59,7 +73,9 @@ pub fn shortest(p: u16, lengths: &[u16], symbols: &[u16], table: &mut [u16]) -> 
     }
 }
 
-fn generates_one(p: u16, s: &[u16], taps: &[u16], l: usize) -> bool {
+fn generates_one(p: u16, s: &[u16], taps: &[u16], l: usize) -> bool
+    ensures { λ r. ⌜ Tells r (Each l (length (now (s .entry))) (λ j. discrepancy p (now (s .entry)) (now (taps .entry)) (l + 1) j ≡ 0)) ⌝ }
+{
     if s.len() <= l {
         return true;
     }
@@ -71,7 +87,13 @@ fn generates_one(p: u16, s: &[u16], taps: &[u16], l: usize) -> bool {
     true
 }
 
-pub fn generates(p: u16, lengths: &[u16], symbols: &[u16], taps: &[u16], l: usize) -> bool {
+// The register with these l + 1 taps, the first for the symbol itself, generates all sequences.
+pub fn generates(p: u16, lengths: &[u16], symbols: &[u16], taps: &[u16], l: usize) -> bool
+    ensures { λ r. ⌜
+        Tells r (Each 0 (length (now (lengths .entry))) (λ h. Each l (length (sequence (now (lengths .entry)) (now (symbols .entry)) h))
+        (λ j. discrepancy p (sequence (now (lengths .entry)) (now (symbols .entry)) h) (now (taps .entry)) (l + 1) j ≡ 0)))
+        ⌝ }
+{
     for h in 0..lengths.len() {
         if !generates_one(p, sequence(lengths, symbols, h), taps, l) {
             return false;

@@ -1,8 +1,16 @@
-// Counts of what occurred, and the lines that are printed of them.
+// Counts of what occurred, and the lines that are printed of them. No contract can say what is printed: what is lent is only read.
 use crate::values::get;
+ghost use mathlib.Core.Path.{_≡_};
+ghost use mathlib.Core.Bool.{cond};
+ghost use Prim.Native.Nat.{_+_, _%_};
+ghost use lib.ListN.{getD, set};
 
 // Adds to count i, if it is so.
-pub fn count(counts: &mut [u64], i: usize, so: bool) {
+pub fn count(counts: &mut [u64], i: usize, so: bool)
+    ensures { λ r. ⌜
+        now (counts .exit) ≡ set (now (counts .entry)) i ((getD (now (counts .entry)) i 0 + cond so 1 0) % 18446744073709551616)
+        ⌝ }
+{
     if i < counts.len() {
         counts[i] = std::num::wrapping_add_u64(counts[i], so as u64);
     }
@@ -35,9 +43,9 @@ pub fn print_frame(text: &[u8], columns: u16, checks: &[u16], frame: &[u16]) {
     io::write_all(1, b"\n");
 }
 
-// The last line: whether anything disagreed.
+// Whether anything disagreed, in the last line of a run.
 pub fn print_end(agreed: bool) {
-    io::write_all(1, b"\ndisagreements ");
+    io::write_all(1, b"disagreements ");
     io::print_decimal(1, !agreed as u64);
     io::write_all(1, b"\n");
 }

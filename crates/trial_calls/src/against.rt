@@ -30,9 +30,9 @@ pub(crate) struct Pair {
     pub(crate) model: Model,
 }
 
-pub(crate) fn start() -> Pair {
+pub(crate) fn start(planted: bool) -> Pair {
     let job = whole_job::empty();
-    let model = model::empty();
+    let model = model::empty(planted);
     Pair {
         agree: true,
         refused: false,

@@ -9,7 +9,6 @@ use crate::tallies::LISTS;
 use brute::damage::damage;
 use brute::random::draw;
 use brute::random::draw_from;
-use brute::random::fill;
 use brute::random::fill_from;
 use brute::tally::count;
 use brute::tally::print_frame;
@@ -96,7 +95,7 @@ fn prepare(state: &mut u64, call: Call, model: Model, room: &mut [u16]) {
         Call::Shape => {}
         Call::Encode => {
             if k < 3 {
-                fill(state, 257, room, size(model));
+                fill_from(state, 0, 257, room, size(model));
             }
         }
         Call::Locate => {
@@ -183,10 +182,10 @@ fn next(state: &mut u64, pair: Pair, room: &mut [u16], counts: &mut [u64]) -> Pa
 }
 
 // A list of n calls from an empty job.
-fn list(state: &mut u64, n: u16, counts: &mut [u64]) -> bool {
+fn list(state: &mut u64, planted: bool, n: u16, counts: &mut [u64]) -> bool {
     let mut frame = [0u16; 512];
     let room: &mut [u16] = &mut frame;
-    let mut pair = against::start();
+    let mut pair = against::start(planted);
     for _ in 0..n {
         pair = next(state, pair, room, counts);
         if !pair.agree {
@@ -196,12 +195,12 @@ fn list(state: &mut u64, n: u16, counts: &mut [u64]) -> bool {
     true
 }
 
-// Lists of 10 to 30 calls.
-pub(crate) fn random(state: &mut u64, lists: usize, counts: &mut [u64]) -> bool {
+// Lists of 10 to 30 calls against the model, or the planted one.
+pub(crate) fn random(state: &mut u64, planted: bool, lists: usize, counts: &mut [u64]) -> bool {
     for _ in 0..lists {
         count(counts, LISTS, true);
         let n = draw_from(state, 10, 21);
-        if !list(state, n, counts) {
+        if !list(state, planted, n, counts) {
             return false;
         }
     }

@@ -1,5 +1,5 @@
-// Runs the calls on a job at the edges of document 01 and in random lists against a simple model of the job, prints how often each answer
-// occurred, and the first call that disagrees.
+// Runs the calls on a job at the edges of what is taken and in random lists against a simple model of the job, prints how often each answer
+// occurred, and the first call that disagrees. Then the calls are held to a planted model that is wrong, and must disagree with it.
 mod against;
 mod call_lists;
 mod edges;
@@ -15,7 +15,7 @@ fn run(state: &mut u64, counts: &mut [u64]) -> bool {
     if !edges::try_all(counts) {
         return false;
     }
-    call_lists::random(state, 500, counts)
+    call_lists::random(state, false, 500, counts)
 }
 
 // How often each refusal of the calls on a job occurred.
@@ -37,6 +37,7 @@ fn report(counts: &[u64]) {
     print(b", located ", counts, tallies::FOUND);
     print(b", repaired ", counts, tallies::MENDED);
     report_refusals(counts);
+    io::write_all(1, b"\n");
 }
 
 fn main() {
@@ -45,4 +46,6 @@ fn main() {
     let agreed = run(&mut state, &mut counts);
     report(&counts);
     print_end(agreed);
+    io::write_all(1, b"planted: ");
+    print_end(call_lists::random(&mut state, true, 100, &mut counts));
 }

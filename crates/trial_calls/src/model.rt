@@ -1,4 +1,4 @@
-// A simple model of a job, from document 01: what each call must answer, and the state that it leaves. It shares no code with the library.
+// A simple model of a job: what each call must answer, and the state that it leaves. It shares no code with the library.
 use brute::locator::check_sums;
 use brute::locator::locate;
 use brute::locator::row;
@@ -14,8 +14,10 @@ pub(crate) const SHAPED: u16 = 1;
 
 pub(crate) const LOCATED: u16 = 2;
 
-// The phase, the shape and, of a located job, the check sums, the length of the register and a mark for each column that it names.
+// The phase, the shape and, of a located job, the check sums, the length of the register and a mark for each column that it names. A planted
+// model is wrong: it takes a job whose locate is refused by 24, 25 or 26 for one that is left as it was.
 pub(crate) struct Model {
+    pub(crate) planted: bool,
     pub(crate) phase: u16,
     pub(crate) columns: u16,
     pub(crate) rows: u16,
@@ -31,12 +33,13 @@ pub(crate) struct Step {
     pub(crate) model: Model,
 }
 
-pub(crate) fn shaped(phase: u16, columns: u16, list: &[u16]) -> Model {
+pub(crate) fn shaped(planted: bool, phase: u16, columns: u16, list: &[u16]) -> Model {
     let mut checks = [0u16; 8];
     copy(list, &mut checks, 0);
     let sums = [0u16; 512];
     let named = [0u16; 256];
     Model {
+        planted,
         phase,
         columns,
         rows: (list.len() % 65536) as u16,
@@ -47,9 +50,9 @@ pub(crate) fn shaped(phase: u16, columns: u16, list: &[u16]) -> Model {
     }
 }
 
-pub(crate) fn empty() -> Model {
+pub(crate) fn empty(planted: bool) -> Model {
     let none = [0u16; 0];
-    shaped(EMPTY, 0, &none)
+    shaped(planted, EMPTY, 0, &none)
 }
 
 // How many symbols a frame has.
@@ -100,7 +103,7 @@ pub(crate) fn shape(model: Model, columns: u16, checks: &[u16]) -> Step {
     if number != 0 {
         return Step { number, model };
     }
-    let next = shaped(SHAPED, columns, checks);
+    let next = shaped(model.planted, SHAPED, columns, checks);
     Step {
         number,
         model: next,
@@ -164,13 +167,16 @@ fn search(model: Model, frame: &[u16]) -> Step {
     let expected = locate(model.columns, checks, &sums, &mut named);
     let number = expected.number;
     if number != 0 {
-        let refused = shaped(SHAPED, model.columns, checks);
+        if model.planted {
+            return Step { number, model };
+        }
+        let refused = shaped(false, SHAPED, model.columns, checks);
         return Step {
             number,
             model: refused,
         };
     }
-    let mut next = shaped(LOCATED, model.columns, checks);
+    let mut next = shaped(model.planted, LOCATED, model.columns, checks);
     next.sums = sums;
     next.length = expected.length;
     next.named = named;
@@ -224,7 +230,8 @@ pub(crate) fn repaired(model: Model, frame: &[u16]) -> Step {
         return Step { number, model };
     }
     let checks = model.checks;
-    let next = shaped(SHAPED, model.columns, part(&checks, 0, model.rows as usize));
+    let lent = part(&checks, 0, model.rows as usize);
+    let next = shaped(model.planted, SHAPED, model.columns, lent);
     Step {
         number,
         model: next,

@@ -10,7 +10,6 @@ use brute::damage::damage;
 use brute::locator::legal;
 use brute::random::draw;
 use brute::random::draw_from;
-use brute::random::fill;
 use brute::random::fill_from;
 use brute::tally::count;
 use brute::tally::print_frame;
@@ -22,12 +21,13 @@ use brute::values::product;
 use whole_job::Job;
 
 // How large random frames are: of full size, of any size from 65 columns on, of at most seven columns, or of three columns with two checks
-// in each of at most two rows.
+// in each of at most two rows; or, for the planted model, of six columns and two rows.
 pub(crate) enum Size {
     Full,
     Large,
     Small,
     Tiny,
+    Planted,
 }
 
 // Encoding leaves the data and makes the frame legal.
@@ -126,13 +126,28 @@ fn compare_random(
     let shaped = whole_job::shape(whole_job::empty(), columns as usize, checks);
     let n = product(rows, columns) as usize;
     let mut room = [0u16; 2048];
-    fill(state, 257, &mut room, n);
+    fill_from(state, 0, 257, &mut room, n);
     if !encodes(shaped.job, columns, checks, &mut room, n) {
         print_frame(b"frames disagree", columns, checks, part(&room, 0, n));
         return false;
     }
     let original = part(&room, 0, n);
     compare_damaged(state, shaped.job, columns, checks, original, base, counts)
+}
+
+// A frame of two rows with three and two checks against a model that takes both for rows with three.
+fn compare_planted(state: &mut u64, counts: &mut [u64]) -> bool {
+    let checks = [3u16, 2];
+    let shaped = whole_job::shape(whole_job::empty(), 6, &checks);
+    let mut room = [0u16; 12];
+    damage(state, 6, 2, 2, &mut room);
+    let taken = [3u16, 3];
+    let none = [0u16; 0];
+    if agrees(shaped.job, 6, &taken, &room, &none, &none, counts) {
+        return true;
+    }
+    print_frame(b"frames disagree", 6, &checks, &room);
+    false
 }
 
 fn compare_drawn(state: &mut u64, size: Size, base: &[u16], counts: &mut [u64]) -> bool {
@@ -155,6 +170,7 @@ fn compare_drawn(state: &mut u64, size: Size, base: &[u16], counts: &mut [u64]) 
             let rows = draw_from(state, 1, 2);
             compare_random(state, 3, rows, 2, 1, base, counts)
         }
+        Size::Planted => compare_planted(state, counts),
     }
 }
 

@@ -1,5 +1,5 @@
 // Runs encode, locate and repair on random frames against second implementations that share no code with them, prints how often each
-// answer occurred, and the first frame on which two disagree.
+// answer occurred, and the first frame on which two disagree. Then the calls are held to a planted model that is wrong, and must disagree with it.
 mod agreement;
 mod every_frame;
 mod frames;
@@ -37,6 +37,7 @@ fn report(counts: &[u64]) {
     );
     print(b", at half ", counts, tallies::AT_HALF);
     print(b", above half ", counts, tallies::ABOVE_HALF);
+    io::write_all(1, b"\n");
 }
 
 fn main() {
@@ -45,4 +46,7 @@ fn main() {
     let agreed = run(&mut state, &mut counts);
     report(&counts);
     print_end(agreed);
+    io::write_all(1, b"planted: ");
+    let none = [0u16; 0];
+    print_end(frames::random(&mut state, Size::Planted, 100, &none, &mut counts));
 }

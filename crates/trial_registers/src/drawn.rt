@@ -1,6 +1,6 @@
 // Random sequences of several kinds.
 use brute::random::draw;
-use brute::random::fill;
+use brute::random::fill_from;
 use brute::sequences::start;
 use brute::values::before;
 use brute::values::cross;
@@ -43,13 +43,13 @@ fn spoil(state: &mut u64, p: u16, symbols: &mut [u16], n: usize) {
 // Lets every sequence follow a random recurrence of length l.
 fn recur_at_random(state: &mut u64, p: u16, lengths: &[u16], symbols: &mut [u16], l: usize) {
     let mut taps = [0u16; 128];
-    fill(state, p, &mut taps, l);
+    fill_from(state, 0, p, &mut taps, l);
     recur_all(p, lengths, symbols, &taps, l);
 }
 
 // Zeros but for two symbols.
 fn nearly_zero(state: &mut u64, p: u16, symbols: &mut [u16], n: usize) {
-    fill(state, 1, symbols, n);
+    fill_from(state, 0, 1, symbols, n);
     spoil(state, p, symbols, n);
     spoil(state, p, symbols, n);
 }
@@ -69,7 +69,7 @@ pub(crate) fn random_symbols(
         nearly_zero(state, p, symbols, n);
         return;
     }
-    fill(state, p, symbols, n);
+    fill_from(state, 0, p, symbols, n);
     if kind == 0 {
         return;
     }

@@ -17,7 +17,7 @@ fn count(p: u16, lengths: &[u16], symbols: &[u16], l: usize) -> usize {
     0
 }
 
-pub fn shortest_of_all(p: u16, lengths: &[u16], symbols: &[u16]) -> Answer {
+pub(crate) fn shortest_of_all(p: u16, lengths: &[u16], symbols: &[u16]) -> Answer {
     for l in 0..129 {
         let n = count(p, lengths, symbols, l);
         if n != 0 {

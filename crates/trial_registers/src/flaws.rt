@@ -4,7 +4,7 @@ use crate::registers::prime;
 use crate::tallies::REFUSED;
 use brute::random::draw;
 use brute::random::draw_from;
-use brute::random::fill;
+use brute::random::fill_from;
 use brute::sequences::start;
 use brute::tally::count;
 use brute::tally::print_list;
@@ -159,7 +159,7 @@ fn compare_lengths(
 ) -> bool {
     let total = flaw_total(state, has(flaws, 3), whole);
     let mut symbols = [0u16; 1200];
-    fill(state, p, &mut symbols, total);
+    fill_from(state, 0, p, &mut symbols, total);
     flaw_symbols(state, has(flaws, 4), p, &mut symbols, total);
     let room = draw_room(state, has(flaws, 5), greatest(lengths));
     compare(p, lengths, part(&symbols, 0, total), room, counts)
@@ -169,7 +169,7 @@ fn compare_flawed(state: &mut u64, flaws: Flaws, counts: &mut [u64]) -> bool {
     let p = draw_modulus(state, has(flaws, 0));
     let n = draw_count(state, has(flaws, 1));
     let mut room = [0u16; 9];
-    fill(state, 6, &mut room, n as usize);
+    fill_from(state, 0, 6, &mut room, n as usize);
     flaw_lengths(state, has(flaws, 2), &mut room, n);
     let lengths = part(&room, 0, n as usize);
     compare_lengths(state, flaws, p, lengths, start(lengths, n as usize), counts)

@@ -1,5 +1,5 @@
 // Runs the finder against second implementations that share no code with it, prints how often each answer occurred, and the first input
-// on which two disagree.
+// on which two disagree. Then the finder is held to a planted model that is wrong, and must disagree with it.
 mod algorithm4;
 mod drawn;
 mod edges;
@@ -11,6 +11,7 @@ mod tallies;
 
 use brute::tally::print;
 use brute::tally::print_end;
+use registers::Drawn;
 
 // Runs everything up to the first disagreement.
 fn run(state: &mut u64, counts: &mut [u64]) -> bool {
@@ -23,10 +24,10 @@ fn run(state: &mut u64, counts: &mut [u64]) -> bool {
     if !registers::every_pair(3, 4, counts) {
         return false;
     }
-    if !registers::random(state, false, 16000, counts) {
+    if !registers::random(state, Drawn::Short, 16000, counts) {
         return false;
     }
-    if !registers::random(state, true, 400, counts) {
+    if !registers::random(state, Drawn::Long, 400, counts) {
         return false;
     }
     flaws::random(state, 4000, counts)
@@ -42,6 +43,7 @@ fn report(counts: &[u64]) {
         counts,
         tallies::LONGER_FROM_STARTS,
     );
+    io::write_all(1, b"\n");
 }
 
 fn main() {
@@ -50,4 +52,6 @@ fn main() {
     let agreed = run(&mut state, &mut counts);
     report(&counts);
     print_end(agreed);
+    io::write_all(1, b"planted: ");
+    print_end(registers::random(&mut state, Drawn::Planted, 100, &mut counts));
 }

@@ -11,7 +11,7 @@ use brute::counting::advance;
 use brute::eliminate;
 use brute::random::draw;
 use brute::random::draw_from;
-use brute::random::fill;
+use brute::random::fill_from;
 use brute::sequences::start;
 use brute::shortest::Answer;
 use brute::shortest::generates;
@@ -34,11 +34,34 @@ fn proportional(p: u16, a: &[u16], b: &[u16], n: usize) -> bool {
     get(a, 0) == 1
 }
 
+// What the finder is held to: elimination and Algorithm 4; besides, where there are few taps, the trial of them all; or, planted, Algorithm 4
+// with the sequences aligned at their starts, which can miss the shortest register.
+enum Model {
+    Usual,
+    Few,
+    Planted,
+}
+
+fn has_few(model: Model) -> bool {
+    match model {
+        Model::Few => true,
+        _ => false,
+    }
+}
+
+fn at_ends(model: Model) -> bool {
+    match model {
+        Model::Planted => false,
+        _ => true,
+    }
+}
+
 // The answer is that of Algorithm 4, taps included. Counts besides where aligning the sequences at their starts makes the register longer.
 fn follows_algorithm(
     p: u16,
     lengths: &[u16],
     symbols: &[u16],
+    at_ends: bool,
     length: usize,
     taps: &[u16],
     counts: &mut [u64],
@@ -50,12 +73,12 @@ fn follows_algorithm(
     let mut at_starts = algorithm4::rows();
     let longer = length < algorithm4::find(p, falling, &sorted_symbols, false, &mut at_starts);
     count(counts, LONGER_FROM_STARTS, longer);
-    let mut at_ends = algorithm4::rows();
-    if algorithm4::find(p, falling, &sorted_symbols, true, &mut at_ends) != length {
+    let mut rows = algorithm4::rows();
+    if algorithm4::find(p, falling, &sorted_symbols, at_ends, &mut rows) != length {
         return false;
     }
     let n = std::num::wrapping_add_usize(length, 1);
-    proportional(p, taps, algorithm4::taps(&at_ends), n)
+    proportional(p, taps, algorithm4::taps(&rows), n)
 }
 
 // The answer is that of an independent search.
@@ -85,25 +108,25 @@ fn is_shortest(
 }
 
 // The finder's answer is the one that all other ways give.
-fn agrees(p: u16, lengths: &[u16], symbols: &[u16], few: bool, counts: &mut [u64]) -> bool {
+fn agrees(p: u16, lengths: &[u16], symbols: &[u16], model: Model, counts: &mut [u64]) -> bool {
     let mut taps = [0u16; 129];
     let Found::Register { length, alone } = find(p as u32, lengths, symbols, &mut taps) else {
         return false;
     };
     count(counts, ALONE, alone);
     count(counts, NOT_ALONE, !alone);
-    if !is_shortest(p, lengths, symbols, few, length, alone) {
+    if !is_shortest(p, lengths, symbols, has_few(model), length, alone) {
         return false;
     }
     if !generates(p, lengths, symbols, &taps, length) {
         return false;
     }
-    follows_algorithm(p, lengths, symbols, length, &taps, counts)
+    follows_algorithm(p, lengths, symbols, at_ends(model), length, &taps, counts)
 }
 
 // The same, and the sequences are printed where they disagree.
-fn compare(p: u16, lengths: &[u16], symbols: &[u16], few: bool, counts: &mut [u64]) -> bool {
-    if agrees(p, lengths, symbols, few, counts) {
+fn compare(p: u16, lengths: &[u16], symbols: &[u16], model: Model, counts: &mut [u64]) -> bool {
+    if agrees(p, lengths, symbols, model, counts) {
         return true;
     }
     let modulus = [p];
@@ -132,33 +155,47 @@ fn compare_random(
     n: usize,
     bound: u16,
     kind: u16,
+    model: Model,
     counts: &mut [u64],
 ) -> bool {
     let mut lengths = [0u16; 8];
     let mut symbols = [0u16; 1024];
-    fill(state, bound, &mut lengths, n);
+    fill_from(state, 0, bound, &mut lengths, n);
     let total = start(&lengths, n);
     let l = draw(state, 6) as usize;
     let lent = part(&lengths, 0, n);
     random_symbols(state, p, lent, &mut symbols, total, kind, l);
-    compare(p, lent, part(&symbols, 0, total), false, counts)
+    compare(p, lent, part(&symbols, 0, total), model, counts)
 }
 
-// Up to five short sequences of any kind, or up to eight long ones that a short register generates.
-fn compare_drawn(state: &mut u64, long: bool, counts: &mut [u64]) -> bool {
+// What is drawn: up to five short sequences of any kind; up to eight long ones that a short register generates; or three short ones for the
+// planted model.
+pub(crate) enum Drawn {
+    Short,
+    Long,
+    Planted,
+}
+
+fn compare_drawn(state: &mut u64, drawn: Drawn, counts: &mut [u64]) -> bool {
     let p = prime(draw(state, 6));
-    if long {
-        let n = draw_from(state, 1, 8) as usize;
-        return compare_random(state, p, n, 129, 1, counts);
+    match drawn {
+        Drawn::Short => {
+            let n = draw_from(state, 1, 5) as usize;
+            let kind = draw(state, 4);
+            compare_random(state, p, n, 13, kind, Model::Usual, counts)
+        }
+        Drawn::Long => {
+            let n = draw_from(state, 1, 8) as usize;
+            compare_random(state, p, n, 129, 1, Model::Usual, counts)
+        }
+        Drawn::Planted => compare_random(state, p, 3, 7, 1, Model::Planted, counts),
     }
-    let n = draw_from(state, 1, 5) as usize;
-    let kind = draw(state, 4);
-    compare_random(state, p, n, 13, kind, counts)
 }
 
-pub(crate) fn random(state: &mut u64, long: bool, n: usize, counts: &mut [u64]) -> bool {
+// Up to n draws, and up to the first that disagrees.
+pub(crate) fn random(state: &mut u64, drawn: Drawn, n: usize, counts: &mut [u64]) -> bool {
     for _ in 0..n {
-        if !compare_drawn(state, long, counts) {
+        if !compare_drawn(state, drawn, counts) {
             return false;
         }
     }
@@ -171,7 +208,7 @@ fn every_content(p: u16, lengths: &[u16], counts: &mut [u64]) -> bool {
     let mut room = [0u16; 1024];
     let symbols: &mut [u16] = &mut room;
     for _ in 0..4096usize {
-        if !compare(p, lengths, part(symbols, 0, n), true, counts) {
+        if !compare(p, lengths, part(symbols, 0, n), Model::Few, counts) {
             return false;
         }
         if !advance(p, symbols, 0, n) {

@@ -1,16 +1,47 @@
--- `brute::eliminate::clear` is safe and ends: `table` keeps its length. Assumes nothing.
-use Prim.Native.Nat.{_-_}
-use mathlib.Core.Path.{_≡_}
-use lib.ListN.{length}
+-- `brute::eliminate::clear` meets its contract.
+use mathlib.Core.Logic.{_⊎_, inl, inr}
+use Prim.Native.Nat.{_-_, _≤_}
+use native.Mathlib.Omega.{arith}
 use borrow.Author.Needs.{needs}
+use Rattle.brute.proofs.Tables.{cleared-none, cleared-more, cleared-all}
+use Rattle.brute.specs.Equations.{Cleared}
 use Rattle.brute.proofs.eliminate.clear.Statement.{statement}
 use Rattle.brute.proofs.eliminate.clear.Tie as tie
 
 abbrev Inv-loop : tie.InvT-loop
-Inv-loop table₀ n k₀ table k = length table ≡ length table₀
+Inv-loop table₀ n k₀ table k = (1 ≤ k) × ((k ≤ n) ⊎ (k ≤ 1)) × Cleared table₀ table k
 
 abbrev μ-loop : tie.MeasureT-loop
 μ-loop table₀ n k₀ table k = n - k
+
+loop-holds : tie.Need-loop-holds Inv-loop μ-loop
+loop-holds c = (omega arith, inr (omega arith), cleared-none _)
+
+place-requires : tie.Need-place-requires Inv-loop μ-loop
+place-requires c κs = search needs
+
+put-requires : tie.Need-put-requires Inv-loop μ-loop
+put-requires c κs = search needs
+
+add-k : tie.Need-add-k Inv-loop μ-loop
+add-k c = search needs
+
+loop-less : tie.Need-loop-less Inv-loop μ-loop
+loop-less c = search needs
+
+loop-again : tie.Need-loop-again Inv-loop μ-loop
+loop-again c =
+    let at = c .before .before .before .before .before .before in (
+      omega arith,
+      inl (omega arith),
+      cleared-more _ _ (at .loop .inv .2) (at .loop .inv .0) (c .before .before .before .place .ensures) (c .before .before .put .ensures),
+    )
+
+same-length : tie.Need-same-length Inv-loop μ-loop
+same-length c = search needs
+
+returns : tie.Need-returns Inv-loop μ-loop
+returns c = cleared-all _ _ (c .before .loop .inv .2) (omega arith) (c .before .loop .inv .1)
 
 pub clear-spec : {M : Type 1} → statement M
 clear-spec =
@@ -18,11 +49,11 @@ clear-spec =
     (tie.spec
     Inv-loop
     μ-loop
-    (λ c. search needs)
-    (λ c κs. search needs)
-    (λ c κs. search needs)
-    (λ c. search needs)
-    (λ c. search needs)
-    (λ c. search needs)
-    (λ c. search needs)
-    (λ c. search needs))
+    loop-holds
+    place-requires
+    put-requires
+    add-k
+    loop-less
+    loop-again
+    same-length
+    returns)

@@ -1,16 +1,58 @@
--- `brute::locator::mark` is safe and ends: `table` and `named` keep their lengths. Assumes nothing.
-use Prim.Native.Nat.{_-_}
-use mathlib.Core.Path.{_≡_}
+-- `brute::locator::mark` meets its contract.
+use mathlib.Core.Path.{_≡_, refl, _∙_}
+use Prim.Native.Nat.{_-_, _≤_}
+use native.Mathlib.Omega.{arith}
 use lib.ListN.{length}
 use borrow.Author.Needs.{needs}
+use Rattle.brute.proofs.Marks.{marked-none, marked-more, marked-all}
+use Rattle.brute.specs.Frames.{Marked}
 use Rattle.brute.proofs.locator.mark.Statement.{statement}
 use Rattle.brute.proofs.locator.mark.Tie as tie
 
 abbrev Inv-loop : tie.InvT-loop
-Inv-loop table₀ columns n named₀ i₀ table named i = (length table ≡ length table₀) × (length named ≡ length named₀)
+Inv-loop table₀ columns n named₀ i₀ table named i = (i ≤ columns) × Marked named₀ named i × (length table ≡ length table₀)
 
 abbrev μ-loop : tie.MeasureT-loop
 μ-loop table₀ columns n named₀ i₀ table named i = columns - i
+
+loop-holds : tie.Need-loop-holds Inv-loop μ-loop
+loop-holds c = (omega arith, marked-none _, refl)
+
+names-requires : tie.Need-names-requires Inv-loop μ-loop
+names-requires c κs = search needs
+
+cast-put : tie.Need-cast-put Inv-loop μ-loop
+cast-put c = search needs
+
+cast-put-2 : tie.Need-cast-put-2 Inv-loop μ-loop
+cast-put-2 c = search needs
+
+put-requires : tie.Need-put-requires Inv-loop μ-loop
+put-requires c κs = search needs
+
+add-i : tie.Need-add-i Inv-loop μ-loop
+add-i c = search needs
+
+loop-less : tie.Need-loop-less Inv-loop μ-loop
+loop-less c = search needs
+
+loop-again : tie.Need-loop-again Inv-loop μ-loop
+loop-again c =
+    let asked = c .before .before .before .before .before .before in
+    let at = asked .before .before .before in (
+      omega arith,
+      marked-more _ (asked .names .result) (at .loop .inv .1) (c .before .before .put .ensures),
+      asked .names .ensures ∙ at .loop .inv .2,
+    )
+
+same-length : tie.Need-same-length Inv-loop μ-loop
+same-length c = search needs
+
+same-length-2 : tie.Need-same-length-2 Inv-loop μ-loop
+same-length-2 c = search needs
+
+returns : tie.Need-returns Inv-loop μ-loop
+returns c = marked-all _ _ (c .before .loop .inv .1) (c .before .loop .inv .0) (omega arith)
 
 pub mark-spec : {M : Type 1} → statement M
 mark-spec =
@@ -18,14 +60,14 @@ mark-spec =
     (tie.spec
     Inv-loop
     μ-loop
-    (λ c. search needs)
-    (λ c κs. search needs)
-    (λ c. search needs)
-    (λ c. search needs)
-    (λ c κs. search needs)
-    (λ c. search needs)
-    (λ c. search needs)
-    (λ c. search needs)
-    (λ c. search needs)
-    (λ c. search needs)
-    (λ c. search needs))
+    loop-holds
+    names-requires
+    cast-put
+    cast-put-2
+    put-requires
+    add-i
+    loop-less
+    loop-again
+    same-length
+    same-length-2
+    returns)

@@ -1,16 +1,48 @@
--- `brute::locator::pose_root` is safe and ends: `table` keeps its length. Assumes nothing.
-use Prim.Native.Nat.{_-_}
+-- `brute::locator::pose_root` meets its contract.
 use mathlib.Core.Path.{_≡_}
-use lib.ListN.{length}
+use Prim.Native.Nat.{_-_, _%_, _^_, _≤_}
+use native.Mathlib.Omega.{arith}
 use borrow.Author.Needs.{needs}
+use Rattle.brute.proofs.Powers.{power-none, power-more}
+use Rattle.brute.proofs.Writing.{wrote-none, wrote-put, wrote-all}
+use Rattle.brute.specs.Written.{Wrote}
 use Rattle.brute.proofs.locator.pose_root.Statement.{statement}
 use Rattle.brute.proofs.locator.pose_root.Tie as tie
 
 abbrev Inv-loop : tie.InvT-loop
-Inv-loop table₀ y n v₀ k₀ table v k = length table ≡ length table₀
+Inv-loop table₀ y n v₀ k₀ table v k = (k ≤ n) × (v ≡ y ^ k % 257) × Wrote table₀ table 0 k (λ m. y ^ m % 257)
 
 abbrev μ-loop : tie.MeasureT-loop
 μ-loop table₀ y n v₀ k₀ table v k = n - k
+
+loop-holds : tie.Need-loop-holds Inv-loop μ-loop
+loop-holds c = (omega arith, power-none (c .before .args .y), wrote-none _ 0 _)
+
+put-requires : tie.Need-put-requires Inv-loop μ-loop
+put-requires c κs = search needs
+
+times-requires : tie.Need-times-requires Inv-loop μ-loop
+times-requires c κs = search needs
+
+add-k : tie.Need-add-k Inv-loop μ-loop
+add-k c = search needs
+
+loop-less : tie.Need-loop-less Inv-loop μ-loop
+loop-less c = search needs
+
+loop-again : tie.Need-loop-again Inv-loop μ-loop
+loop-again c =
+    let at = c .before .before .before .before .before .before in (
+      omega arith,
+      power-more _ _ (at .loop .inv .1) (c .times .ensures),
+      wrote-put 0 (at .loop .k) _ (at .loop .inv .2) (omega arith) (c .before .before .before .put .ensures) (at .loop .inv .1),
+    )
+
+same-length : tie.Need-same-length Inv-loop μ-loop
+same-length c = search needs
+
+returns : tie.Need-returns Inv-loop μ-loop
+returns c = wrote-all 0 _ _ (c .before .loop .inv .2) (c .before .loop .inv .0) (omega arith)
 
 pub pose-root-spec : {M : Type 1} → statement M
 pose-root-spec =
@@ -18,11 +50,11 @@ pose-root-spec =
     (tie.spec
     Inv-loop
     μ-loop
-    (λ c. search needs)
-    (λ c κs. search needs)
-    (λ c κs. search needs)
-    (λ c. search needs)
-    (λ c. search needs)
-    (λ c. search needs)
-    (λ c. search needs)
-    (λ c. search needs))
+    loop-holds
+    put-requires
+    times-requires
+    add-k
+    loop-less
+    loop-again
+    same-length
+    returns)

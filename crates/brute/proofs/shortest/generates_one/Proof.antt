@@ -1,14 +1,50 @@
--- `brute::shortest::generates_one` is safe and ends. Assumes nothing.
-use Prim.Native.Nat.{_-_}
+-- `brute::shortest::generates_one` meets its contract.
+use mathlib.Core.Path.{_≡_, refl, sym, _∙_}
+use Prim.Native.Nat.{_+_, _-_, _≤_}
+use native.Mathlib.Omega.{arith}
+use lib.ListN.{length}
 use borrow.Author.Needs.{needs}
+use Rattle.brute.proofs.Tests.{each-none, each-more, each-fails, each-holds}
+use Rattle.brute.specs.Plain.{Each, discrepancy}
 use Rattle.brute.proofs.shortest.generates_one.Statement.{statement}
 use Rattle.brute.proofs.shortest.generates_one.Tie as tie
 
 abbrev Inv-loop : tie.InvT-loop
-Inv-loop p s taps l j₀ j-end j = Unit
+Inv-loop p s taps l j₀ j-end j = (j-end ≡ length s) × (l ≤ j) × Each l j (λ k. discrepancy p s taps (l + 1) k ≡ 0)
 
 abbrev μ-loop : tie.MeasureT-loop
 μ-loop p s taps l j₀ j-end j = j-end - j
+
+returns : tie.Need-returns Inv-loop μ-loop
+returns c = each-holds _ _ _ (c .before .before .before .args .l) (omega arith) (each-none _ _)
+
+loop-holds : tie.Need-loop-holds Inv-loop μ-loop
+loop-holds c = (refl, omega arith, each-none _ _)
+
+add-discrepancy : tie.Need-add-discrepancy Inv-loop μ-loop
+add-discrepancy c = search needs
+
+discrepancy-requires : tie.Need-discrepancy-requires Inv-loop μ-loop
+discrepancy-requires c κs = search needs
+
+returns-2 : tie.Need-returns-2 Inv-loop μ-loop
+returns-2 c =
+    let at = c .before .before .before in
+    each-fails _ _ _ (at .loop .j) (at .loop .inv .1) (omega arith) (λ e. c .if2 .taken (c .before .discrepancy .ensures ∙ e))
+
+add-j : tie.Need-add-j Inv-loop μ-loop
+add-j c = search needs
+
+loop-less : tie.Need-loop-less Inv-loop μ-loop
+loop-less c = search needs
+
+loop-again : tie.Need-loop-again Inv-loop μ-loop
+loop-again c =
+    let at = c .before .before .before in
+    (refl, omega arith, each-more _ _ _ (at .loop .inv .2) (sym (c .before .discrepancy .ensures) ∙ c .if2 .left))
+
+returns-3 : tie.Need-returns-3 Inv-loop μ-loop
+returns-3 c = each-holds _ _ _ _ (omega arith) (c .before .loop .inv .2)
 
 pub generates-one-spec : {M : Type 1} → statement M
 generates-one-spec =
@@ -16,12 +52,12 @@ generates-one-spec =
     (tie.spec
     Inv-loop
     μ-loop
-    (λ c. search needs)
-    (λ c. search needs)
-    (λ c. search needs)
-    (λ c κs. search needs)
-    (λ c. search needs)
-    (λ c. search needs)
-    (λ c. search needs)
-    (λ c. search needs)
-    (λ c. search needs))
+    returns
+    loop-holds
+    add-discrepancy
+    discrepancy-requires
+    returns-2
+    add-j
+    loop-less
+    loop-again
+    returns-3)

@@ -1,13 +1,15 @@
--- `brute::values::remainder` meets its contract: what is left modulo p is below p, and so fits 16 bits. Assumes nothing.
+-- `brute::values::remainder` meets its contract: what is left modulo p is below p, and so fits 16 bits.
+use mathlib.Core.Path.{sym}
 use Prim.Native.Nat.{_<_}
 use native.Mathlib.Nat.{mod-lt}
 use native.Mathlib.Omega.{arith}
 use borrow.Author.Needs.{needs}
+use Rattle.brute.proofs.Remainders.{rem-zero, rem-positive}
 use Rattle.brute.proofs.values.remainder.Statement.{statement}
 use Rattle.brute.proofs.values.remainder.Tie as tie
 
 returns : tie.Need-returns
-returns c = search needs
+returns c = rw (c .if1 .taken) (sym (rem-zero _))
 
 rem-result : tie.Need-rem-result
 rem-result c = search needs
@@ -19,7 +21,7 @@ cast-result c =
     omega (arith, mod-lt (args .x) positive)
 
 returns-2 : tie.Need-returns-2
-returns-2 c = search needs
+returns-2 c = rem-positive _ _ (omega (arith, c .if1 .left))
 
 pub remainder-spec : {M : Type 1} → statement M
 remainder-spec = tie.close (tie.spec returns rem-result cast-result returns-2)

@@ -7,10 +7,10 @@ use Rattle.trial_calls.proofs.call_lists.list.Statement.{statement}
 use Rattle.trial_calls.proofs.call_lists.list.Tie as tie
 
 abbrev Inv-loop : tie.InvT-loop
-Inv-loop state₀ n counts₀ room₀ pair₀ counter₀ state counts room pair counter = (length counts ≡ length counts₀) × (length room ≡ length room₀)
+Inv-loop state₀ planted n counts₀ room₀ pair₀ counter₀ state counts room pair counter = (length counts ≡ length counts₀) × (length room ≡ length room₀)
 
 abbrev μ-loop : tie.MeasureT-loop
-μ-loop state₀ n counts₀ room₀ pair₀ counter₀ state counts room pair counter = n - counter
+μ-loop state₀ planted n counts₀ room₀ pair₀ counter₀ state counts room pair counter = n - counter
 
 pub list-spec : {M : Type 1} → statement M
 list-spec =

@@ -7,10 +7,10 @@ use Rattle.trial_calls.proofs.call_lists.random.Statement.{statement}
 use Rattle.trial_calls.proofs.call_lists.random.Tie as tie
 
 abbrev Inv-loop : tie.InvT-loop
-Inv-loop state₀ lists counts₀ counter₀ state counts counter = length counts ≡ length counts₀
+Inv-loop state₀ planted lists counts₀ counter₀ state counts counter = length counts ≡ length counts₀
 
 abbrev μ-loop : tie.MeasureT-loop
-μ-loop state₀ lists counts₀ counter₀ state counts counter = lists - counter
+μ-loop state₀ planted lists counts₀ counter₀ state counts counter = lists - counter
 
 pub random-spec : {M : Type 1} → statement M
 random-spec =

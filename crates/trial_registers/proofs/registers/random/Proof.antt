@@ -7,10 +7,10 @@ use Rattle.trial_registers.proofs.registers.random.Statement.{statement
 use Rattle.trial_registers.proofs.registers.random.Tie as tie
 
 abbrev Inv-loop : tie.InvT-loop
-Inv-loop state₀ long n counts₀ counter₀ state counts counter = length counts ≡ length counts₀
+Inv-loop state₀ drawn n counts₀ counter₀ state counts counter = length counts ≡ length counts₀
 
 abbrev μ-loop : tie.MeasureT-loop
-μ-loop state₀ long n counts₀ counter₀ state counts counter = n - counter
+μ-loop state₀ drawn n counts₀ counter₀ state counts counter = n - counter
 
 pub random-spec : {M : Type 1} → statement M
 random-spec =
