@@ -1,4 +1,4 @@
-// Calls on a job in each of its states at the edges of document 01: what is just taken and what is just refused, which of two reasons comes
+// Calls on a job in each of its states at the edges (SPECIFICATION.md, "Examples"): what is just taken and what is just refused, which of two reasons comes
 // first, and the state that is left. Frames have n symbols, the first k of which are v, and the others 0.
 use crate::tallies::EDGES;
 use brute::answers::of_checked;

@@ -1,5 +1,5 @@
-// Algorithm 4 of document 003 without division, so that taps are known up to a factor. With the sequences aligned at their starts it can
-// miss the shortest register, as document 003 shows of the Feng–Tzeng algorithm.
+// Algorithm 4 of Schmidt and Sidorenko without division, so that taps are known up to a factor. With the sequences aligned at their starts it can
+// miss the shortest register, as they show of the Feng–Tzeng algorithm.
 use brute::sequences::discrepancy;
 use brute::sequences::sequence;
 use brute::values::cross;

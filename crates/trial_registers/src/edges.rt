@@ -1,4 +1,4 @@
-// The finder at the edges of document 01: what is just taken and what is just refused, and which of two reasons to refuse comes first.
+// The finder at the edges (SPECIFICATION.md, "Examples"): what is just taken and what is just refused, and which of two reasons to refuse comes first.
 use crate::tallies::EDGES;
 use brute::tally::count;
 use brute::tally::print_list;

@@ -1,4 +1,4 @@
-// The finder on random input with up to two flaws, against the reasons to refuse that document 01 gives, in its order.
+// The finder on random input with up to two flaws, against the reasons to refuse (SPECIFICATION.md, "Refusals"), in their order.
 use crate::edges::find_in;
 use crate::registers::prime;
 use crate::tallies::REFUSED;

@@ -1,4 +1,4 @@
--- `brute::damage::number` is safe and ends: `order` keeps its length. Assumes nothing.
+-- `brute::damage::number` is safe and ends: `order` keeps its length.
 use Prim.Native.Nat.{_-_}
 use mathlib.Core.Path.{_≡_}
 use lib.ListN.{length}

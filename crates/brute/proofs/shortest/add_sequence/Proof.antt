@@ -1,4 +1,4 @@
--- `brute::shortest::add_sequence` is safe and ends: `table` keeps its length. Assumes nothing.
+-- `brute::shortest::add_sequence` is safe and ends: `table` keeps its length.
 use Prim.Native.Nat.{_-_}
 use mathlib.Core.Path.{_≡_}
 use lib.ListN.{length}

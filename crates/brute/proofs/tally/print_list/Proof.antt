@@ -1,4 +1,4 @@
--- `brute::tally::print_list` is safe and ends. Assumes nothing.
+-- `brute::tally::print_list` is safe and ends.
 use Prim.Native.Nat.{_-_}
 use borrow.Author.Needs.{needs}
 use Rattle.brute.proofs.tally.print_list.Statement.{statement}

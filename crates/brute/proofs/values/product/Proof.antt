@@ -1,4 +1,4 @@
--- `brute::values::product` meets its contract. Assumes nothing.
+-- `brute::values::product` meets its contract.
 use Prim.Native.Nat.{_≤_}
 use native.Mathlib.Nat.{mul-le-mul}
 use native.Mathlib.Omega.{arith}

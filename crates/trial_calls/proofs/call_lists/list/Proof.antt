@@ -1,4 +1,4 @@
--- `trial_calls::call_lists::list` is safe and ends: `counts` and `room` keep their lengths. Assumes nothing.
+-- `trial_calls::call_lists::list` is safe and ends: `counts` and `room` keep their lengths.
 use Prim.Native.Nat.{_-_}
 use mathlib.Core.Path.{_≡_}
 use lib.ListN.{length}

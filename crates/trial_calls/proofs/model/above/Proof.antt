@@ -1,4 +1,4 @@
--- `trial_calls::model::above` is safe and ends. Assumes nothing.
+-- `trial_calls::model::above` is safe and ends.
 use Prim.Native.Nat.{_-_}
 use borrow.Author.Needs.{needs}
 use Rattle.trial_calls.proofs.model.above.Statement.{statement}

@@ -1,4 +1,4 @@
--- `trial_calls::model::data_above` is safe and ends. Assumes nothing.
+-- `trial_calls::model::data_above` is safe and ends.
 use Prim.Native.Nat.{_-_}
 use borrow.Author.Needs.{needs}
 use Rattle.trial_calls.proofs.model.data_above.Statement.{statement}

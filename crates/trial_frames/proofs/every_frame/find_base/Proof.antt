@@ -1,4 +1,4 @@
--- `trial_frames::every_frame::find_base` is safe and ends: `base` keeps its length. Assumes nothing.
+-- `trial_frames::every_frame::find_base` is safe and ends: `base` keeps its length.
 use Prim.Native.Nat.{_-_}
 use mathlib.Core.Path.{_≡_}
 use lib.ListN.{length}

@@ -1,4 +1,4 @@
--- `trial_frames::every_frame::frames_within` is safe and ends. Assumes nothing.
+-- `trial_frames::every_frame::frames_within` is safe and ends.
 use Prim.Native.Nat.{_-_}
 use borrow.Author.Needs.{needs}
 use Rattle.trial_frames.proofs.every_frame.frames_within.Statement.{statement}

@@ -1,4 +1,4 @@
--- `trial_frames::subsets::explain` is safe and ends: `table` keeps its length. Assumes nothing.
+-- `trial_frames::subsets::explain` is safe and ends: `table` keeps its length.
 use Prim.Native.Nat.{_-_}
 use mathlib.Core.Path.{_≡_}
 use lib.ListN.{length}

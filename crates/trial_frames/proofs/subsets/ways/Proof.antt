@@ -1,4 +1,4 @@
--- `trial_frames::subsets::ways` is safe and ends: `marks` keeps its length. Assumes nothing.
+-- `trial_frames::subsets::ways` is safe and ends: `marks` keeps its length.
 use Prim.Native.Nat.{_-_}
 use mathlib.Core.Path.{_≡_}
 use lib.ListN.{length}

@@ -1,4 +1,4 @@
--- `trial_registers::algorithm4::reduce` is safe and ends: `rows` keeps its length. Assumes nothing.
+-- `trial_registers::algorithm4::reduce` is safe and ends: `rows` keeps its length.
 use Prim.Native.Nat.{_-_}
 use mathlib.Core.Path.{_≡_}
 use lib.ListN.{length}

@@ -1,4 +1,4 @@
--- `trial_registers::edges::all_seven` is safe and ends. Assumes nothing.
+-- `trial_registers::edges::all_seven` is safe and ends.
 use Prim.Native.Nat.{_-_}
 use borrow.Author.Needs.{needs}
 use Rattle.trial_registers.proofs.edges.all_seven.Statement.{statement}
@@ -13,4 +13,5 @@ abbrev μ-loop : tie.MeasureT-loop
 pub all-seven-spec : {M : Type 1} → statement M
 all-seven-spec =
     tie.close
-    (tie.spec Inv-loop μ-loop (λ c. search needs) (λ c κs. search needs) (λ c. search needs) (λ c. search needs) (λ c. search needs) (λ c. search needs) (λ c. search needs))
+    (tie.spec Inv-loop μ-loop (λ c. search needs) (λ c κs. search needs) (λ c. search needs) (λ c. search needs) (λ c. search needs) (λ c. search needs)
+    (λ c. search needs))

@@ -1,4 +1,4 @@
--- `trial_registers::every_tap::count` is safe and ends: `taps` keeps its length. Assumes nothing.
+-- `trial_registers::every_tap::count` is safe and ends: `taps` keeps its length.
 use Prim.Native.Nat.{_-_}
 use mathlib.Core.Path.{_≡_}
 use lib.ListN.{length}

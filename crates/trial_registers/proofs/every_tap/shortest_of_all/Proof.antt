@@ -1,4 +1,4 @@
--- `trial_registers::every_tap::shortest_of_all` is safe and ends. Assumes nothing.
+-- `trial_registers::every_tap::shortest_of_all` is safe and ends.
 use Prim.Native.Nat.{_-_}
 use borrow.Author.Needs.{needs}
 use Rattle.trial_registers.proofs.every_tap.shortest_of_all.Statement.{statement}

@@ -1,4 +1,4 @@
--- `trial_registers::flaws::random` is safe and ends: `counts` keeps its length. Assumes nothing.
+-- `trial_registers::flaws::random` is safe and ends: `counts` keeps its length.
 use Prim.Native.Nat.{_-_}
 use mathlib.Core.Path.{_≡_}
 use lib.ListN.{length}

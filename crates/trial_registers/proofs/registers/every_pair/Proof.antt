@@ -1,4 +1,4 @@
--- `trial_registers::registers::every_pair` is safe and ends: `counts` and `lengths` keep their lengths. Assumes nothing.
+-- `trial_registers::registers::every_pair` is safe and ends: `counts` and `lengths` keep their lengths.
 use Prim.Native.Nat.{_-_}
 use mathlib.Core.Path.{_≡_}
 use lib.ListN.{length}
