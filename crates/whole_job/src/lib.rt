@@ -4,6 +4,12 @@ use columns::Columns;
 use job::Head;
 use job::Reply;
 use refusal::Checked;
+ghost use mathlib.Core.Path.{_≡_};
+ghost use lib.ListN.{replicate};
+ghost use Rattle.job.specs.Answers.{shapeOutcome, encodeOutcome, answeredOutcome};
+ghost use Rattle.job.specs.Calls.{step, shape, encode, locate, repair};
+ghost use Rattle.job.specs.Job.{Arrays, beside, emptyHead};
+ghost use Rattle.whole_job.specs.Whole.{arraysOf, jobOf, reshapedOf, answeredOf};
 
 pub struct Job {
     pub head: Head,
@@ -25,14 +31,18 @@ pub struct Answered {
 }
 
 // An empty job with arrays of zeros.
-pub fn empty() -> Job {
+pub fn empty() -> Job
+    ensures { λ r. ⌜ r ≡ record { head = emptyHead; sums = replicate 512 0; taps = replicate 65 0 } ⌝ }
+{
     let head = calls::states::empty();
     let sums = [0u16; 512];
     let taps = [0u16; 65];
     Job { head, sums, taps }
 }
 
-pub fn shape(j: Job, columns: usize, checks: &[u16]) -> Reshaped {
+pub fn shape(j: Job, columns: usize, checks: &[u16]) -> Reshaped
+    ensures { λ r. ⌜ shapeOutcome (reshapedOf r) (arraysOf (r .job)) ≡ step (jobOf j) (shape columns (now (checks .entry))) ⌝ }
+{
     let answer = calls::shape::shape(j.head, columns, checks);
     let checked = answer.checked;
     let head = answer.head;
@@ -43,11 +53,15 @@ pub fn shape(j: Job, columns: usize, checks: &[u16]) -> Reshaped {
 }
 
 // Whether it refuses. The job is kept.
-pub fn encode(j: Job, frame: &mut [u16]) -> Checked {
+pub fn encode(j: Job, frame: &mut [u16]) -> Checked
+    ensures { λ r. ⌜ encodeOutcome (jobOf j) r (now (frame .exit)) ≡ step (jobOf j) (encode (now (frame .entry))) ⌝ }
+{
     calls::encode::encode(j.head, frame)
 }
 
-pub fn locate(j: Job, frame: &[u16]) -> Answered {
+pub fn locate(j: Job, frame: &[u16]) -> Answered
+    ensures { λ r. ⌜ answeredOutcome (answeredOf r) (arraysOf (r .job)) (now (frame .entry)) ≡ step (jobOf j) (locate (now (frame .entry))) ⌝ }
+{
     let mut sums = j.sums;
     let mut taps = j.taps;
     let answer = calls::locate::locate(j.head, &mut sums, &mut taps, frame);
@@ -62,7 +76,9 @@ pub fn locate(j: Job, frame: &[u16]) -> Answered {
     }
 }
 
-pub fn repair(j: Job, frame: &mut [u16]) -> Answered {
+pub fn repair(j: Job, frame: &mut [u16]) -> Answered
+    ensures { λ r. ⌜ answeredOutcome (answeredOf r) (arraysOf (r .job)) (now (frame .exit)) ≡ step (jobOf j) (repair (now (frame .entry))) ⌝ }
+{
     let sums = j.sums;
     let taps = j.taps;
     let answer = calls::repair::repair(j.head, &sums, frame);

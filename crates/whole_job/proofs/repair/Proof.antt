@@ -1,0 +1,17 @@
+-- `whole_job::repair` meets its contract.
+use Rattle.whole_job.specs.Whole.{arraysOf}
+use borrow.Author.Needs.{needs}
+use Rattle.whole_job.proofs.repair.Statement.{statement}
+use Rattle.whole_job.proofs.repair.Tie as tie
+
+repair-requires : tie.Need-repair-requires
+repair-requires c κs = search needs
+
+same-length : tie.Need-same-length
+same-length c = search needs
+
+returns : tie.Need-returns
+returns c = c .before .before .before .before .repair .ensures (arraysOf (c .before .before .before .before .before .before .before .before .before .before .args .j))
+
+pub repair-spec : {M : Type 1} → statement M
+repair-spec = tie.close (tie.spec repair-requires same-length returns)
