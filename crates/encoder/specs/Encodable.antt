@@ -10,7 +10,7 @@ use Rattle.frame.specs.Shape.{isShape}
 use Rattle.frame.specs.declared.Shape.{Shape}
 
 -- the cells are divided by the generator polynomial of m checks
-pub record Divisible (cells generator : List ℕ) (m : ℕ) : Type 0 where
+pub record Dividend (cells generator : List ℕ) (m : ℕ) : Type 0 where
   pub divisor : GeneratorPolynomial m generator
   pub reach : m ≤ length cells
   pub narrow : length cells ≤ 256

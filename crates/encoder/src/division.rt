@@ -9,7 +9,7 @@ ghost use Prim.Native.Nat.{ℕ, suc, _-_, _%_, _≤_, _<_};
 ghost use lib.Dec.{ltb};
 ghost use lib.ListN.{length, getD};
 ghost use Rattle.columns.specs.Columns.{columnsOf};
-ghost use Rattle.encoder.specs.Encodable.{Divisible, EncodableRow};
+ghost use Rattle.encoder.specs.Encodable.{Dividend, EncodableRow};
 ghost use Rattle.frame.specs.Completion.{completed};
 ghost use Rattle.frame.specs.Frame.{checkSum};
 ghost use Rattle.lists.specs.Tabulate.{tabulate};
@@ -31,7 +31,7 @@ fn data_cells(row: &[u16], m: usize) -> [u32; 256]
 // What is left in the first m cells has the check sums of all cells at entry. Cells are not reduced: 256 products of 256 and
 // 256 fit beside a symbol.
 fn divide(cells: &mut [u32], generator: &[u16], m: usize)
-    requires { ⌜ Divisible (now cells) (now generator) m ⌝ }
+    requires { ⌜ Dividend (now cells) (now generator) m ⌝ }
     ensures { λ r. ⌜
         ((j : ℕ) → j < m → checkSum m (now (cells .exit)) (suc j) ≡ checkSum (length (now (cells .entry))) (now (cells .entry)) (suc j))
         ⌝ }
