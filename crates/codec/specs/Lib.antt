@@ -1,1 +1,2 @@
+pub mod Foldable
 pub mod Folded

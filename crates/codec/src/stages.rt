@@ -6,6 +6,7 @@ ghost use mathlib.Core.Path.{_≡_};
 ghost use Prim.Native.Nat.{ℕ, suc, _+_, _*_, _%_, _≤_, _<_};
 ghost use lib.ListN.{length, getD, take, drop};
 ghost use Rattle.lists.specs.Tabulate.{tabulate};
+ghost use Rattle.codec.specs.Foldable.{Foldable, FoldableInto};
 ghost use Rattle.codec.specs.Folded.{gathered, folded};
 ghost use Rattle.field257.specs.Table.{table};
 ghost use Rattle.frame.specs.Frame.{checkSums};
@@ -40,7 +41,7 @@ pub fn add_multiple(cells: &mut [u32], x: &[u16], w: u16)
 
 // The columns of the row folded for check sum j, not reduced: 16 products of 65535 and 256 fit each.
 fn gather(powers: &[u16; 256], x: &[u16], blocks: usize, j: usize) -> [u32; 16]
-    requires { ⌜ (now powers ≡ table) × (16 * blocks ≤ length (now x)) × (blocks ≤ 16) × (j ≤ 16) ⌝ }
+    requires { ⌜ Foldable (now powers) (now x) blocks j ⌝ }
     ensures { λ r. ⌜ r ≡ tabulate 16 (gathered blocks (now (x .entry)) j) ⌝ }
 {
     let mut cells = [0u32; 16];
@@ -56,7 +57,7 @@ fn gather(powers: &[u16; 256], x: &[u16], blocks: usize, j: usize) -> [u32; 16]
 
 // The row folded for check sum j.
 fn fold(powers: &[u16; 256], x: &[u16], blocks: usize, j: usize, y: &mut [u16])
-    requires { ⌜ (now powers ≡ table) × (16 * blocks ≤ length (now x)) × (blocks ≤ 16) × (j ≤ 16) × (length (now y) ≡ 16) ⌝ }
+    requires { ⌜ FoldableInto (now powers) (now x) blocks j (now y) ⌝ }
     ensures { λ r. ⌜ now (y .exit) ≡ folded blocks (now (x .entry)) j ⌝ }
 {
     let cells = gather(powers, x, blocks, j);
@@ -69,7 +70,7 @@ fn fold(powers: &[u16; 256], x: &[u16], blocks: usize, j: usize, y: &mut [u16])
 
 // The row folded for each of the first check sums, one after the other.
 fn fold_each(powers: &[u16; 256], x: &[u16], blocks: usize, ways: usize) -> [u16; 256]
-    requires { ⌜ (now powers ≡ table) × (16 * blocks ≤ length (now x)) × (blocks ≤ 16) × (ways ≤ 16) ⌝ }
+    requires { ⌜ Foldable (now powers) (now x) blocks ways ⌝ }
     ensures { λ r. ⌜ ((k : ℕ) → k < ways → take 16 (drop (16 * k) r) ≡ folded blocks (now (x .entry)) (suc k)) ⌝ }
 {
     let mut rows = [0u16; 256];

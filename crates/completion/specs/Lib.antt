@@ -1,1 +1,2 @@
+pub mod Mendable
 pub mod Mending

@@ -10,23 +10,14 @@ use field257::powers::wide;
 use frame::Shape;
 use weights::weigh;
 ghost use mathlib.Core.Path.{_≡_};
-ghost use mathlib.Core.Bool.{true};
-ghost use Prim.Native.Nat.{ℕ, _*_, _≤_, _<_};
-ghost use lib.ListN.{length, getD};
-ghost use Rattle.columns.specs.Columns.{has, members};
+ghost use Rattle.completion.specs.Mendable.{MendableColumn, MendableFrame};
 ghost use Rattle.completion.specs.Mending.{mendedColumn};
 ghost use Rattle.frame.specs.Completion.{completed};
 ghost use Rattle.frame.specs.Encode.{eachRow};
-ghost use Rattle.frame.specs.Frame.{heldSums};
-ghost use Rattle.frame.specs.Shape.{checksOf, isShape};
 
 // Column i mended in every row, with the coefficients of the column. Each row is lent on as its own part of the frame.
 fn mend_column(s: Shape, frame: &mut [u16], i: usize, coefficients: &[u16], sums: &[u16])
-    requires { ⌜
-        (isShape s ≡ true) × (length (now frame) ≡ s .rows * s .columns) × (i < s .columns)
-        × ((h : ℕ) → h < s .rows → length (now coefficients) ≤ checksOf s h)
-        × (length (now sums) ≡ 512) × ((k : ℕ) → getD (now sums) k 0 < 257)
-        ⌝ }
+    requires { ⌜ MendableColumn s (now frame) i (now coefficients) (now sums) ⌝ }
     ensures { λ r. ⌜ now (frame .exit) ≡ mendedColumn s (now (coefficients .entry)) (now (sums .entry)) i (now (frame .entry)) ⌝ }
 {
     let rows = s.rows;
@@ -45,11 +36,7 @@ fn mend_column(s: Shape, frame: &mut [u16], i: usize, coefficients: &[u16], sums
 
 // The frame with each row completed at the set, given the check sums that it has. A row alone shares with no other.
 pub fn mend(s: Shape, set: Columns, sums: &[u16], frame: &mut [u16])
-    requires { ⌜
-        (isShape s ≡ true) × (length (now frame) ≡ s .rows * s .columns)
-        × ((k : ℕ) → k < length (now frame) → getD (now frame) k 0 < 257) × (now sums ≡ heldSums s (now frame))
-        × ((i : ℕ) → has set i ≡ true → i < s .columns) × ((h : ℕ) → h < s .rows → length (members set) ≤ checksOf s h)
-        ⌝ }
+    requires { ⌜ MendableFrame s set (now sums) (now frame) ⌝ }
     ensures { λ r. ⌜ now (frame .exit) ≡ eachRow (s .columns) (λ h. completed (s .columns) set) (s .rows) (now (frame .entry)) ⌝ }
 {
     if s.rows == 1 {

@@ -10,19 +10,15 @@ use field257::powers::wide;
 use field257::values::times;
 use weights::weigh;
 ghost use mathlib.Core.Path.{_≡_};
-ghost use mathlib.Core.Bool.{true};
-ghost use Prim.Native.Nat.{ℕ, _+_, _%_, _≤_, _<_};
-ghost use lib.ListN.{length, getD};
-ghost use Rattle.columns.specs.Columns.{has, members};
+ghost use Prim.Native.Nat.{_+_, _%_};
+ghost use lib.ListN.{length};
+ghost use Rattle.completion.specs.Mendable.{Readable, MendableCell, MendableRow};
 ghost use Rattle.completion.specs.Mending.{mendedCell, symbolRead};
 ghost use Rattle.frame.specs.Completion.{completed};
-ghost use Rattle.frame.specs.Frame.{checkSums};
 
 // The coefficients times the sums, the last sum first. 64 products of 65535 and 256 fit the sum, so that it is reduced once.
 fn read_off(coefficients: &[u16], sums: &[u16]) -> u16
-    requires { ⌜
-        (length (now coefficients) ≤ 64) × (length (now coefficients) ≤ length (now sums)) × ((k : ℕ) → getD (now sums) k 0 < 257)
-        ⌝ }
+    requires { ⌜ Readable (now coefficients) (now sums) ⌝ }
     ensures { λ r. ⌜ r ≡ symbolRead (now (coefficients .entry)) (now (sums .entry)) ⌝ }
 {
     let m = coefficients.len();
@@ -44,10 +40,7 @@ fn plus(cell: u16, symbol: u16) -> u16
 
 // The row with its symbol at column i mended.
 pub fn mend_cell(row: &mut [u16], i: usize, coefficients: &[u16], sums: &[u16])
-    requires { ⌜
-        (i < length (now row)) × (length (now coefficients) ≤ 64) × (length (now coefficients) ≤ length (now sums))
-        × ((k : ℕ) → getD (now sums) k 0 < 257)
-        ⌝ }
+    requires { ⌜ MendableCell (now row) i (now coefficients) (now sums) ⌝ }
     ensures { λ r. ⌜
         now (row .exit) ≡ mendedCell (length (now (row .entry))) (now (coefficients .entry)) (now (sums .entry)) i (now (row .entry))
         ⌝ }
@@ -58,11 +51,7 @@ pub fn mend_cell(row: &mut [u16], i: usize, coefficients: &[u16], sums: &[u16])
 
 // The row completed at the set, given the check sums that it has.
 pub fn mend_row(set: Columns, sums: &[u16], row: &mut [u16])
-    requires { ⌜
-        (length (now row) ≤ 256) × ((k : ℕ) → k < length (now row) → getD (now row) k 0 < 257) × (length (now sums) ≤ 64)
-        × (now sums ≡ checkSums (length (now row)) (length (now sums)) (now row))
-        × ((i : ℕ) → has set i ≡ true → i < length (now row)) × (length (members set) ≤ length (now sums))
-        ⌝ }
+    requires { ⌜ MendableRow set (now sums) (now row) ⌝ }
     ensures { λ r. ⌜ now (row .exit) ≡ completed (length (now (row .entry))) set (now (row .entry)) ⌝ }
 {
     let powers = powers();

@@ -1,1 +1,2 @@
+pub mod Encodable
 pub mod GeneratorPolynomial

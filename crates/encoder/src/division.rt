@@ -9,7 +9,7 @@ ghost use Prim.Native.Nat.{ℕ, suc, _-_, _%_, _≤_, _<_};
 ghost use lib.Dec.{ltb};
 ghost use lib.ListN.{length, getD};
 ghost use Rattle.columns.specs.Columns.{columnsOf};
-ghost use Rattle.encoder.specs.GeneratorPolynomial.{GeneratorPolynomial};
+ghost use Rattle.encoder.specs.Encodable.{Dividend, EncodableRow};
 ghost use Rattle.frame.specs.Completion.{completed};
 ghost use Rattle.frame.specs.Frame.{checkSum};
 ghost use Rattle.lists.specs.Tabulate.{tabulate};
@@ -31,9 +31,7 @@ fn data_cells(row: &[u16], m: usize) -> [u32; 256]
 // What is left in the first m cells has the check sums of all cells at entry. Cells are not reduced: 256 products of 256 and
 // 256 fit beside a symbol.
 fn divide(cells: &mut [u32], generator: &[u16], m: usize)
-    requires { ⌜
-        GeneratorPolynomial m (now generator) × (m ≤ length (now cells)) × (length (now cells) ≤ 256) × ((k : ℕ) → getD (now cells) k 0 < 65536)
-        ⌝ }
+    requires { ⌜ Dividend (now cells) (now generator) m ⌝ }
     ensures { λ r. ⌜
         ((j : ℕ) → j < m → checkSum m (now (cells .exit)) (suc j) ≡ checkSum (length (now (cells .entry))) (now (cells .entry)) (suc j))
         ⌝ }
@@ -64,10 +62,7 @@ fn put_negatives(row: &mut [u16], cells: &[u32], m: usize)
 
 // The row completed at its first m columns, whose generator polynomial is lent.
 pub fn encode_row(generator: &[u16], m: usize, row: &mut [u16])
-    requires { ⌜
-        GeneratorPolynomial m (now generator) × (m ≤ length (now row)) × (length (now row) ≤ 256)
-        × ((i : ℕ) → m ≤ i → i < length (now row) → getD (now row) i 0 < 257)
-        ⌝ }
+    requires { ⌜ EncodableRow (now generator) m (now row) ⌝ }
     ensures { λ r. ⌜ now (row .exit) ≡ completed (length (now (row .entry))) (columnsOf (λ i. ltb i m)) (now (row .entry)) ⌝ }
 {
     let n = row.len();

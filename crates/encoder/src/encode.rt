@@ -8,10 +8,10 @@ use refusal::Refusal;
 use shapes::symbols::data_below;
 ghost use mathlib.Core.Path.{_≡_};
 ghost use mathlib.Core.Bool.{true};
-ghost use Prim.Native.Nat.{_*_, _≤_};
-ghost use lib.ListN.{length};
+ghost use Prim.Native.Nat.{_≤_};
+ghost use Rattle.encoder.specs.Encodable.{EncodableFrame};
 ghost use Rattle.encoder.specs.GeneratorPolynomial.{GeneratorPolynomial};
-ghost use Rattle.frame.specs.Encode.{dataBelow, encoded, encodeTests};
+ghost use Rattle.frame.specs.Encode.{encoded, encodeTests};
 ghost use Rattle.frame.specs.Shape.{isShape};
 ghost use Rattle.refusal.specs.Order.{firstOf};
 ghost use Rattle.refusal.specs.Outcome.{outcome, outcomeOf};
@@ -29,7 +29,7 @@ fn generator_for(held: [u16; 65], count: usize, checks: usize) -> [u16; 65]
 
 // The check cells filled from the data cells, row after row.
 fn fill_checks(s: Shape, frame: &mut [u16])
-    requires { ⌜ (isShape s ≡ true) × (length (now frame) ≡ s .rows * s .columns) × (dataBelow s (now frame) ≡ true) ⌝ }
+    requires { ⌜ EncodableFrame s (now frame) ⌝ }
     ensures { λ r. ⌜ now (frame .exit) ≡ encoded s (now (frame .entry)) ⌝ }
 {
     let rows = s.rows;

@@ -1,7 +1,8 @@
 // Remainders by a fixed p with one division for all of them (Barrett), of 32-bit numbers and of sums of up to 129 products of residues. That a result
 // is below p follows from what it equals; it is said besides, for the callers.
 ghost use mathlib.Core.Path.{_≡_};
-ghost use Prim.Native.Nat.{_*_, _/_, _%_, _≤_, _<_};
+ghost use Prim.Native.Nat.{_/_, _%_, _<_};
+ghost use Rattle.field.specs.WideDividend.{WideDividend};
 
 pub fn reciprocal(p: u32) -> u64
     requires { ⌜ 0 < p ⌝ }
@@ -33,7 +34,7 @@ pub fn wide_reciprocal(p: u32) -> u64
 
 // With v up to 129·p², v is below 2^40 and m·v below 2^64.
 pub fn wide_remainder(v: u64, p: u32, m: u64) -> u32
-    requires { ⌜ (0 < p) × (p ≤ 65521) × (v ≤ 129 * (p * p)) × (m ≡ 1099511627776 / p) ⌝ }
+    requires { ⌜ WideDividend v p m ⌝ }
     ensures equals { λ r. ⌜ r ≡ v % p ⌝ }
     ensures below { λ r. ⌜ r < p ⌝ }
 {

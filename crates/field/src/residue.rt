@@ -3,11 +3,12 @@
 use crate::reciprocal::reciprocal;
 use crate::reciprocal::remainder;
 ghost use mathlib.Core.Path.{_≡_};
-ghost use Prim.Native.Nat.{_/_, _<_, _≤_};
+ghost use Prim.Native.Nat.{_<_, _≤_};
+ghost use Rattle.field.specs.Operands.{Operands, PowerOperands, InverseOperand};
 ghost use Rattle.field.specs.Residue.{plus, minus, times, power as powerOf, inverse as inverseOf};
 
 pub fn sum(a: u32, b: u32, p: u32) -> u32
-    requires { ⌜ (p ≤ 65521) × (a < p) × (b < p) ⌝ }
+    requires { ⌜ Operands p a b ⌝ }
     ensures equals { λ r. ⌜ r ≡ plus p a b ⌝ }
     ensures below { λ r. ⌜ r < p ⌝ }
 {
@@ -15,7 +16,7 @@ pub fn sum(a: u32, b: u32, p: u32) -> u32
 }
 
 pub fn difference(a: u32, b: u32, p: u32) -> u32
-    requires { ⌜ (p ≤ 65521) × (a < p) × (b < p) ⌝ }
+    requires { ⌜ Operands p a b ⌝ }
     ensures equals { λ r. ⌜ r ≡ minus p a b ⌝ }
     ensures below { λ r. ⌜ r < p ⌝ }
 {
@@ -23,7 +24,7 @@ pub fn difference(a: u32, b: u32, p: u32) -> u32
 }
 
 pub fn product(a: u32, b: u32, p: u32) -> u32
-    requires { ⌜ (p ≤ 65521) × (a < p) × (b < p) ⌝ }
+    requires { ⌜ Operands p a b ⌝ }
     ensures equals { λ r. ⌜ r ≡ times p a b ⌝ }
     ensures below { λ r. ⌜ r < p ⌝ }
 {
@@ -33,7 +34,7 @@ pub fn product(a: u32, b: u32, p: u32) -> u32
 // s times a to the power e, from the power of the square of a at half of e; m is the reciprocal of p. The two products of a step do not wait for each
 // other.
 fn raise(s: u32, a: u32, e: u32, p: u32, m: u64) -> u32
-    requires { ⌜ (p ≤ 65521) × (s < p) × (a < p) × (m ≡ 4294967296 / p) ⌝ }
+    requires { ⌜ PowerOperands p s a m ⌝ }
     ensures equals { λ r. ⌜ r ≡ times p s (powerOf p a e) ⌝ }
     ensures below { λ r. ⌜ r < p ⌝ }
 {
@@ -58,7 +59,7 @@ pub fn power(a: u32, e: u32, p: u32) -> u32
 
 // The inverse of a modulo a prime p, where a is not 0.
 pub fn inverse(a: u32, p: u32) -> u32
-    requires { ⌜ (2 ≤ p) × (p ≤ 65521) × (a < p) ⌝ }
+    requires { ⌜ InverseOperand p a ⌝ }
     ensures equals { λ r. ⌜ r ≡ inverseOf p a ⌝ }
     ensures below { λ r. ⌜ r < p ⌝ }
 {

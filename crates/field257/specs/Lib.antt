@@ -1,3 +1,4 @@
+pub mod Evaluable
 pub mod Inverses
 pub mod LocatorPolynomial
 pub mod Powers

@@ -2,6 +2,7 @@
 ghost use mathlib.Core.Path.{_≡_};
 ghost use Prim.Native.Nat.{_+_, _*_, _/_, _%_, _^_, _≤_, _<_};
 ghost use lib.ListN.{length, getD};
+ghost use Rattle.field257.specs.Evaluable.{Evaluable};
 ghost use Rattle.field257.specs.Table.{table};
 ghost use Rattle.field.specs.Coefficients.{value};
 ghost use Rattle.lists.specs.Total.{total};
@@ -43,7 +44,7 @@ fn cubic(a: u16, b: u16, c: u16, d: u16, y: u64) -> u64
 // What the coefficients up to the last multiple of four add to the value at 3^step, not reduced: one power of 3 is looked up for
 // four of them.
 fn fours(powers: &[u16; 256], f: &[u16], step: usize) -> u64
-    requires { ⌜ (now powers ≡ table) × (length (now f) ≤ 256) × (step < 256) ⌝ }
+    requires { ⌜ Evaluable (now powers) (now f) step ⌝ }
     ensures equals { λ r. ⌜
         r % 257 ≡ total (4 * (length (now (f .entry)) / 4)) (λ k. getD (now (f .entry)) k 0 * powerOf3 step ^ k) % 257
         ⌝ }

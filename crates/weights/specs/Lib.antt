@@ -1,1 +1,2 @@
+pub mod Weighable
 pub mod Weights

@@ -8,7 +8,7 @@ use field257::values::value_at;
 ghost use mathlib.Core.Path.{_≡_};
 ghost use Prim.Native.Nat.{suc, _≤_, _<_};
 ghost use lib.ListN.{length, getD};
-ghost use Rattle.field257.specs.Table.{table};
+ghost use Rattle.weights.specs.Weighable.{Weighable};
 ghost use Rattle.weights.specs.Weights.{carried, factorOf, readOff};
 ghost use Rattle.field.specs.Residue.{times};
 ghost use Rattle.field257.specs.Powers.{locatorOf};
@@ -42,7 +42,7 @@ fn scale(row: &mut [u16], c: u32)
 
 // What the coefficients of column i are multiples of, for the locator polynomial of the other columns of its set.
 fn factor(powers: &[u16; 256], others: &[u16], i: usize) -> u32
-    requires { ⌜ (now powers ≡ table) × (i < 256) × (length (now others) ≤ 64) ⌝ }
+    requires { ⌜ Weighable (now powers) i (now others) ⌝ }
     ensures equals { λ r. ⌜ r ≡ factorOf (length (now (others .entry))) i (now (others .entry)) ⌝ }
     ensures below { λ r. ⌜ r < 257 ⌝ }
 {
@@ -54,7 +54,7 @@ fn factor(powers: &[u16; 256], others: &[u16], i: usize) -> u32
 
 // The coefficients of column i of a set with the locator polynomial f, as many as the set has columns.
 pub fn weigh(powers: &[u16; 256], f: &[u16; 65], i: usize, row: &mut [u16])
-    requires { ⌜ (now powers ≡ table) × (i < 256) × (length (now row) ≤ 64) ⌝ }
+    requires { ⌜ Weighable (now powers) i (now row) ⌝ }
     ensures { λ r. ⌜
         now (row .exit) ≡ tabulate (length (now (row .entry)))
         (readOff (length (now (row .entry))) i (tabulate (length (now (row .entry))) (λ k. carried (now (f .entry)) (locatorOf i) (suc k))))

@@ -19,8 +19,8 @@ value-at-requires c κs = search needs
 mul-entry : tie.Need-mul-entry
 mul-entry c =
     let start = c .before .before in
-    let less : start .args .i ≤ 255 = omega (arith, start .pre .1) in
-    let few : length (start .args .others .now) ≤ 64 = start .pre .2 in
+    let less : start .args .i ≤ 255 = omega (arith, start .pre .column) in
+    let few : length (start .args .others .now) ≤ 64 = start .pre .few in
     omega (arith, mul-le-mul less few)
 
 entry-requires : tie.Need-entry-requires
@@ -44,7 +44,7 @@ returns c =
     let wide = c .before .before .before in (
       factor-is (length (start .args .others .now)) (start .args .i) _ (wide .before .before .value-at .result) (wide .before .entry .result)
           (c .before .before .product .result)
-          (c .before .inverse .result) (c .difference .result) (omega (arith, start .pre .1)) (wide .before .before .value-at .ensures .0)
+          (c .before .inverse .result) (c .difference .result) (omega (arith, start .pre .column)) (wide .before .before .value-at .ensures .0)
           (wide .before .entry .ensures)
           (c .before .before .product .ensures .0 ∙ ap (times 257 (wide .before .entry .result)) (wide .wide .ensures .0)) (c .before .inverse .ensures .0)
           (c .difference .ensures .0),

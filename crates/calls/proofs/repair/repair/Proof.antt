@@ -145,7 +145,14 @@ mend-requires c κs =
     let told = summed .before .before in
     let nonempty = full (full-before (located-before told)) in
     let marked = located-marked _ nonempty (located (located-before told)) (words (begun told)) in
-    (has-shape _ nonempty, passed-size _ _ (passes told), passed-symbols _ _ (passes told), summed .frame-sums .ensures, marked .inside, marked .reach)
+    record {
+      shape = has-shape _ nonempty;
+      whole = passed-size _ _ (passes told);
+      small = passed-symbols _ _ (passes told);
+      held = summed .frame-sums .ensures;
+      below = marked .inside;
+      reach = marked .reach;
+    }
 
 length-of-requires : tie.Need-length-of-requires
 length-of-requires c κs = search needs

@@ -56,8 +56,8 @@ add-multiple-requires : tie.Need-add-multiple-requires Inv-loop μ-loop
 add-multiple-requires c κs =
     let at = c .before .before .before .before in
     let start = at .before .before in (
-      same-size _ _ (at .loop .b) _ _ (start .pre .0) (at .loop .inv .1) (omega arith),
-      gathered-fits _ _ (at .loop .b) _ _ (start .pre .0) (at .loop .inv .1) (omega arith) (at .before .shared-slice-known .given) (omega arith),
+      same-size _ _ (at .loop .b) _ _ (start .pre .powers-known) (at .loop .inv .1) (omega arith),
+      gathered-fits _ _ (at .loop .b) _ _ (start .pre .powers-known) (at .loop .inv .1) (omega arith) (at .before .shared-slice-known .given) (omega arith),
     )
 
 add-b : tie.Need-add-b Inv-loop μ-loop
@@ -70,7 +70,7 @@ loop-again : tie.Need-loop-again Inv-loop μ-loop
 loop-again c =
     let at = c .before .before .before .before .before .before in
     let start = at .before .before in
-    (omega arith, c .before .add-multiple .ensures ∙ gathered-more _ _ (at .loop .b) _ _ (start .pre .0) (at .loop .inv .1) (omega arith))
+    (omega arith, c .before .add-multiple .ensures ∙ gathered-more _ _ (at .loop .b) _ _ (start .pre .powers-known) (at .loop .inv .1) (omega arith))
 
 returns : tie.Need-returns Inv-loop μ-loop
 returns c =

@@ -41,10 +41,9 @@ part-mend-row-start c = omega arith
 part-mend-row-end : tie.Need-part-mend-row-end Inv-loop μ-loop
 part-mend-row-end c =
     let start = c .before .before .before .before .before in
-    let (shape, whole, small, held, below, reach) = start .pre in
-    let r = shape-ranges _ shape in
+    let r = shape-ranges _ (start .pre .shape) in
     let most = r .checks 0 (r .rows-least) .most in
-    let long = ap length held ∙ held-length _ _ shape in
+    let long = ap length (start .pre .held) ∙ held-length _ _ (start .pre .shape) in
     let count = c .wide .ensures .0 in
     omega arith
 
@@ -52,16 +51,23 @@ mend-row-requires : tie.Need-mend-row-requires Inv-loop μ-loop
 mend-row-requires c κs =
     let chosen = c .before .before .before .before in
     let start = chosen .before .before .before in
-    let (shape, whole, small, held, below, reach) = start .pre in
+    let asked = start .pre in
     let read = c .before .before .wide in
-    let r = shape-ranges _ shape in
+    let r = shape-ranges _ (asked .shape) in
     let narrow = r .columns-most in
     let most = r .checks 0 (r .rows-least) .most in
-    let enough = reach 0 (r .rows-least) in
-    let a = row-alone (start .args .t1) (start .args .frame .now) whole (chosen .if1 .taken) _ held (read .result) (read .ensures .0) in
+    let enough = asked .reach 0 (r .rows-least) in
+    let a = row-alone (start .args .t1) (start .args .frame .now) (asked .whole) (chosen .if1 .taken) _ (asked .held) (read .result) (read .ensures .0) in
     let size = a .size in
     let count = a .count in
-    (omega arith, small, omega arith, a .check-sums, (λ i e. let b = below i e in omega arith), omega arith)
+    record {
+      narrow = omega arith;
+      small = asked .small;
+      few = omega arith;
+      held = a .check-sums;
+      below = λ i e. let b = asked .below i e in omega arith;
+      reach = omega arith;
+    }
 
 same-length : tie.Need-same-length Inv-loop μ-loop
 same-length c = search needs
@@ -70,15 +76,15 @@ returns : tie.Need-returns Inv-loop μ-loop
 returns c =
     let chosen = c .before .before .before .before .before .before .before in
     let start = chosen .before .before .before in
-    alone-completed (start .args .t1) (start .args .frame .now) (start .pre .1) (chosen .if1 .taken) _ _ (c .before .before .mend-row .ensures)
+    alone-completed (start .args .t1) (start .args .frame .now) (start .pre .whole) (chosen .if1 .taken) _ _ (c .before .before .mend-row .ensures)
 
 -- ---- rows that share the coefficients
 
 few : (c : tie.After-size Inv-loop μ-loop) → c .size .result ≤ 64
 few c =
     let start = c .before .before .before .before .before in
-    let r = shape-ranges _ (start .pre .0) in
-    omega (arith, c .size .ensures, start .pre .5 0 (r .rows-least), r .checks 0 (r .rows-least) .most)
+    let r = shape-ranges _ (start .pre .shape) in
+    omega (arith, c .size .ensures, start .pre .reach 0 (r .rows-least), r .checks 0 (r .rows-least) .most)
 
 powers-requires : tie.Need-powers-requires Inv-loop μ-loop
 powers-requires c κs = search needs
@@ -94,7 +100,7 @@ next-requires c κs = search needs
 
 loop-holds : tie.Need-loop-holds Inv-loop μ-loop
 loop-holds c =
-    (0, omega arith, mending-none _ _ _ _ (c .before .before .before .before .before .before .before .before .pre .1) _ (c .next .ensures))
+    (0, omega arith, mending-none _ _ _ _ (c .before .before .before .before .before .before .before .before .pre .whole) _ (c .next .ensures))
 
 sub-weigh : tie.Need-sub-weigh Inv-loop μ-loop
 sub-weigh c = omega arith
@@ -112,7 +118,7 @@ weigh-requires c κs =
     let sized = at .before .before .before .before in
     let small = few sized in
     let part = mid-len 0 (sized .size .result) (at .loop .coefficients) (let s = at .loop .inv .1 in omega arith) in
-    (sized .before .powers .ensures, inside .loop-test .taken, omega arith)
+    record { powers-known = sized .before .powers .ensures; column = inside .loop-test .taken; few = omega arith }
 
 -- the coefficients that are lent on
 weighed : (c : tie.After-weigh Inv-loop μ-loop) →
@@ -146,16 +152,17 @@ mend-column-requires c κs =
     let inside = written .before .before .before .before in
     let at = inside .before in
     let start = at .before .before .before .before .before .before .before .before .before in
-    let (shape, whole, small, held, below, reach) = start .pre in
+    let asked = start .pre in
     let mending = at .loop .inv .2 in
-    let m = weighed written .count in (
-      shape,
-      mending .size ∙ whole,
-      below (at .loop .i) (mending .walk .marked (inside .loop-test .taken)),
-      (λ h l. let e = reach h l in omega arith),
-      ap length held ∙ held-length _ _ shape,
-      λ k. subst⁻¹ (λ (l : List ℕ). getD l k 0 < 257) held (held-below _ _ k),
-    )
+    let m = weighed written .count in
+    record {
+      shape = asked .shape;
+      whole = mending .size ∙ asked .whole;
+      inside = asked .below (at .loop .i) (mending .walk .marked (inside .loop-test .taken));
+      reach = λ h l. let e = asked .reach h l in omega arith;
+      sums-room = ap length (asked .held) ∙ held-length _ _ (asked .shape);
+      sums-small = λ k. subst⁻¹ (λ (l : List ℕ). getD l k 0 < 257) (asked .held) (held-below _ _ k);
+    }
 
 add-next : tie.Need-add-next Inv-loop μ-loop
 add-next c = let t = c .before .before .before .before .before .before .before .before .before .before .before .loop-test .taken in omega arith
@@ -180,7 +187,7 @@ loop-again c =
     let w = weighed written in (
       d + 1,
       w .long,
-      mending-more _ _ _ _ (start .pre .1) d (at .loop .i) (at .loop .frame) mending (c .next2 .result) _ _ (inside .loop-test .taken) (c .next2 .ensures)
+      mending-more _ _ _ _ (start .pre .whole) d (at .loop .i) (at .loop .frame) mending (c .next2 .result) _ _ (inside .loop-test .taken) (c .next2 .ensures)
           (w .lent) (c .before .before .before .mend-column .ensures),
     )
 
@@ -190,8 +197,8 @@ same-length-2 c = c .before .loop .inv .2 .size
 returns-2 : tie.Need-returns-2 Inv-loop μ-loop
 returns-2 c =
     let at = c .before in
-    let (shape, whole, small, held, below, reach) = at .before .before .before .before .before .before .before .before .before .pre in
-    mending-all _ _ _ _ whole shape small held below reach _ _ _ (at .loop .inv .2) (c .loop-test .left)
+    let asked = at .before .before .before .before .before .before .before .before .before .pre in
+    mending-all _ _ _ _ (asked .whole) (asked .shape) (asked .small) (asked .held) (asked .below) (asked .reach) _ _ _ (at .loop .inv .2) (c .loop-test .left)
 
 pub mend-spec : {M : Type 1} → statement M
 mend-spec =

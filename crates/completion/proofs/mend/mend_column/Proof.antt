@@ -21,7 +21,7 @@ place : (c : tie.In-loop Inv-loop μ-loop) →
     RowPlace (args .t1) (length (args .frame .now)) (c .before .loop .h)
 place c =
     let start = c .before .before .before .before .before in
-    row-place _ _ _ (start .pre .0) (start .pre .1) (c .loop-test .taken)
+    row-place _ _ _ (start .pre .shape) (start .pre .whole) (c .loop-test .taken)
 
 -- the sums of the row end within those that are held
 ends : (c : tie.After-wide Inv-loop μ-loop) → c .before .before .before .loop .at + c .wide .result ≤ 512
@@ -76,10 +76,10 @@ sub-mend-cell-2 : tie.Need-sub-mend-cell-2 Inv-loop μ-loop
 sub-mend-cell-2 c = omega arith
 
 part-mend-cell-start-2 : tie.Need-part-mend-cell-start-2 Inv-loop μ-loop
-part-mend-cell-start-2 c = let e = ends (c .before) in let s = c .before .before .before .before .before .before .before .before .pre .4 in omega arith
+part-mend-cell-start-2 c = let e = ends (c .before) in let s = c .before .before .before .before .before .before .before .before .pre .sums-room in omega arith
 
 part-mend-cell-end-2 : tie.Need-part-mend-cell-end-2 Inv-loop μ-loop
-part-mend-cell-end-2 c = let e = ends (c .before) in let s = c .before .before .before .before .before .before .before .before .pre .4 in omega arith
+part-mend-cell-end-2 c = let e = ends (c .before) in let s = c .before .before .before .before .before .before .before .before .pre .sums-room in omega arith
 
 mend-cell-requires : tie.Need-mend-cell-requires Inv-loop μ-loop
 mend-cell-requires c κs =
@@ -92,15 +92,20 @@ mend-cell-requires c κs =
     let within = p .inside in
     let most = p .checks .most in
     let s = at .loop .inv .rows .size in
-    let i = start .pre .2 in
-    let enough = start .pre .3 (at .loop .h) (inside .loop-test .taken) in
+    let i = start .pre .inside in
+    let enough = start .pre .reach (at .loop .h) (inside .loop-test .taken) in
     let count = read .wide .ensures .0 in
-    let held = start .pre .4 in
+    let held = start .pre .sums-room in
     let e = ends read in
     let size = mid-len (at .loop .h * n) (at .loop .h * n + n) (at .loop .frame) (omega arith) in
     let end : ℕ = at .loop .at + read .wide .result in
     let sums = mid-len (at .loop .at) end (start .args .sums .now) (omega arith) in
-    (omega arith, omega arith, omega arith, part-below (start .args .sums .now) (start .pre .5) (at .loop .at) (end - at .loop .at))
+    record {
+      inside = omega arith;
+      few = omega arith;
+      reach = omega arith;
+      sums-small = part-below (start .args .sums .now) (start .pre .sums-small) (at .loop .at) (end - at .loop .at);
+    }
 
 add-h : tie.Need-add-h Inv-loop μ-loop
 add-h c = let p = place (c .before .before .before .before .before .before .before) in omega arith

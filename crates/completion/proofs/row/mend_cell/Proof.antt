@@ -29,7 +29,7 @@ returns : tie.Need-returns
 returns c =
     let read = c .before .before in
     let start = read .before .before .before .before in
-    cell-written _ _ _ (start .args .row .now) (read .read-off .result) (c .plus .result) (start .pre .0) (read .read-off .ensures) (c .plus .ensures)
+    cell-written _ _ _ (start .args .row .now) (read .read-off .result) (c .plus .result) (start .pre .inside) (read .read-off .ensures) (c .plus .ensures)
 
 pub mend-cell-spec : {M : Type 1} → statement M
 mend-cell-spec =

@@ -19,7 +19,7 @@ abbrev μ-loop : tie.MeasureT-loop
 μ-loop set sums row₀ powers m f coefficients₀ i₀ row coefficients i = 256 - i
 
 few : (c : tie.After-size Inv-loop μ-loop) → c .size .result ≤ 64
-few c = let p = c .before .before .before .before .pre in omega (arith, c .size .ensures, p .2, p .5)
+few c = let p = c .before .before .before .before .pre in omega (arith, c .size .ensures, p .few, p .reach)
 
 powers-requires : tie.Need-powers-requires Inv-loop μ-loop
 powers-requires c κs = search needs
@@ -52,7 +52,7 @@ weigh-requires c κs =
     let sized = at .before .before .before .before in
     let small = few sized in
     let part = mid-len 0 (sized .size .result) (at .loop .coefficients) (let s = at .loop .inv .1 in omega arith) in
-    (sized .before .powers .ensures, inside .loop-test .taken, omega arith)
+    record { powers-known = sized .before .powers .ensures; column = inside .loop-test .taken; few = omega arith }
 
 -- the coefficients that are lent on
 weighed : (c : tie.After-weigh Inv-loop μ-loop) →
@@ -85,12 +85,13 @@ mend-cell-requires c κs =
     let inside = written .before .before .before .before in
     let at = inside .before in
     let start = at .before .before .before .before .before .before .before .before in
-    let (narrow, small, few, held, below, reach) = start .pre in
+    let few = start .pre .few in
+    let reach = start .pre .reach in
     let mending = at .loop .inv .2 in
-    let i = below (at .loop .i) (mending .walk .marked (inside .loop-test .taken)) in
+    let i = start .pre .below (at .loop .i) (mending .walk .marked (inside .loop-test .taken)) in
     let row = mending .size in
     let count = weighed written .count in
-    (omega arith, omega arith, omega arith, sums-below _ _ _ _ held)
+    record { inside = omega arith; few = omega arith; reach = omega arith; sums-small = sums-below _ _ _ _ (start .pre .held) }
 
 add-next : tie.Need-add-next Inv-loop μ-loop
 add-next c = let t = c .before .before .before .before .before .before .before .before .before .before .before .loop-test .taken in omega arith
@@ -124,8 +125,9 @@ same-length c = c .before .loop .inv .2 .size
 returns : tie.Need-returns Inv-loop μ-loop
 returns c =
     let at = c .before in
-    let (narrow, small, few, held, below, reach) = at .before .before .before .before .before .before .before .before .pre in
-    mending-all _ _ _ _ _ _ _ (at .loop .inv .2) narrow (c .loop-test .left) ∙ mended-completed _ _ _ _ _ narrow refl small held below reach
+    let asked = at .before .before .before .before .before .before .before .before .pre in
+    mending-all _ _ _ _ _ _ _ (at .loop .inv .2) (asked .narrow) (c .loop-test .left)
+    ∙ mended-completed _ _ _ _ _ (asked .narrow) refl (asked .small) (asked .held) (asked .below) (asked .reach)
 
 pub mend-row-spec : {M : Type 1} → statement M
 mend-row-spec =

@@ -48,7 +48,7 @@ grown c =
 add-total : tie.Need-add-total Inv-loop μ-loop
 add-total c =
     let entered = c .before .before .before .before .before .before in
-    read-fits _ _ _ _ (grown c) (entered .before .pre .0) (entered .shared-slice-known .given) (entered .before .pre .2)
+    read-fits _ _ _ _ (grown c) (entered .before .pre .few) (entered .shared-slice-known .given) (entered .before .pre .sums-small)
 
 add-k : tie.Need-add-k Inv-loop μ-loop
 add-k c = omega arith

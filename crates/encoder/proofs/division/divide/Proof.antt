@@ -11,7 +11,7 @@ abbrev μ-loop : tie.MeasureT-loop
 μ-loop cells₀ generator m i₀ cells i = i
 
 loop-holds : tie.Need-loop-holds Inv-loop μ-loop
-loop-holds c = divided-none _ _ (c .before .before .pre .1) (c .before .before .pre .3)
+loop-holds c = divided-none _ _ (c .before .before .pre .reach) (c .before .before .pre .small)
 
 sub-i : tie.Need-sub-i Inv-loop μ-loop
 sub-i c = omega arith
@@ -54,8 +54,8 @@ add-multiple-requires c κs =
     let at = c .before .before .before .before in
     let start = at .before .before .before in
     let less = c .before .before .before .loop-test .taken in (
-      same-size _ _ _ (start .pre .0) (at .loop .i) _ (at .loop .inv) less,
-      added-fits _ _ _ (start .pre .0) (at .loop .i) _ (at .loop .inv) less (start .pre .2),
+      same-size _ _ _ (start .pre .divisor) (at .loop .i) _ (at .loop .inv) less,
+      added-fits _ _ _ (start .pre .divisor) (at .loop .i) _ (at .loop .inv) less (start .pre .narrow),
     )
 
 loop-less : tie.Need-loop-less Inv-loop μ-loop
@@ -65,7 +65,7 @@ loop-again : tie.Need-loop-again Inv-loop μ-loop
 loop-again c =
     let at = c .before .before .before .before .before .before .before in
     let start = at .before .before .before in
-    divided-more _ _ _ (start .pre .0) (at .loop .i) _ (at .loop .inv) (c .before .before .before .before .before .before .loop-test .taken) _
+    divided-more _ _ _ (start .pre .divisor) (at .loop .i) _ (at .loop .inv) (c .before .before .before .before .before .before .loop-test .taken) _
     (c .before .before .add-multiple .ensures)
 
 same-length : tie.Need-same-length Inv-loop μ-loop

@@ -40,12 +40,13 @@ divide-requires c κs =
     let m = start .args .m in
     let row = start .args .row .now in
     let cells = made .data-cells .result in
-    let size = length-part m row cells (start .pre .1) (start .pre .2) room (made .data-cells .ensures) in (
-      start .pre .0,
-      omega (arith, size),
-      omega (arith, size),
-      part-small m row cells (start .pre .1) (start .pre .2) room (made .data-cells .ensures) (made .before .before .slice-known .given),
-    )
+    let size = length-part m row cells (start .pre .reach) (start .pre .narrow) room (made .data-cells .ensures) in
+    record {
+      divisor = start .pre .divisor;
+      reach = omega (arith, size);
+      narrow = omega (arith, size);
+      small = part-small m row cells (start .pre .reach) (start .pre .narrow) room (made .data-cells .ensures) (made .before .before .slice-known .given);
+    }
 
 slice-aggregate-put-negatives : tie.Need-slice-aggregate-put-negatives
 slice-aggregate-put-negatives c = omega (arith, refilled c)
@@ -62,9 +63,9 @@ returns c =
     let divided = lent .before .before .before in
     let made = divided .before .before in
     let start = made .before .before .before .before in
-    completed-by-remainder (start .args .m) (start .args .row .now) (made .data-cells .result) (start .pre .1) (start .pre .2) (omega arith)
+    completed-by-remainder (start .args .m) (start .args .row .now) (made .data-cells .result) (start .pre .reach) (start .pre .narrow) (omega arith)
     (made .data-cells .ensures) (divided .divide .last .0) _ (divided .divide .kept .0)
-    (c .before .before .put-negatives .ensures) (start .pre .3) (divided .divide .ensures)
+    (c .before .before .put-negatives .ensures) (start .pre .small) (divided .divide .ensures)
 
 pub encode-row-spec : {M : Type 1} → statement M
 encode-row-spec =

@@ -33,11 +33,12 @@ returns-2 c =
     (by-encode-tests refused passed _ frame true false size symbols, by-encode-tests (λ k. frame) _ _ frame true false size symbols)
 
 fill-checks-requires : tie.Need-fill-checks-requires
-fill-checks-requires c κs = (
-  c .before .before .before .before .before .before .before .pre,
-  c .before .before .before .before .if1 .left,
-  sym (c .before .before .data-below .ensures) ∙ not-false _ (c .before .if2 .left),
-)
+fill-checks-requires c κs =
+    record {
+      shape = c .before .before .before .before .before .before .before .pre;
+      whole = c .before .before .before .before .if1 .left;
+      small = sym (c .before .before .data-below .ensures) ∙ not-false _ (c .before .if2 .left);
+    }
 
 same-length-2 : tie.Need-same-length-2
 same-length-2 c = search needs

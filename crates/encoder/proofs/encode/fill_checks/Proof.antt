@@ -28,7 +28,7 @@ place : (c : tie.In-loop Inv-loop μ-loop) →
     RowPlace (args .t1) (length (args .frame .now)) (c .before .loop .h)
 place c =
     let start = c .before .before .before .before .before .before in
-    row-place (start .args .t1) (length (start .args .frame .now)) (c .before .loop .h) (start .pre .0) (start .pre .1) (c .loop-test .taken)
+    row-place (start .args .t1) (length (start .args .frame .now)) (c .before .loop .h) (start .pre .shape) (start .pre .whole) (c .loop-test .taken)
 
 element-copy-out-wide : tie.Need-element-copy-out-wide Inv-loop μ-loop
 element-copy-out-wide c = search needs
@@ -42,7 +42,7 @@ cast-count c = omega arith
 generator-requires : tie.Need-generator-requires Inv-loop μ-loop
 generator-requires c κs =
     let start = c .before .before .before in
-    let r = shape-ranges (start .args .t1) (start .pre .0) in
+    let r = shape-ranges (start .args .t1) (start .pre .shape) in
     omega (arith, c .wide .ensures .0, r .checks 0 (r .rows-least) .most)
 
 loop-holds : tie.Need-loop-holds Inv-loop μ-loop
@@ -94,13 +94,14 @@ encode-row-requires c κs =
     let start = at .before .before .before .before .before in
     let p = place inside in
     let size = length-part _ _ _ _ _ _ (at .loop .inv .0) (p .inside) in
-    let count = c .before .before .before .wide2 .ensures .0 in (
-      c .before .before .generator-for .ensures,
-      omega (arith, size, count),
-      omega (arith, size),
-      (λ i le l. row-small (start .args .t1) _ (start .pre .2) _ (inside .loop-test .taken) _ _ (at .loop .inv .0) (p .inside) i
-          (omega (arith, count)) (omega (arith, size))),
-    )
+    let count = c .before .before .before .wide2 .ensures .0 in
+    record {
+      divisor = c .before .before .generator-for .ensures;
+      reach = omega (arith, size, count);
+      narrow = omega (arith, size);
+      small = λ i le l. row-small (start .args .t1) _ (start .pre .small) _ (inside .loop-test .taken) _ _ (at .loop .inv .0) (p .inside) i
+          (omega (arith, count)) (omega (arith, size));
+    }
 
 add-h : tie.Need-add-h Inv-loop μ-loop
 add-h c = let p = place (c .before .before .before .before .before .before .before .before) in omega arith

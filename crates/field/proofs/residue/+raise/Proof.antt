@@ -25,16 +25,18 @@ abbrev claims : ℕ → raise-lts.Claims
 claims t = (remainder-reads.Asked, remainder-reads.Learnt, raise-below t, raise.Post)
 
 raise-returns : (t : ℕ) → raise-lts.Need-returns (claims t) (raise-at t) raise.Post
-raise-returns t c = (zeroth-power _ _ _ _ (c .if1 .taken) (c .before .pre .1 .1), c .before .pre .1 .1)
+raise-returns t c = (zeroth-power _ _ _ _ (c .if1 .taken) (c .before .pre .1 .factor), c .before .pre .1 .factor)
 
 raise-mul-remainder : (t : ℕ) → raise-lts.Need-mul-remainder (claims t) (raise-at t) raise.Post
-raise-mul-remainder t c = let pre = c .before .pre .1 in record { fits = product-fits _ _ _ (pre .0) (pre .2) (pre .2) }
+raise-mul-remainder t c = let pre = c .before .pre .1 in record { fits = product-fits _ _ _ (pre .modulus) (pre .base) (pre .base) }
 
 raise-remainder-requires : (t : ℕ) → raise-lts.Need-remainder-requires (claims t) (raise-at t) raise.Post
 raise-remainder-requires t c κs = omega arith
 
 raise-raise-requires : (t : ℕ) → raise-lts.Need-raise-requires (claims t) (raise-at t) raise.Post
-raise-raise-requires t c κs = omega (arith, c .before .remainder .ensures .1)
+raise-raise-requires t c κs =
+    let pre = c .before .before .before .pre .1 in
+    (omega arith, record { modulus = pre .modulus; factor = pre .factor; base = c .before .remainder .ensures .1; reciprocal = pre .reciprocal })
 
 raise-returns-2 : (t : ℕ) → raise-lts.Need-returns-2 (claims t) (raise-at t) raise.Post
 raise-returns-2 t c =
@@ -42,13 +44,18 @@ raise-returns-2 t c =
     (even-power _ _ _ _ _ _ (at .before .remainder .ensures .0) (at .if2 .taken) (c .raise .ensures .0), c .raise .ensures .1)
 
 raise-mul-remainder-2 : (t : ℕ) → raise-lts.Need-mul-remainder-2 (claims t) (raise-at t) raise.Post
-raise-mul-remainder-2 t c = let pre = c .before .before .before .pre .1 in record { fits = product-fits _ _ _ (pre .0) (pre .1) (pre .2) }
+raise-mul-remainder-2 t c = let pre = c .before .before .before .pre .1 in record { fits = product-fits _ _ _ (pre .modulus) (pre .factor) (pre .base) }
 
 raise-remainder-requires-2 : (t : ℕ) → raise-lts.Need-remainder-requires-2 (claims t) (raise-at t) raise.Post
 raise-remainder-requires-2 t c κs = omega arith
 
 raise-raise-requires-2 : (t : ℕ) → raise-lts.Need-raise-requires-2 (claims t) (raise-at t) raise.Post
-raise-raise-requires-2 t c κs = omega (arith, c .before .before .remainder .ensures .1, c .remainder2 .ensures .1)
+raise-raise-requires-2 t c κs =
+    let at = c .before .before in
+    let pre = at .before .before .pre .1 in (
+      omega arith,
+      record { modulus = pre .modulus; factor = c .remainder2 .ensures .1; base = at .remainder .ensures .1; reciprocal = pre .reciprocal },
+    )
 
 raise-returns-3 : (t : ℕ) → raise-lts.Need-returns-3 (claims t) (raise-at t) raise.Post
 raise-returns-3 t c =

@@ -13,7 +13,9 @@ reciprocal-requires : tie.Need-reciprocal-requires
 reciprocal-requires c = search needs
 
 raise-requires : tie.Need-raise-requires
-raise-requires c κs = (c .before .pre .0, mod-lt 1 (omega (arith, c .before .pre .1)), c .before .pre .1, c .reciprocal .ensures)
+raise-requires c κs =
+    let pre = c .before .pre in
+    record { modulus = pre .0; factor = mod-lt 1 (omega (arith, pre .1)); base = pre .1; reciprocal = c .reciprocal .ensures }
 
 returns : tie.Need-returns
 returns c = (once _ _ _ (c .raise .ensures .0), c .raise .ensures .1)

@@ -8,7 +8,7 @@ use Rattle.field.proofs.residue.product.Statement.{statement}
 use Rattle.field.proofs.residue.product.Tie as tie
 
 mul-result : tie.Need-mul-result
-mul-result c = record { fits = product-fits _ _ _ (c .pre .0) (omega arith) (omega arith) }
+mul-result c = record { fits = product-fits _ _ _ (c .pre .modulus) (omega arith) (omega arith) }
 
 rem-result : tie.Need-rem-result
 rem-result c = search needs

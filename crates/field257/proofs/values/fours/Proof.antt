@@ -18,10 +18,10 @@ abbrev μ-loop : tie.MeasureT-loop
 μ-loop powers f step y blocks total₀ place₀ b₀ total place b = blocks - b
 
 mul-long : tie.Need-mul-long Inv-loop μ-loop
-mul-long c = let s = c .before .pre .2 in omega arith
+mul-long c = let s = c .before .pre .exponent in omega arith
 
 element-copy-out-long : tie.Need-element-copy-out-long Inv-loop μ-loop
-element-copy-out-long c = let s = c .before .pre .2 in omega arith
+element-copy-out-long c = let s = c .before .pre .exponent in omega arith
 
 long-requires : tie.Need-long-requires Inv-loop μ-loop
 long-requires c κs = search needs
@@ -30,10 +30,10 @@ long-requires c κs = search needs
 looked-up : (c : tie.After-long Inv-loop μ-loop) → c .long .result ≡ getD table (c .before .before .before .args .step) 0
 looked-up c =
     let start = c .before .before .before in
-    c .long .ensures ∙ ap (λ l. getD l (start .args .step) 0) (start .pre .0)
+    c .long .ensures ∙ ap (λ l. getD l (start .args .step) 0) (start .pre .powers-known)
 
 point : (c : tie.After-long Inv-loop μ-loop) → c .long .result ≡ powerOf3 (c .before .before .before .args .step)
-point c = looked-up c ∙ table-power _ (c .before .before .before .pre .2)
+point c = looked-up c ∙ table-power _ (c .before .before .before .pre .exponent)
 
 loop-holds : tie.Need-loop-holds Inv-loop μ-loop
 loop-holds c = none _ _
@@ -77,7 +77,7 @@ shared-slice-read-cubic-4 c = let t = c .before .before .before .before .loop-te
 cubic-requires : tie.Need-cubic-requires Inv-loop μ-loop
 cubic-requires c κs =
     let made = c .before .before .before .before .before .before in
-    omega (arith, looked-up made, table-small _ (made .before .before .before .pre .2))
+    omega (arith, looked-up made, table-small _ (made .before .before .before .pre .exponent))
 
 mul-long-2 : tie.Need-mul-long-2 Inv-loop μ-loop
 mul-long-2 c = let p = c .before .before .before .before .before .before .loop .inv .place in omega arith
@@ -101,20 +101,20 @@ grown c =
     let start = made .before .before .before in
     let part = c .before .before .cubic in
     more-block (start .args .f .now) (start .args .step) (at .loop .b) (at .loop .place) (at .loop .total) (at .loop .inv)
-    (start .args .powers .now) (start .pre .0)
+    (start .args .powers .now) (start .pre .powers-known)
     (made .long .result) (part .result) (c .long2 .result) (inside .loop-test .taken) (point made) (part .ensures .0) (part .ensures .1) (c .long2 .ensures)
 
 -- the part of the block times the power looked up
 mul-total : tie.Need-mul-total Inv-loop μ-loop
 mul-total c =
     let start = c .before .before .before .before .before .before .before .before .before .before .before .before in
-    let g = fits _ _ _ _ _ (grown c) (start .pre .1) in
+    let g = fits _ _ _ _ _ (grown c) (start .pre .few) in
     record { fits = omega arith }
 
 add-total : tie.Need-add-total Inv-loop μ-loop
 add-total c =
     let start = c .before .before .before .before .before .before .before .before .before .before .before .before in
-    fits _ _ _ _ _ (grown c) (start .pre .1)
+    fits _ _ _ _ _ (grown c) (start .pre .few)
 
 mul-place : tie.Need-mul-place Inv-loop μ-loop
 mul-place c = omega arith

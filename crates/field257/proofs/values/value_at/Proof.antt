@@ -15,7 +15,7 @@ abbrev μ-loop : tie.MeasureT-loop
 μ-loop powers f e step total₀ k₀ place₀ total k place = length f - k
 
 fours-requires : tie.Need-fours-requires Inv-loop μ-loop
-fours-requires c κs = let p = c .before .pre in (p .0, p .1, mod-lt _ (omega arith))
+fours-requires c κs = let p = c .before .pre in record { powers-known = p .0; few = p .1; exponent = mod-lt _ (omega arith) }
 
 mul-k : tie.Need-mul-k Inv-loop μ-loop
 mul-k c = let n = c .before .before .pre .1 in omega arith

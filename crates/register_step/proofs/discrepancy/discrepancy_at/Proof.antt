@@ -87,7 +87,12 @@ wide-remainder-requires : tie.Need-wide-remainder-requires Inv-loop μ-loop
 wide-remainder-requires c κs =
     let at = c .before .before .before in
     let with = at .pre .0 in
-    (omega (arith, with .two-or-more), with .modulus, sum-below (at .args .p) (omega arith) (c .before .loop .inv .1), with .reciprocal)
+    record {
+      positive = omega (arith, with .two-or-more);
+      modulus = with .modulus;
+      sum = sum-below (at .args .p) (omega arith) (c .before .loop .inv .1);
+      reciprocal = with .reciprocal;
+    }
 
 returns : tie.Need-returns Inv-loop μ-loop
 unfolding discrepancy

@@ -55,7 +55,7 @@ product-requires : tie.Need-product-requires
 unfolding stateOf
 product-requires c κs =
     let at = c .before .before .before in
-    (at .pre .0 .modulus, at .pre .0 .discrepancy, inverse-less (at .pre .0) (at .pre .1))
+    record { modulus = at .pre .0 .modulus; first = at .pre .0 .discrepancy; second = inverse-less (at .pre .0) (at .pre .1) }
 
 sub-e : tie.Need-sub-e
 unfolding stateOf

@@ -1,0 +1,11 @@
+-- What is asked where coefficients are taken four by four: the table of powers, no more coefficients than it has, and an exponent inside it.
+use mathlib.Core.Path.{_≡_}
+use mathlib.Core.List.{List}
+use Prim.Native.Nat.{ℕ, _≤_, _<_}
+use lib.ListN.{length}
+use Rattle.field257.specs.Table.{table}
+
+pub record Evaluable (powers f : List ℕ) (step : ℕ) : Type 0 where
+  pub powers-known : powers ≡ table
+  pub few : length f ≤ 256
+  pub exponent : step < 256
