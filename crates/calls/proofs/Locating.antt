@@ -29,6 +29,7 @@ use Rattle.refusal.specs.Number.{number}
 use Rattle.refusal.specs.declared.Refusal.{Refusal}
 use Rattle.calls.specs.Answered as answer-of
 use Rattle.calls.specs.FromSums.{fromSums, sumsLeft}
+use Rattle.calls.specs.Search.{Searchable}
 use Rattle.calls.proofs.Lending.{lent-answer, lent-taps, size-most}
 
 -- a refusal leaves the sums and the taps
@@ -75,12 +76,13 @@ module _ {s : Shape} {sums : List ℕ} {l : ℕ} {a : Bool} {buffer : List ℕ} 
       ∙ take-at (tapsOf ss) _ _ refl
 
   -- what the search for columns asks
-  pub searchable : (s .columns ≤ 256) × (length (take (l + 1 - 0) buffer) ≤ 256) × (getD (take (l + 1 - 0) buffer) 0 0 ≡ 1)
-  searchable = (
-    shape-ranges s (see .shape) .columns-most,
-    omega (arith, ap length front, taps-length, size-most s sums (see .shape)),
-    ap (λ x. getD x 0 0) front ∙ generator-of ss .register .first,
-  )
+  pub searchable : Searchable s (take (l + 1 - 0) buffer)
+  searchable =
+      record {
+        columns = shape-ranges s (see .shape) .columns-most;
+        few = omega (arith, ap length front, taps-length, size-most s sums (see .shape));
+        first = ap (λ x. getD x 0 0) front ∙ generator-of ss .register .first;
+      }
 
   module _ (before : Arrays) (f : List ℕ) where
     -- what is given for the register that was seen

@@ -13,15 +13,13 @@ ghost use mathlib.Core.Path.{_≡_};
 ghost use mathlib.Core.Bool.{true};
 ghost use mathlib.Core.List.{List};
 ghost use Prim.Native.Nat.{ℕ, _<_};
-ghost use lib.ListN.{length, getD, take};
-ghost use Rattle.calls.specs.FromSums.{fromSums, sumsLeft};
+ghost use lib.ListN.{getD, take};
+ghost use Rattle.calls.specs.FromSums.{Findable, fromSums, sumsLeft};
 ghost use Rattle.lists.specs.Total.{total};
-ghost use Rattle.sequences.specs.Tests.{tests};
 ghost use Rattle.finder.specs.Finder.{Finds};
 ghost use Rattle.frame.specs.Shape.{checksOf, isShape};
 ghost use Rattle.job.specs.Answers.{answeredOutcome};
 ghost use Rattle.job.specs.Job.{Arrays, withTaps, withFound};
-ghost use Rattle.refusal.specs.Outcome.{outcome, passed};
 
 // The number of check sums of all rows.
 fn sum_count(s: Shape) -> usize
@@ -40,10 +38,7 @@ fn sum_count(s: Shape) -> usize
 
 // The register of held sums; its taps go to the buffer. No test of the finder refuses them, so none is made.
 fn shortest(s: Shape, sums: &[u16], taps: &mut [u16]) -> Found
-    requires { ⌜
-        (isShape s ≡ true) × (length (now sums) ≡ 512)
-        × (outcome (tests 257 (take (s .rows) (s .checks)) (take (total (s .rows) (checksOf s)) (now sums)) (length (now taps))) ≡ passed)
-        ⌝ }
+    requires { ⌜ Findable s (now sums) (now taps) ⌝ }
     ensures { λ r. ⌜ Finds 257 (take (s .rows) (s .checks)) (take (total (s .rows) (checksOf s)) (now (sums .entry)))
         (now (taps .entry)) (now (taps .exit)) r ⌝ }
 {

@@ -4,10 +4,8 @@ use field257::powers::powers;
 use field257::values::value_at;
 use frame::Shape;
 ghost use mathlib.Core.Path.{_≡_};
-ghost use Prim.Native.Nat.{_≤_};
 ghost use lib.Dec.{eqb};
-ghost use lib.ListN.{length, getD};
-ghost use Rattle.field257.specs.Table.{table};
+ghost use Rattle.calls.specs.Search.{Triable, Searchable};
 ghost use Rattle.decoding.specs.Locating.{namedColumns};
 ghost use Rattle.field.specs.Coefficients.{value};
 ghost use Rattle.field.specs.Residue.{inverse};
@@ -15,7 +13,7 @@ ghost use Rattle.field257.specs.Powers.{locatorOf};
 
 // The inverse of the locator of column i is a root of the taps. The inverse of 3^i is 3^(256 − i).
 fn is_root(powers: &[u16; 256], taps: &[u16], i: usize) -> bool
-    requires { ⌜ (now powers ≡ table) × (length (now taps) ≤ 256) × (i ≤ 256) ⌝ }
+    requires { ⌜ Triable (now powers) (now taps) i ⌝ }
     ensures { λ r. ⌜ r ≡ eqb (value 257 (now (taps .entry)) (inverse 257 (locatorOf i))) 0 ⌝ }
 {
     value_at(powers, taps, 256 - i) == 0
@@ -23,7 +21,7 @@ fn is_root(powers: &[u16; 256], taps: &[u16], i: usize) -> bool
 
 // The columns of the shape that a register names. One of length 0 names none, and nothing is searched.
 pub fn named_columns(s: Shape, taps: &[u16]) -> Columns
-    requires { ⌜ (s .columns ≤ 256) × (length (now taps) ≤ 256) × (getD (now taps) 0 0 ≡ 1) ⌝ }
+    requires { ⌜ Searchable s (now taps) ⌝ }
     ensures { λ r. ⌜ r ≡ namedColumns s (now (taps .entry)) ⌝ }
 {
     let mut found = columns::empty();

@@ -19,7 +19,7 @@ use Rattle.register.specs.Algorithm4.{Saved, State, rounds, isAlone, found, fou
 use Rattle.register.specs.Sequences.{largest, longest, ordered, split}
 use Rattle.sequences.specs.Tests.{tests}
 use Rattle.finder.specs.Finder.{register, refused, answer, tapsLeft, Finds}
-use Rattle.sequences.specs.Places.{sequenceAt, sequencesAt, Stands}
+use Rattle.sequences.specs.Places.{sequenceAt, sequencesAt, Sortable, Stands}
 use Rattle.register_step.specs.Progress.{stateOf}
 use Rattle.finder.specs.Rounds.{Running, Agree, Reached, aloneMark}
 use Rattle.finder.specs.declared.Found.the-variants.{Register}
@@ -49,12 +49,13 @@ module _ {p : ℕ} {lengths symbols : List ℕ} {room : ℕ} (fine : Accepted p 
   abbrev ss : List (List ℕ)
   ss = split lengths symbols
 
-  pub sortable : (k ≤ 8) × (length symbols ≤ 1024) × (total k (λ h. getD lengths h 0) ≡ length symbols)
-  sortable = (
-    fine .count,
-    omega (arith, fine .whole, fine .count, total-bound k 128 (λ h. getD lengths h 0) (fine .short)),
-    fine .whole,
-  )
+  pub sortable : Sortable lengths symbols
+  sortable =
+      record {
+        count = fine .count;
+        few = omega (arith, fine .whole, fine .count, total-bound k 128 (λ h. getD lengths h 0) (fine .short));
+        whole = fine .whole;
+      }
 
   module _ {N : ℕ} (most : N ≡ largest lengths) {o : Order} (stands : Stands o k symbols (ordered ss)) where
     is-longest : longest ss ≡ N

@@ -32,6 +32,12 @@ pub record Reached (p k : ℕ) (st : State) (g : Progress) (taps saved : List �
   pub state : Agree k (stateOf g taps saved) st
   pub ended : Ended p g taps saved
 
+-- the places of k sequences can be set: none is longer than N
+pub record Startable (N : ℕ) (o : Order) (k : ℕ) : Type 0 where
+  pub longest : N ≤ 128
+  pub count : k ≤ 8
+  pub shorter : (h : ℕ) → h < k → getD (o .lengths) h 0 ≤ N
+
 -- the struct before the first round, once the places of k sequences are set
 pub record Started (N : ℕ) (o : Order) (k : ℕ) (g : Progress) : Type 0 where
   pub length : g .length ≡ 0
@@ -39,6 +45,13 @@ pub record Started (N : ℕ) (o : Order) (k : ℕ) (g : Progress) : Type 0 where
   pub size : (h : ℕ) → h < 8 → getD (g .sizes) h 0 ≡ 0
   pub disc : (h : ℕ) → h < 8 → getD (g .discs) h 0 ≡ 1
   pub inverse : (h : ℕ) → h < 8 → getD (g .inverses) h 0 ≡ 1
+
+-- the alone mark can be read off: neither the register nor a sequence is longer than N
+pub record Markable (N : ℕ) (o : Order) (k : ℕ) (g : Progress) : Type 0 where
+  pub longest : N ≤ 128
+  pub count : k ≤ 8
+  pub size : g .length ≤ N
+  pub shorter : (h : ℕ) → h < k → getD (o .lengths) h 0 ≤ N
 
 -- the alone mark after all N rounds, read off the struct
 unfoldable pub aloneMark : (N : ℕ) → Order → (k : ℕ) → Progress → Bool

@@ -4,15 +4,14 @@ use register_step::step::change;
 use register_step::step::due;
 use sequences::Order;
 ghost use mathlib.Core.Path.{_≡_};
-ghost use Prim.Native.Nat.{ℕ, _+_, _/_, _≤_, _<_, min};
-ghost use lib.ListN.{getD};
+ghost use Prim.Native.Nat.{_+_, _/_, _<_, min};
 ghost use Rattle.register.specs.Algorithm4.{start as startState, rounds as roundsOf};
 ghost use Rattle.sequences.specs.Places.{sequencesAt};
-ghost use Rattle.finder.specs.Rounds.{Running, Reached, Started, aloneMark};
+ghost use Rattle.finder.specs.Rounds.{Running, Reached, Startable, Started, Markable, aloneMark};
 
 // Before the first round the place of a sequence is its gap, N − N_h.
 pub fn start(longest: usize, order: Order, count: usize) -> Progress
-    requires { ⌜ (longest ≤ 128) × (count ≤ 8) × ((h : ℕ) → h < count → getD (order .lengths) h 0 ≤ longest) ⌝ }
+    requires { ⌜ Startable longest order count ⌝ }
     ensures { λ r. ⌜ Started longest order count r ⌝ }
 {
     let zeros = [0u16; 8];
@@ -101,7 +100,7 @@ fn smaller(a: usize, b: usize) -> usize
 
 // What n_h − l_h has past N − l and past N − N_h is free. N less the smaller of l and N_h is the larger of these two.
 pub fn alone(longest: usize, order: Order, count: usize, g: Progress) -> bool
-    requires { ⌜ (longest ≤ 128) × (count ≤ 8) × (g .length ≤ longest) × ((h : ℕ) → h < count → getD (order .lengths) h 0 ≤ longest) ⌝ }
+    requires { ⌜ Markable longest order count g ⌝ }
     ensures { λ r. ⌜ r ≡ aloneMark longest order count g ⌝ }
 {
     let l = g.length;

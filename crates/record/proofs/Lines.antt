@@ -6,7 +6,8 @@ use native.Mathlib.Omega.{arith}
 use lib.ListN.{length}
 use Rattle.refusal.specs.Number.{number}
 use Rattle.refusal.specs.declared.Refusal.{Refusal}
-use Rattle.refusal.specs.declared.Refusal.the-variants.{Modulus, Count, Lengths, Symbol, Columns, Checks, FrameSize, TapBuffer, BadRecord, Empty, NotLocated, SumsDiffer, NotAlone, ShortRow, NoFrame}
+use Rattle.refusal.specs.declared.Refusal.the-variants.{Modulus, Count, Lengths, Symbol, Columns, Checks, FrameSize, TapBuffer}
+use Rattle.refusal.specs.declared.Refusal.the-variants.{BadRecord, Empty, NotLocated, SumsDiffer, NotAlone, ShortRow, NoFrame}
 use Rattle.record.specs.Text.{spaced, line}
 use Rattle.record.specs.Written.{Written}
 use Rattle.record.proofs.Digits.{spaced-append}

@@ -12,12 +12,11 @@ ghost use mathlib.Core.List.{[], _∷_};
 ghost use mathlib.Core.Path.{_≡_};
 ghost use Prim.Native.Nat.{_+_, _≤_};
 ghost use lib.ListN.{length};
-ghost use Rattle.columns.specs.Columns.{members};
 ghost use Rattle.finder.specs.Finder.{register};
 ghost use Rattle.job.specs.Answers.{replyAnswer};
 ghost use Rattle.job.specs.Calls.{columns as Calls·columns};
 ghost use Rattle.refusal.specs.Number.{number};
-ghost use Rattle.record.specs.Answered.{tapCount, foundLine, columnCount};
+ghost use Rattle.record.specs.Answered.{foundLine, columnCount, FewColumns, FewTaps, TapsHeld};
 ghost use Rattle.record.specs.Line.{refusalLine, markOf, registerLine, columnsLine};
 ghost use Rattle.record.specs.Text.{spaced};
 ghost use Rattle.record.specs.Written.{Written};
@@ -42,7 +41,7 @@ pub fn refusal_line(out: &mut [u8], at: usize, k: Refusal) -> usize
 }
 
 fn columns_line(out: &mut [u8], at: usize, count: usize, marks: Columns) -> usize
-    requires { ⌜ (at + 1024 ≤ length (now out)) × (count ≤ 64) × (length (members marks) ≤ 64) ⌝ }
+    requires { ⌜ FewColumns (now out) at count marks ⌝ }
     ensures { λ r. ⌜ Written (now (out .entry)) at (columnsLine (Calls·columns count) marks) (now (out .exit)) r ⌝ }
     ensures { λ r. ⌜ r ≤ at + 1024 ⌝ }
 {
@@ -52,7 +51,7 @@ fn columns_line(out: &mut [u8], at: usize, count: usize, marks: Columns) -> usiz
 }
 
 pub fn reply_line(out: &mut [u8], at: usize, reply: Reply, marks: Columns) -> usize
-    requires { ⌜ (at + 1024 ≤ length (now out)) × (columnCount reply ≤ 64) × (length (members marks) ≤ 64) ⌝ }
+    requires { ⌜ FewColumns (now out) at (columnCount reply) marks ⌝ }
     ensures { λ r. ⌜ Written (now (out .entry)) at (columnsLine (replyAnswer reply) marks) (now (out .exit)) r ⌝ }
     ensures { λ r. ⌜ r ≤ at + 1024 ⌝ }
 {
@@ -69,7 +68,7 @@ fn mark_of(alone: bool) -> u16
 }
 
 fn taps_line(out: &mut [u8], at: usize, size: usize, alone: bool, taps: &[u16]) -> usize
-    requires { ⌜ (at + 1024 ≤ length (now out)) × (size ≤ 128) × (length (now taps) ≤ 129) ⌝ }
+    requires { ⌜ FewTaps (now out) at size (now taps) ⌝ }
     ensures { λ r. ⌜ Written (now (out .entry)) at (registerLine (register size alone) (now (taps .entry))) (now (out .exit)) r ⌝ }
     ensures { λ r. ⌜ r ≤ at + 1024 ⌝ }
 {
@@ -80,7 +79,7 @@ fn taps_line(out: &mut [u8], at: usize, size: usize, alone: bool, taps: &[u16]) 
 }
 
 pub fn found_line(out: &mut [u8], at: usize, found: Found, taps: &[u16]) -> usize
-    requires { ⌜ (at + 1024 ≤ length (now out)) × (length (now taps) ≤ 129) × (tapCount found ≤ length (now taps)) ⌝ }
+    requires { ⌜ TapsHeld (now out) at found (now taps) ⌝ }
     ensures { λ r. ⌜ Written (now (out .entry)) at (foundLine found (now (taps .entry))) (now (out .exit)) r ⌝ }
     ensures { λ r. ⌜ r ≤ at + 1024 ⌝ }
 {

@@ -68,7 +68,8 @@ fn parts_line(
 // After three fields, one of them n, those that `count` counts and the symbols.
 fn counted_line(out: &mut [u8], at: usize, xs: &[u16], n: u16, count: u16) -> usize
     requires { ⌜ (at + 1024 ≤ length (now out)) × (3 ≤ length (now xs)) ⌝ }
-    ensures { λ r. ⌜ Written (now (out .entry)) at (outputOf (countedOf (ofKind (getD (now (xs .entry)) 0 0) n) count (now (xs .entry)))) (now (out .exit)) r ⌝ }
+    ensures { λ r. ⌜ Written (now (out .entry)) at (outputOf (countedOf (ofKind (getD (now (xs .entry)) 0 0) n) count (now (xs .entry))))
+        (now (out .exit)) r ⌝ }
     ensures { λ r. ⌜ r ≤ at + 1024 ⌝ }
 {
     let end = 3 + count as usize;

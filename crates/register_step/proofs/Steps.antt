@@ -15,7 +15,7 @@ use Rattle.register.proofs.Cases.{step-cases}
 use Rattle.register.specs.Algorithm4.{State, step, changed}
 use Rattle.register.specs.Register.{discrepancy}
 use Rattle.register.specs.Sequences.{symbol}
-use Rattle.register_step.specs.Progress.{stateOf, dueAt, Summable, Ended, Ready, Changeable, Stepped}
+use Rattle.register_step.specs.Progress.{stateOf, dueAt, Summable, InReach, Ended, Ready, Changeable, Stepped}
 use Rattle.register_step.specs.declared.Progress.{Progress}
 
 -- a discrepancy looks at the register's own taps only
@@ -57,9 +57,9 @@ module _ {p N : ℕ} {s : List ℕ} {n h : ℕ} {g : Progress} {taps saved : Lis
         symbols = ready .symbols;
       }
 
-  pub in-reach : (N ≤ 128) × (length s ≤ N) × (g .length ≤ n) × (n ≤ N)
+  pub in-reach : InReach N (g .length) n s
   unfolding stateOf
-  in-reach = (ready .longest, ready .shorter, ready .size, ready .round)
+  in-reach = record { longest = ready .longest; shorter = ready .shorter; size = ready .size; round = ready .round }
 
   module _ {d : ℕ} (due : d ≡ dueAt p N (g .length) taps s n) where
     abbrev asked : Type 0

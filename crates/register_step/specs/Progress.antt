@@ -63,6 +63,25 @@ pub record Summable (p m l : ℕ) (taps s : List ℕ) : Type 0 where
   pub residues : (i : ℕ) → i ≤ l → getD taps i 0 < p
   pub symbols : (i : ℕ) → i < length s → getD s i 0 < p
 
+-- the discrepancy of a register of length l at symbol j can be summed: the symbol has l symbols before it
+pub record Reaching (l j : ℕ) (s : List ℕ) : Type 0 where
+  pub short : l ≤ 128
+  pub after : l < j
+  pub inside : j ≤ length s
+
+-- round n is one of the N of a sequence s that is no longer, and the register's length l is within the round
+pub record InReach (N l n : ℕ) (s : List ℕ) : Type 0 where
+  pub longest : N ≤ 128
+  pub shorter : length s ≤ N
+  pub size : l ≤ n
+  pub round : n ≤ N
+
+-- the taps fill the part of the flat array that belongs to sequence h
+pub record Keepable (saved : List ℕ) (h : ℕ) (taps : List ℕ) : Type 0 where
+  pub saved-width : length saved ≡ 1032
+  pub width : length taps ≡ 129
+  pub sequence : h < 8
+
 -- what holds of the state when it is changed by a discrepancy d at (n, h)
 pub record Changeable (p n h d : ℕ) (st : State) : Type 0 where
   pub two-or-more : 2 ≤ p

@@ -2,10 +2,10 @@
 use crate::copy::copy;
 ghost use mathlib.Core.Path.{_≡_};
 ghost use mathlib.Core.List.{_++_};
-ghost use Prim.Native.Nat.{suc, _*_, _<_};
-ghost use lib.ListN.{length, take, drop};
+ghost use Prim.Native.Nat.{suc, _*_};
+ghost use lib.ListN.{take, drop};
 ghost use Rattle.field.specs.Coefficients.{reduced};
-ghost use Rattle.register_step.specs.Progress.{block, Reducible};
+ghost use Rattle.register_step.specs.Progress.{block, Reducible, Keepable};
 
 // All 129 taps less q·x^e·τ, τ being the m + 1 taps saved for sequence h. The ratio of q to p is worked out once, so that no tap needs a division.
 pub fn reduce(
@@ -35,7 +35,7 @@ pub fn reduce(
 
 // The taps become what is saved for sequence h.
 pub fn keep(saved: &mut [u16], h: usize, taps: &[u16])
-    requires { ⌜ (length (now saved) ≡ 1032) × (length (now taps) ≡ 129) × (h < 8) ⌝ }
+    requires { ⌜ Keepable (now saved) h (now taps) ⌝ }
     ensures { λ _. ⌜ now (saved .exit) ≡ take (h * 129) (now (saved .entry)) ++ (now (taps .entry) ++ drop 129 (drop (h * 129) (now (saved .entry)))) ⌝ }
 {
     let a = h * 129;

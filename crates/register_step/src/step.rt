@@ -5,15 +5,13 @@ use crate::discrepancy::discrepancy_at;
 use crate::reduce::keep;
 use crate::reduce::reduce;
 ghost use mathlib.Core.Path.{_≡_};
-ghost use Prim.Native.Nat.{_≤_};
-ghost use lib.ListN.{length};
 ghost use Rattle.register.specs.Algorithm4.{changed};
-ghost use Rattle.register_step.specs.Progress.{stateOf, dueAt, Summable, Ended, Changeable, Stepped, savedAfter};
+ghost use Rattle.register_step.specs.Progress.{stateOf, dueAt, Summable, InReach, Ended, Changeable, Stepped, savedAfter};
 
 // The discrepancy at (n, h) of a register of length l, s being sequence h, or 0 where nothing is asked for.
 pub fn due(p: u32, m: u64, longest: usize, l: usize, taps: &[u16; 129], s: &[u16], n: usize) -> u32
     requires { ⌜ Summable p m l (now taps) (now s) ⌝ }
-    requires { ⌜ (longest ≤ 128) × (length (now s) ≤ longest) × (l ≤ n) × (n ≤ longest) ⌝ }
+    requires { ⌜ InReach longest l n (now s) ⌝ }
     ensures { λ r. ⌜ r ≡ dueAt p longest l (now (taps .entry)) (now (s .entry)) n ⌝ }
 {
     let gap = longest - s.len();

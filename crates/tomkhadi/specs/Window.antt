@@ -18,6 +18,18 @@ pub record Inside (w : Window) (buffer : List ℕ) : Type 0 where
   pub within : w .end ≤ length buffer
   pub room : 65537 ≤ length buffer
 
+-- a turn can be made: the window lies in the buffer, the longest record's fields fit `scratch`, and a line fits `out`
+pub record Ready (w : Window) (buffer scratch out : List ℕ) : Type 0 where
+  pub inside : Inside w buffer
+  pub fields : 32768 ≤ length scratch
+  pub line : 1024 ≤ length out
+
+-- the lent arrays have room for the longest record, for its fields, and for a line
+pub record Roomy (buffer scratch out : List ℕ) : Type 0 where
+  pub bytes : 65537 ≤ length buffer
+  pub fields : 32768 ≤ length scratch
+  pub line : 1024 ≤ length out
+
 -- the window starts with less than a record claims, and the input may have more
 unfoldable pub isLacking : Window → (buffer : List ℕ) → Bool
 isLacking w buffer = w .more && ltb (w .end - w .start) (2 + claimedBy (unused w buffer))

@@ -6,14 +6,12 @@ use input::Window;
 use input::filled;
 use output::put_lines;
 ghost use mathlib.Core.Path.{_≡_};
-ghost use Prim.Native.Nat.{_≤_};
-ghost use lib.ListN.{length};
 ghost use Rattle.tomkhadi.specs.Turned.{Turned};
-ghost use Rattle.tomkhadi.specs.Window.{Inside, isOver};
+ghost use Rattle.tomkhadi.specs.Window.{Ready, Roomy, isOver};
 
 // Reads until the next line is due, and writes the lines that are due. So whoever sends a record and waits gets its line.
 fn turn(buffer: &mut [u8], w: Window, scratch: &mut [u16], out: &mut [u8]) -> Window
-    requires { ⌜ Inside w (now buffer) × (32768 ≤ length (now scratch)) × (1024 ≤ length (now out)) ⌝ }
+    requires { ⌜ Ready w (now buffer) (now scratch) (now out) ⌝ }
     ensures { λ r. ⌜ Turned (now (buffer .entry)) w (now (buffer .exit)) (now (out .exit)) r ⌝ }
 {
     let full = filled(buffer, w);
@@ -39,7 +37,7 @@ fn is_over(w: Window) -> bool
 
 // A loop has to end for its proof, so it counts its turns down, from a number that no run uses up.
 fn run(buffer: &mut [u8], scratch: &mut [u16], out: &mut [u8])
-    requires { ⌜ (65537 ≤ length (now buffer)) × (32768 ≤ length (now scratch)) × (1024 ≤ length (now out)) ⌝ }
+    requires { ⌜ Roomy (now buffer) (now scratch) (now out) ⌝ }
 {
     let mut w = Window {
         start: 0,

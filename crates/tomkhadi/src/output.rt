@@ -3,11 +3,9 @@ use crate::input::Window;
 use record::line::line;
 use record::parse::claimed;
 ghost use mathlib.Core.Path.{_≡_};
-ghost use Prim.Native.Nat.{_≤_};
-ghost use lib.ListN.{length};
 ghost use Rattle.lines.specs.Lines.{nextSize};
 ghost use Rattle.tomkhadi.specs.Lined.{Lined};
-ghost use Rattle.tomkhadi.specs.Window.{Inside};
+ghost use Rattle.tomkhadi.specs.Window.{Ready};
 
 // Where the lines that were put end, and where the bytes start that are still to be used.
 pub struct Put {
@@ -31,7 +29,7 @@ fn next_size(bytes: &[u8], more: bool) -> usize
 
 // The lines that are due, from the start of `out` on, as long as the next one is sure to fit.
 pub fn put_lines(buffer: &[u8], w: Window, scratch: &mut [u16], out: &mut [u8]) -> Put
-    requires { ⌜ Inside w (now buffer) × (32768 ≤ length (now scratch)) × (1024 ≤ length (now out)) ⌝ }
+    requires { ⌜ Ready w (now buffer) (now scratch) (now out) ⌝ }
     ensures { λ r. ⌜ Lined (now (buffer .entry)) w (now (out .exit)) r ⌝ }
 {
     let end = w.end;

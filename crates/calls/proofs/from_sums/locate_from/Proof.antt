@@ -38,7 +38,11 @@ slice-aggregate-shortest c = search needs
 shortest-requires : tie.Need-shortest-requires
 shortest-requires c κs =
     let start = c .before .before in
-    (start .pre .0, sized (c .before), lent-passed (start .args .s) (now (start .args .sums)) (start .pre .0) (start .pre .1) (eight start) (sized (c .before)))
+    record {
+      shape = start .pre .0;
+      width = sized (c .before);
+      accepted = lent-passed (start .args .s) (now (start .args .sums)) (start .pre .0) (start .pre .1) (eight start) (sized (c .before));
+    }
 
 enum-known-found : tie.Need-enum-known-found
 enum-known-found c = search needs

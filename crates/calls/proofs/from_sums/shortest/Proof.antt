@@ -30,7 +30,7 @@ part-synthesize-end : tie.Need-part-synthesize-end
 part-synthesize-end c =
     let s = c .before .before .before .before .before in
     let eight : length (s .args .s .checks) ≡ 8 = search needs in
-    let r = shape-ranges _ (s .pre .0) in
+    let r = shape-ranges _ (s .pre .shape) in
     omega arith
 
 sub-synthesize-2 : tie.Need-sub-synthesize-2
@@ -42,8 +42,8 @@ part-synthesize-start-2 c = search needs
 part-synthesize-end-2 : tie.Need-part-synthesize-end-2
 part-synthesize-end-2 c =
     let start = c .before .before .before .before .before .before in
-    let m = sums-most _ (start .pre .0) in
-    omega (arith, start .pre .1, c .before .before .sum-count .ensures)
+    let m = sums-most _ (start .pre .shape) in
+    omega (arith, start .pre .width, c .before .before .sum-count .ensures)
 
 -- what is lent to the finder is what the contract speaks of
 lengths : (s : Shape) → take (s .rows - 0) (s .checks) ≡ take (s .rows) (s .checks)
@@ -56,7 +56,7 @@ synthesize-requires : tie.Need-synthesize-requires
 synthesize-requires c κs =
     let counted = c .before .before .before .before in
     let start = start-of counted in
-    rw (lengths (start .args .s), symbols (now (start .args .sums)) _ _ (counted .sum-count .ensures)) (start .pre .2)
+    rw (lengths (start .args .s), symbols (now (start .args .sums)) _ _ (counted .sum-count .ensures)) (start .pre .accepted)
 
 same-length : tie.Need-same-length
 same-length c = search needs

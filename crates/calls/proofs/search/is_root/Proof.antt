@@ -19,7 +19,7 @@ returns : tie.Need-returns
 returns c =
     let a = c .before .before .args in
     ap (λ (v : ℕ). eqb v 0)
-    (c .value-at .ensures .0 ∙ ap (value 257 (now (a .taps))) (sym (inverse-power (a .i) (c .before .before .pre .2))))
+    (c .value-at .ensures .0 ∙ ap (value 257 (now (a .taps))) (sym (inverse-power (a .i) (c .before .before .pre .column))))
 
 pub is-root-spec : {M : Type 1} → statement M
 is-root-spec = tie.close (tie.spec sub-value-at value-at-requires returns)

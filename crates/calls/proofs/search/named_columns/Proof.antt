@@ -18,7 +18,7 @@ empty-requires : tie.Need-empty-requires Inv-loop μ-loop
 empty-requires c κs = search needs
 
 returns : tie.Need-returns Inv-loop μ-loop
-returns c = let s = c .before .before .before in c .before .empty .ensures ∙ names-none _ (s .args .s) (c .if1 .taken) (s .pre .2)
+returns c = let s = c .before .before .before in c .before .empty .ensures ∙ names-none _ (s .args .s) (c .if1 .taken) (s .pre .first)
 
 powers-requires : tie.Need-powers-requires Inv-loop μ-loop
 powers-requires c κs = search needs
@@ -27,7 +27,7 @@ loop-holds : tie.Need-loop-holds Inv-loop μ-loop
 loop-holds c = (omega arith, c .before .before .empty .ensures ∙ search-none _)
 
 is-root-requires : tie.Need-is-root-requires Inv-loop μ-loop
-is-root-requires c κs = let s = c .before .before .before in (s .powers .ensures, s .before .before .before .before .pre .1, omega arith)
+is-root-requires c κs = let s = c .before .before .before in record { tabled = s .powers .ensures; few = s .before .before .before .before .pre .few; column = omega arith }
 
 with-requires : tie.Need-with-requires Inv-loop μ-loop
 with-requires c κs = omega arith

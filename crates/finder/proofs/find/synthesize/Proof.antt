@@ -38,7 +38,7 @@ array-write-sigma c = search needs
 start-requires : tie.Need-start-requires
 start-requires c κs =
     let r = running (accepted _ _ _ _ (start-of c .pre)) (c .before .longest .ensures) (c .by-length .ensures) in
-    (r .longest, r .count, r .shorter)
+    record { longest = r .longest; count = r .count; shorter = r .shorter }
 
 rounds-requires : tie.Need-rounds-requires
 rounds-requires c κs =
@@ -86,7 +86,7 @@ alone-requires c κs =
     let taken = accepted _ _ _ _ (start-of sorted .pre) in
     let r = running taken (sorted .before .longest .ensures) (sorted .by-length .ensures) in
     let size = size-within taken (sorted .before .longest .ensures) (sorted .by-length .ensures) (ran .rounds .ensures) in
-    (r .longest, r .count, size, r .shorter)
+    record { longest = r .longest; count = r .count; size = size; shorter = r .shorter }
 
 same-length : tie.Need-same-length
 same-length c = search needs

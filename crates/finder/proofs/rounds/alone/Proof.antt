@@ -70,7 +70,7 @@ returns c =
     let at = looped .loop in
     let args = looped .before .args in
     let pre = looped .before .pre in
-    mark-fails (args .longest) (args .t2) (args .t4) (at .h) _ (pre .2) (pre .3 (at .h) (search needs)) (c .before .smaller .ensures)
+    mark-fails (args .longest) (args .t2) (args .t4) (at .h) _ (pre .size) (pre .shorter (at .h) (search needs)) (c .before .smaller .ensures)
     (args .count) (search needs) (c .if1 .taken)
 
 add-h : tie.Need-add-h Inv-loop μ-loop
@@ -86,7 +86,7 @@ loop-again c =
     let args = looped .before .args in
     let pre = looped .before .pre in (
       search needs,
-      mark-more (args .longest) (args .t2) (args .t4) (at .h) _ (pre .2) (pre .3 (at .h) (search needs)) (c .before .smaller .ensures)
+      mark-more (args .longest) (args .t2) (args .t4) (at .h) _ (pre .size) (pre .shorter (at .h) (search needs)) (c .before .smaller .ensures)
           (at .inv .1) (c .if1 .left),
     )
 

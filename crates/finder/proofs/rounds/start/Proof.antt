@@ -28,7 +28,7 @@ element-copy-out-g : tie.Need-element-copy-out-g Inv-loop μ-loop
 element-copy-out-g c = search needs
 
 sub-g : tie.Need-sub-g Inv-loop μ-loop
-sub-g c = c .before .before .before .pre .2 (c .before .before .loop .h) (search needs)
+sub-g c = c .before .before .before .pre .shorter (c .before .before .loop .h) (search needs)
 
 mul-g-2 : tie.Need-mul-g-2 Inv-loop μ-loop
 mul-g-2 c = search needs

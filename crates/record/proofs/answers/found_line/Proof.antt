@@ -21,7 +21,7 @@ add-end : tie.Need-add-end
 add-end c = omega (
   arith,
   count-found (c .before .before .before .before .before .args .found) _ _ (c .before .found2 .given .1) _
-      (c .before .before .before .before .before .pre .2),
+      (c .before .before .before .before .before .pre .held),
 )
 
 sub-taps-line : tie.Need-sub-taps-line
@@ -34,21 +34,23 @@ part-taps-line-end : tie.Need-part-taps-line-end
 part-taps-line-end c = omega (
   arith,
   count-found (c .before .before .before .before .before .before .args .found) _ _
-      (c .before .before .found2 .given .1) _ (c .before .before .before .before .before .before .pre .2),
+      (c .before .before .found2 .given .1) _ (c .before .before .before .before .before .before .pre .held),
 )
 
 taps-line-requires : tie.Need-taps-line-requires
 taps-line-requires c κs =
     let fits = count-found (c .before .before .before .before .before .before .before .args .found) _ _ (c .before .before .before .found2 .given .1) _
-    (c .before .before .before .before .before .before .before .pre .2) in (
-      search needs,
-      omega arith,
-      omega (
-        arith,
-        length-take (c .before .before .before .found2 .given .0 .0 + 1 - 0)
-            (c .before .before .before .before .before .before .before .args .taps .now),
-      ),
-    )
+    (c .before .before .before .before .before .before .before .pre .held) in
+    record {
+      room = search needs;
+      short = omega arith;
+      few =
+          omega (
+            arith,
+            length-take (c .before .before .before .found2 .given .0 .0 + 1 - 0)
+                (c .before .before .before .before .before .before .before .args .taps .now),
+          );
+    }
 
 same-length : tie.Need-same-length
 same-length c = search needs

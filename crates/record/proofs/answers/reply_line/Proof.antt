@@ -17,7 +17,11 @@ enum-known-reply-2 c = search needs
 columns-line-requires : tie.Need-columns-line-requires
 columns-line-requires c κs =
     let start = c .before .before .before .before .before in
-    (search needs, count-replied (start .args .reply) (start .args .marks) _ (c .before .before .reply2 .given .1) _ (start .pre .1), start .pre .2)
+    record {
+      room = search needs;
+      few = count-replied (start .args .reply) (start .args .marks) _ (c .before .before .reply2 .given .1) _ (start .pre .few);
+      few-marks = start .pre .few-marks;
+    }
 
 same-length : tie.Need-same-length
 same-length c = search needs

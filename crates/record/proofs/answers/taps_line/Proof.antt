@@ -35,11 +35,12 @@ same-length c = search needs
 returns : tie.Need-returns
 unfolding registerLine
 returns c =
-    let head = c .before .before .before .before .before .before .before .before .before .before .before .before .before .before .before .put-head .ensures in
+    let headed = c .before .before .before .before .before .before .before .before .before .before .before .before .before .before .before in
+    let head = headed .put-head .ensures in
     let mark = c .before .before .before .before .before .before .before .before .before .before .put-number .ensures in
     let taps = c .before .before .before .before .before .before .put-numbers .ensures in
     let byte = c .before .before .put-byte .ensures in
-    let given = c .before .before .before .before .before .before .before .before .before .before .before .before .before .before .before .before .before .before .before .args in (
+    let given = headed .before .before .before .before .args in (
       written-as _ _ _ _ _ _ (ap (λ (k : ℕ). line 82 (given .size ∷ k ∷ given .taps .now))
           (c .before .before .before .before .before .before .before .before .before .before .before .mark-of .ensures))
           (line-end _ _ _ _ _ _ (omega arith)

@@ -39,7 +39,8 @@ same-length-2 c = search needs
 returns-2 : tie.Need-returns-2
 returns-2 c =
     let line = c .before .before .counted-line .ensures in
-    (written-as _ _ _ _ _ _ (ap outputOf (body-sequences (c .before .before .before .before .before .before .before .before .before .before .before .args .xs .now) (search needs))) (line .0), line .1)
+    let xs = c .before .before .before .before .before .before .before .before .before .before .before .args .xs .now in
+    (written-as _ _ _ _ _ _ (ap outputOf (body-sequences xs (search needs))) (line .0), line .1)
 
 shared-slice-read-if3 : tie.Need-shared-slice-read-if3
 shared-slice-read-if3 c = search needs
@@ -59,7 +60,8 @@ same-length-3 c = search needs
 returns-3 : tie.Need-returns-3
 returns-3 c =
     let line = c .before .before .counted-line2 .ensures in
-    (written-as _ _ _ _ _ _ (ap outputOf (body-frame (c .before .before .before .before .before .before .before .before .before .before .before .before .before .args .xs .now) (search needs))) (line .0), line .1)
+    let xs = c .before .before .before .before .before .before .before .before .before .before .before .before .before .args .xs .now in
+    (written-as _ _ _ _ _ _ (ap outputOf (body-frame xs (search needs))) (line .0), line .1)
 
 refusal-line-requires-2 : tie.Need-refusal-line-requires-2
 refusal-line-requires-2 c κs = search needs

@@ -38,7 +38,7 @@ locate-requires c κs = search needs
 reply-line-requires : tie.Need-reply-line-requires
 reply-line-requires c κs =
     let few = few-marks _ _ _ (c .before .locate .result) (c .before .locate .ensures noArrays) in
-    (search needs, few .0, few .1)
+    record { room = search needs; few = few .0; few-marks = few .1 }
 
 same-length-2 : tie.Need-same-length-2
 same-length-2 c = search needs

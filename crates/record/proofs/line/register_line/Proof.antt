@@ -18,12 +18,12 @@ slice-aggregate-found-line c = search needs
 
 found-line-requires : tie.Need-found-line-requires
 found-line-requires c κs =
-    let found = c .before .before .before .find in (
-      search needs,
-      omega (arith, found .kept .1 .1 .1 .0),
-      found-taps _ _ _ _ _ refl (found .kept .1 .1 .1 .0) (found .ensures .leaves) (found .result)
-          (found .ensures .answers),
-    )
+    let found = c .before .before .before .find in
+    record {
+      room = search needs;
+      few = omega (arith, found .kept .1 .1 .1 .0);
+      held = found-taps _ _ _ _ _ refl (found .kept .1 .1 .1 .0) (found .ensures .leaves) (found .result) (found .ensures .answers);
+    }
 
 same-length : tie.Need-same-length
 same-length c = search needs

@@ -22,7 +22,7 @@ discrepancy-at-requires c κs = search needs
 returns-2 : tie.Need-returns-2
 returns-2 c =
     let at = c .before in
-    is-due _ _ _ _ _ (at .before .before .pre .1 .1) (at .if1 .left) (c .discrepancy-at .ensures)
+    is-due _ _ _ _ _ (at .before .before .pre .1 .shorter) (at .if1 .left) (c .discrepancy-at .ensures)
 
 pub due-spec : {M : Type 1} → statement M
 due-spec = tie.close (tie.spec sub-gap add-if1 returns sub-discrepancy-at discrepancy-at-requires returns-2)

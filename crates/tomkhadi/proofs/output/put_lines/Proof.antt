@@ -26,10 +26,10 @@ start-of c = c .before .before .before .before .before .before .before .before
 
 within-of : (c : tie.Else1 Inv-loop μ-loop) → c .before .before .before .before .loop .start + c .before .next-size .result ≤ start-of c .args .w .end
 within-of c =
-    next-within _ _ _ _ (start-of c .pre .0 .within) _ _ _ (c .before .before .before .before .loop .inv .0) _ (c .before .next-size .ensures)
+    next-within _ _ _ _ (start-of c .pre .inside .within) _ _ _ (c .before .before .before .before .loop .inv .0) _ (c .before .next-size .ensures)
 
 loop-holds : tie.Need-loop-holds Inv-loop μ-loop
-loop-holds c = (putting-none _ _ _ _ _ (c .before .before .before .pre .0 .ordered), refl, refl)
+loop-holds c = (putting-none _ _ _ _ _ (c .before .before .before .pre .inside .ordered), refl, refl)
 
 sub-loop : tie.Need-sub-loop Inv-loop μ-loop
 sub-loop c = search needs
@@ -71,8 +71,8 @@ loop-again c =
     let line = c .before .before .before .before .line in
     let (now, scratch, out) = at .loop .inv in
     let start = at .before .before .before .before in (
-      putting-more _ _ _ _ (start .pre .0 .within) _ _ _ now _ (one .before .next-size .ensures) (let n = one .if1 .left in omega arith) _ _ (line .ensures .0)
-          (let room = line .ensures .1 .0 in let wide = start .pre .2 in search needs),
+      putting-more _ _ _ _ (start .pre .inside .within) _ _ _ now _ (one .before .next-size .ensures) (let n = one .if1 .left in omega arith) _ _ (line .ensures .0)
+          (let room = line .ensures .1 .0 in let wide = start .pre .line in search needs),
       line .kept .1 .0 ∙ scratch,
       line .kept .1 .1 .0 ∙ out,
     )
@@ -86,7 +86,7 @@ same-length-2 c = c .before .loop .inv .2
 returns : tie.Need-returns Inv-loop μ-loop
 returns c =
     let (now, scratch, out) = c .before .loop .inv in
-    let room = c .before .before .before .before .before .pre .2 in
+    let room = c .before .before .before .before .before .pre .line in
     stopped _ _ _ _ _ now (inr (omega arith))
 
 same-length-3 : tie.Need-same-length-3 Inv-loop μ-loop
@@ -101,7 +101,7 @@ returns-2 c =
     let start = at .before .before .before .before in
     let (now, scratch, out) = at .loop .inv in
     stopped _ _ _ _ _ now
-    (inl (due-none _ _ _ _ (start .pre .0 .within) _ _ _ now _ (c .before .next-size .ensures) (c .if1 .taken)))
+    (inl (due-none _ _ _ _ (start .pre .inside .within) _ _ _ now _ (c .before .next-size .ensures) (c .if1 .taken)))
 
 pub put-lines-spec : {M : Type 1} → statement M
 put-lines-spec =
