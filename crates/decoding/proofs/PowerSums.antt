@@ -18,7 +18,8 @@ use Rattle.decoding.specs.Locating.{sizeOf, tapsOf, aloneOf, named, name
 use Rattle.decoding.proofs.ColumnRoots.{Roots, roots-at-most, roots-same, locator-of, locator-of-degree, locator-of-constant, locator-of-roots}
 use Rattle.decoding.proofs.NamedColumns.{columns-distinct, columns-nonzero, root-named, names-at-most, names-all}
 use Rattle.decoding.proofs.Recurrence.{powerSum, roots-generate, generates-roots}
-use Rattle.decoding.proofs.RegisterPolynomial.{poly257, Symbols, register-degree, register-constant, register-same, generates-products, polynomial-generator}
+use Rattle.decoding.proofs.RegisterPolynomial.{poly257, Symbols, register-degree, register-constant, register-same}
+use Rattle.decoding.proofs.RegisterPolynomial.{generates-products, polynomial-generator}
 use Rattle.decoding.proofs.SequenceRegister.{register-of, generator-of, same-size, alone-marked}
 use Rattle.field.proofs.Polynomials.{coefficients, poly-coefficients}
 use Rattle.field.proofs.Prime257.{prime-257}

@@ -9,7 +9,6 @@ use lib.Dec.{leb}
 use lib.ListN.{length, getD, take, drop}
 use lib.Seq.{length-take-le}
 use Rattle.lists.proofs.Totals.{total-bound}
-use Rattle.lists.specs.Total.{total}
 use Rattle.lists.proofs.Tabulated.{every-ext}
 use Rattle.refusal.proofs.Outcomes.{given-passed}
 use Rattle.refusal.specs.Outcome.{passed, outcome}

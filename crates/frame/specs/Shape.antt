@@ -6,6 +6,7 @@ use lib.Dec.{leb, ltb}
 use lib.ListN.{length, getD, replicate}
 use Rattle.lists.specs.Tabulate.{every}
 use Rattle.refusal.specs.Order.{Test}
+use Rattle.refusal.specs.Range.{inRange}
 use Rattle.frame.specs.declared.Shape.{Shape}
 
 -- the number N_h of checks of row h
@@ -18,10 +19,10 @@ shapeOf n checks = record { rows = length checks; columns = n; checks = checks +
 
 -- the rows, columns and check counts of a shape are in range
 unfoldable pub rowsInRange : ℕ → Bool
-rowsInRange rows = leb 1 rows && leb rows 8
+rowsInRange rows = inRange 1 8 rows
 
 unfoldable pub columnsInRange : ℕ → Bool
-columnsInRange n = leb 2 n && leb n 256
+columnsInRange n = inRange 2 256 n
 
 unfoldable pub checksInRange : (n rows : ℕ) (checks : List ℕ) → Bool
 checksInRange n rows checks =

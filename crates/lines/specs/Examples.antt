@@ -63,7 +63,10 @@ table =
       text = 69 ∷ 32 ∷ 50 ∷ 54 ∷ 10 ∷ [];
     } ∷
     -- p = 65521, the sequence 1 300: fields of two bytes, and a number of five digits
-    record { bytes = 12 ∷ 0 ∷ 1 ∷ 0 ∷ 241 ∷ 255 ∷ 1 ∷ 0 ∷ 2 ∷ 0 ∷ 1 ∷ 0 ∷ 44 ∷ 1 ∷ []; text = 82 ∷ 32 ∷ 49 ∷ 32 ∷ 49 ∷ 32 ∷ 49 ∷ 32 ∷ 54 ∷ 53 ∷ 50 ∷ 50 ∷ 49 ∷ 10 ∷ [] } ∷
+    record {
+      bytes = 12 ∷ 0 ∷ 1 ∷ 0 ∷ 241 ∷ 255 ∷ 1 ∷ 0 ∷ 2 ∷ 0 ∷ 1 ∷ 0 ∷ 44 ∷ 1 ∷ [];
+      text = 82 ∷ 32 ∷ 49 ∷ 32 ∷ 49 ∷ 32 ∷ 49 ∷ 32 ∷ 54 ∷ 53 ∷ 50 ∷ 50 ∷ 49 ∷ 10 ∷ [];
+    } ∷
     -- p = 4
     record { bytes = 10 ∷ 0 ∷ 1 ∷ 0 ∷ 4 ∷ 0 ∷ 1 ∷ 0 ∷ 1 ∷ 0 ∷ 0 ∷ 0 ∷ []; text = 69 ∷ 32 ∷ 49 ∷ 10 ∷ [] } ∷
     -- no columns: refusals of the shape come before those of the frame

@@ -7,20 +7,21 @@ use native.Mathlib.Decide.{decLt}
 use native.Mathlib.Omega.{arith}
 use borrow.Author.Tests.{leb-true, le-leb}
 use lib.Dec.{leb}
+use Rattle.refusal.specs.Range.{inRange}
 use Rattle.refusal.proofs.Orders.{Says, says-not}
 
 pub outside-says : (k lo hi n : ℕ)
-    → Says (record { number = k; fails = not (leb lo n && leb n hi) }) (record { number = k; holds = (n < lo) ⊎ (hi < n) })
-outside-says k lo hi n = says-not k (leb lo n && leb n hi) ((n < lo) ⊎ (hi < n)) never (λ e. pick e (decLt n lo) (decLt hi n))
+    → Says (record { number = k; fails = not (inRange lo hi n) }) (record { number = k; holds = (n < lo) ⊎ (hi < n) })
+outside-says k lo hi n = says-not k (inRange lo hi n) ((n < lo) ⊎ (hi < n)) never (λ e. pick e (decLt n lo) (decLt hi n))
   where
-    never : (leb lo n && leb n hi) ≡ true → (n < lo) ⊎ (hi < n) → ⊥
+    never : inRange lo hi n ≡ true → (n < lo) ⊎ (hi < n) → ⊥
     never e o = let (l, h) = and-eq-true-iff (leb lo n) (leb n hi) .0 e in off (leb-true lo n l) (leb-true n hi h) o
       where
         off : lo ≤ n → n ≤ hi → (n < lo) ⊎ (hi < n) → ⊥
         off a b (inl c) = omega arith
         off a b (inr c) = omega arith
 
-    pick : (leb lo n && leb n hi) ≡ false → Dec (n < lo) → Dec (hi < n) → (n < lo) ⊎ (hi < n)
+    pick : inRange lo hi n ≡ false → Dec (n < lo) → Dec (hi < n) → (n < lo) ⊎ (hi < n)
     pick e (yes l) d = inl l
     pick e (no l) (yes h) = inr h
     pick e (no l) (no h) =

@@ -8,10 +8,11 @@ use Rattle.field.specs.Prime.{isModulus}
 use Rattle.lists.specs.Tabulate.{every}
 use Rattle.lists.specs.Total.{total}
 use Rattle.refusal.specs.Order.{Test}
+use Rattle.refusal.specs.Range.{inRange}
 use Rattle.register.specs.Sequences.{largest}
 
 abbrev pub isCounted : (count : ℕ) → Bool
-isCounted count = leb 1 count && leb count 8
+isCounted count = inRange 1 8 count
 
 abbrev pub isShort : (lengths : List ℕ) → Bool
 isShort lengths = every (length lengths) (λ h. leb (getD lengths h 0) 128)

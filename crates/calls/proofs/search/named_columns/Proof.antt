@@ -27,7 +27,9 @@ loop-holds : tie.Need-loop-holds Inv-loop μ-loop
 loop-holds c = (omega arith, c .before .before .empty .ensures ∙ search-none _)
 
 is-root-requires : tie.Need-is-root-requires Inv-loop μ-loop
-is-root-requires c κs = let s = c .before .before .before in record { tabled = s .powers .ensures; few = s .before .before .before .before .pre .few; column = omega arith }
+is-root-requires c κs =
+    let s = c .before .before .before in
+    record { tabled = s .powers .ensures; few = s .before .before .before .before .pre .few; column = omega arith }
 
 with-requires : tie.Need-with-requires Inv-loop μ-loop
 with-requires c κs = omega arith

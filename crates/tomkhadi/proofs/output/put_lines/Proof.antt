@@ -71,8 +71,8 @@ loop-again c =
     let line = c .before .before .before .before .line in
     let (now, scratch, out) = at .loop .inv in
     let start = at .before .before .before .before in (
-      putting-more _ _ _ _ (start .pre .inside .within) _ _ _ now _ (one .before .next-size .ensures) (let n = one .if1 .left in omega arith) _ _ (line .ensures .0)
-          (let room = line .ensures .1 .0 in let wide = start .pre .line in search needs),
+      putting-more _ _ _ _ (start .pre .inside .within) _ _ _ now _ (one .before .next-size .ensures) (let n = one .if1 .left in omega arith) _ _
+          (line .ensures .0) (let room = line .ensures .1 .0 in let wide = start .pre .line in search needs),
       line .kept .1 .0 ∙ scratch,
       line .kept .1 .1 .0 ∙ out,
     )
