@@ -12,7 +12,7 @@ pub record Triable (powers taps : List ℕ) (i : ℕ) : Type 0 where
   pub few : length taps ≤ 256
   pub column : i ≤ 256
 
--- the columns can be searched: there are at most 256, as there are taps, and the first tap is 1
+-- the columns can be searched: there are at most 256 columns and at most 256 taps, and the first tap is 1
 pub record Searchable (s : Shape) (taps : List ℕ) : Type 0 where
   pub columns : s .columns ≤ 256
   pub few : length taps ≤ 256

@@ -27,13 +27,13 @@ abbrev pub columnCount : Reply → ℕ
 columnCount (Count c) = c
 columnCount (Reply.Refused k) = 0
 
--- a line of columns fits after `at`: it has room for 1024 bytes, and neither the number of columns nor the columns are more than 64
+-- a line of columns fits after `at`: there is room for 1024 bytes, and neither the number of columns nor the columns are more than 64
 pub record FewColumns (out : List ℕ) (at count : ℕ) (marks : Columns) : Type 0 where
   pub room : at + 1024 ≤ length out
   pub few : count ≤ 64
   pub few-marks : length (members marks) ≤ 64
 
--- a line of a register fits after `at`: its length is 128 at most, and its taps are 129 at most
+-- a line of a register fits after `at`: there is room for 1024 bytes, its length is 128 at most, and its taps are 129 at most
 pub record FewTaps (out : List ℕ) (at size : ℕ) (taps : List ℕ) : Type 0 where
   pub room : at + 1024 ≤ length out
   pub short : size ≤ 128

@@ -63,13 +63,13 @@ pub record Summable (p m l : ℕ) (taps s : List ℕ) : Type 0 where
   pub residues : (i : ℕ) → i ≤ l → getD taps i 0 < p
   pub symbols : (i : ℕ) → i < length s → getD s i 0 < p
 
--- the discrepancy of a register of length l at symbol j can be summed: the symbol has l symbols before it
+-- the discrepancy of a register of length l at symbol j can be summed: at least l symbols stand before it
 pub record Reaching (l j : ℕ) (s : List ℕ) : Type 0 where
   pub short : l ≤ 128
   pub after : l < j
   pub inside : j ≤ length s
 
--- round n is one of the N of a sequence s that is no longer, and the register's length l is within the round
+-- round n is one of the N rounds, N being 128 at most: the sequence s is no longer than N, and the register, of length l, no longer than n
 pub record InReach (N l n : ℕ) (s : List ℕ) : Type 0 where
   pub longest : N ≤ 128
   pub shorter : length s ≤ N
