@@ -11,7 +11,9 @@ same-length : tie.Need-same-length
 same-length c = search needs
 
 returns : tie.Need-returns
-returns c = c .before .before .before .before .repair .ensures (arraysOf (c .before .before .before .before .before .before .before .before .before .before .args .j))
+returns c =
+    let repaired = c .before .before .before .before in
+    repaired .repair .ensures (arraysOf (repaired .before .before .before .before .before .before .args .j))
 
 pub repair-spec : {M : Type 1} → statement M
 repair-spec = tie.close (tie.spec repair-requires same-length returns)
