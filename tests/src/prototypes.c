@@ -1,5 +1,5 @@
 /* Calls every function of the header through a pointer of the type that is promised, so that a prototype with another type does not compile. No two arguments
- * of a call can change places without another answer. The frame is that of examples/c/repair.c; its check sums and taps were worked out by hand.
+ * of a call can change places without another answer. The frame is that of examples/c/repair.c; its check sums and taps were worked out apart from the library.
  * tests/run builds and runs it. */
 #include <stdio.h>
 
