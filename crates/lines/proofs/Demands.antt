@@ -276,5 +276,5 @@ module _ (r : List ℕ) (one : OfOneRecord r) where
   unknown : UnknownKind r → lineOf r ≡ refusalLine 9
   unknown u = bad-said r (bad-exactly r one .1 (inr (inr (inl u))))
 
-records : Records
+pub records : Records
 records = record { one-line = one-line; bad-exactly = bad-exactly; unknown = unknown; registers = registers; frames = frames }

@@ -6,7 +6,7 @@ use mathlib.Core.List.{List, [], _∷_, _++_, append-assoc, append-nil}
 use Prim.Native.Nat.{ℕ}
 use Rattle.lists.specs.Tabulate.{joined}
 use Rattle.lines.specs.Lines.{restOf, wholeLines, textOf}
-use Rattle.lines.specs.Runs.{Turn, Step, Turns, cameIn, handedIn, Runs, SoFar, AtAnyTurn}
+use Rattle.lines.specs.Runs.{Turn, Step, Turns, cameIn, handedIn, Runs, AtAnyTurn}
 use Rattle.lines.proofs.NextLine.{no-input}
 use Rattle.lines.proofs.Streams.{pieces, rest-of-pieces, last-piece}
 
@@ -17,6 +17,11 @@ turns-on [] x more y still (e, d) s t =
     let after : Turn x more (s .came) (s .handed) (s .left) (s .still) = rw (e, d) t in
     (after, (refl, refl))
 turns-on (r ∷ ss) x more y still (u, l) s t = (u, turns-on ss (r .left) (r .still) y still l s t)
+
+pub handed-on : (ss : List Step) (s : Step) → handedIn (ss ++ (s ∷ [])) ≡ handedIn ss ++ s .handed
+unfolding joined
+handed-on [] s = append-nil (s .handed)
+handed-on (r ∷ ss) s = ap (λ (t : List ℕ). r .handed ++ t) (handed-on ss s) ∙ sym (append-assoc (r .handed) (handedIn ss) (s .handed))
 
 -- after the end of the input nothing comes, and it stays ended
 none-comes : (ss : List Step) (x y : List ℕ) (still : Bool) → Turns x false ss y still → (cameIn ss ≡ []) × (still ≡ false)

@@ -33,7 +33,7 @@ length-said : (w z : List ℕ) → 2 ≤ length w → fieldOf (w ++ z) 0 ≡ fie
 unfolding fieldOf
 length-said w z h = ap₂ (λ (a b : ℕ). a + 256 * b) (List·getD-append w z 0 0 (omega arith)) (List·getD-append w z 0 1 (omega arith))
 
-length-kept : (n : ℕ) (x : List ℕ) → 2 ≤ n → fieldOf (take n x) 0 ≡ fieldOf x 0
+pub length-kept : (n : ℕ) (x : List ℕ) → 2 ≤ n → fieldOf (take n x) 0 ≡ fieldOf x 0
 unfolding fieldOf
 length-kept n x h = ap₂ (λ (a b : ℕ). a + 256 * b) (getD-take n x 0 0 (omega arith)) (getD-take n x 1 0 (omega arith))
 

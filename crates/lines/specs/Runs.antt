@@ -41,8 +41,8 @@ handedIn ss = joined (map (λ s. s .handed) ss)
 abbrev pub Runs : Type 0
 Runs = (ss : List Step) → Run [] true ss → handedIn ss ≡ linesOf (cameIn ss)
 
--- What holds of turns from nothing wherever they have come to: the text of all that came is what is handed over, and then what is to be written for the bytes that
--- are left; and none of a record that is not all there is lost while more may come.
+-- What holds of turns from nothing wherever they have come to: the text of all that came is what is handed over, and then what is to be written for the bytes
+-- that are left; and none of a record that is not all there is lost while more may come.
 pub record SoFar (ss : List Step) (y : List ℕ) (still : Bool) : Type 0 where
   pub lines : textOf still (cameIn ss) ≡ handedIn ss ++ textOf still y
   pub rest : still ≡ true → restOf (cameIn ss) ≡ restOf y
