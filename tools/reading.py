@@ -264,7 +264,7 @@ ENTRY_POINTS = [
 ]
 
 # What the program does with the bytes that it is given. Its callers meet what these ask for.
-PROGRAM = ["record::line::line", "tomkhadi::input::filled", "tomkhadi::output::put_lines", "tomkhadi::turn"]
+PROGRAM = ["record::line::line", "tomkhadi::input::filled", "tomkhadi::output::put_lines", "tomkhadi::turn", "tomkhadi::run"]
 
 
 # Spec files that state a demand, or a part of one, and that the rule below does not find.

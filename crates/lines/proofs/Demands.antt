@@ -1,22 +1,20 @@
 -- Records and lines as they are owed: the line of a record is that of the first refusal of its whole order, and where there is none it shows what the call
 -- answered.
 use mathlib.Core.Path.{_≡_, refl, sym, ap, subst, subst⁻¹, _∙_}
-use mathlib.Core.Logic.{_⊎_, inl, inr, _↔_}
-use mathlib.Core.Bool.{Bool, true, false, false≢true}
-use mathlib.Core.List.{List, [], _∷_, _++_, append-nil}
-use Prim.Native.Nat.{ℕ, suc, _^_, _<_}
+use mathlib.Core.Logic.{_⊎_, inl, inr}
+use mathlib.Core.Bool.{Bool, true, false≢true}
+use mathlib.Core.List.{List, [], _∷_, _++_}
+use Prim.Native.Nat.{ℕ, _^_, _<_}
 use native.Mathlib.Omega.{arith}
-use lib.ListN.{length, take, replicate, length-replicate}
-use Rattle.columns.specs.Columns.{members}
+use lib.ListN.{length, replicate, length-replicate}
 use Rattle.finder.specs.Demands as Finder
-use Rattle.finder.specs.Finder.{Answer, register, refused, answer, tapsLeft}
+use Rattle.finder.specs.Finder.{Answer, register, refused, answer}
 use Rattle.sequences.specs.Tests.{tests}
 use Rattle.finder.proofs.Demands as Finder·Demands
 use Rattle.finder.proofs.Demands.{first-left}
 use Rattle.finder.proofs.Reasons.{finder-says}
-use Rattle.record.specs.Line.{markOf, refusalLine, registerLine, columnsLine, frameLine, outputOf, lineOf}
+use Rattle.record.specs.Line.{refusalLine, registerLine, columnsLine, frameLine, outputOf, lineOf}
 use Rattle.record.specs.Record.{bad, recordOf, sequences, frame}
-use Rattle.record.specs.Text.{line}
 use Rattle.record.proofs.Parsing.{bad-line}
 use Rattle.reader.specs.Fields.{fieldOf}
 use Rattle.frame.specs.Demands.{shapeReasons, frameReasons}
@@ -24,13 +22,10 @@ use Rattle.frame.specs.Frame.{heldSums, heldSequences, frameTests}
 use Rattle.frame.specs.Shape.{isShape, shapeOf, shapeTests}
 use Rattle.frame.specs.declared.Shape.{Shape}
 use Rattle.frame.proofs.Reasons.{shape-says, frame-says, shape-passes}
-use Rattle.decoding.specs.Locating.{sizeOf}
 use Rattle.job.specs.Calls as Calls
 use Rattle.job.specs.Calls.{Outcome, shape, locate, step, shapes, registerTests}
-use Rattle.job.specs.Job.{Job, emptyJob, shapedJob, noArrays, sound, headSound, phaseSound}
+use Rattle.job.specs.Job.{Job, emptyJob, shapedJob, noArrays, headSound, phaseSound}
 use Rattle.job.specs.Refusals.{emptyReason, registerReasons}
-use Rattle.job.specs.declared.Phase.{Phase}
-use Rattle.job.specs.declared.Phase.the-variants.{Empty, Shaped}
 use Rattle.job.proofs.Cases.{by-call}
 use Rattle.job.proofs.Reasons.{shaping-says}
 use Rattle.job.proofs.Refusals as Refusals
@@ -39,13 +34,13 @@ use Rattle.refusal.specs.Order.{Reason, First, None}
 use Rattle.register.specs.Algorithm4.{found, foundAlone}
 use Rattle.register.specs.EachRound.{IsShortest}
 use Rattle.register.specs.Sequences.{longest, split}
-use Rattle.lines.specs.Demands.{kindOf, OfOneRecord, Bad, UnknownKind, badReason, Line, IsLine, Records}
+use Rattle.lines.specs.Demands.{kindOf, OfOneRecord, UnknownKind, badReason, Line, IsLine, Records}
 use Rattle.lines.specs.Demands.{lengthsOf, sequenceSymbols, registerReasonsOf, ShowsRegister}
 use Rattle.lines.specs.Demands.{checkCountsOf, frameSymbols, frameReasonsOf, ShowsColumns}
 use Rattle.refusal.proofs.Firsts.{first-same, first-or-none, first-before, first-after, none-append, none-in-turn, Below, first-below}
 use Rattle.lines.proofs.Newlines.{line-is-one, refusal-is-one}
 use Rattle.record.proofs.Numbers.{tells-number, other-letter}
-use Rattle.lines.proofs.Parsed.{SaysSequences, SaysFrame, Told, told, sequences-not-bad, frame-not-bad, bad-exactly}
+use Rattle.lines.proofs.Parsed.{Told, told, sequences-not-bad, frame-not-bad, bad-exactly}
 
 -- ---- a line by its reasons
 
@@ -276,5 +271,5 @@ module _ (r : List ℕ) (one : OfOneRecord r) where
   unknown : UnknownKind r → lineOf r ≡ refusalLine 9
   unknown u = bad-said r (bad-exactly r one .1 (inr (inr (inl u))))
 
-records : Records
+pub records : Records
 records = record { one-line = one-line; bad-exactly = bad-exactly; unknown = unknown; registers = registers; frames = frames }

@@ -1,4 +1,5 @@
 pub mod Demands
+pub mod Due
 pub mod Examples
 pub mod NextLine
 pub mod Newlines

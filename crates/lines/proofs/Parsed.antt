@@ -1,25 +1,24 @@
 -- A record is bad exactly for one of its five reasons; the others say sequences or a frame, by the places of their fields.
 use mathlib.Core.Path.{_≡_, refl, sym, ap, ap₂, _∙_}
 use mathlib.Core.Logic.{_⊎_, inl, inr, _↔_}
-use mathlib.Core.Bool.{Bool, true, false, cond, _&&_, and-eq-true-iff, false≢true}
+use mathlib.Core.Bool.{Bool, true, false, cond, _&&_}
 use mathlib.Core.List.{List}
-use Prim.Native.Nat.{ℕ, suc, _+_, _-_, _*_, _/_, _%_, _≤_, _<_}
+use Prim.Native.Nat.{ℕ, _+_, _-_, _*_, _/_, _%_, _≤_, _<_}
 use native.Mathlib.Decide.{decLt, ℕ-discrete}
 use native.Mathlib.Omega.{arith}
-use lib.Dec.{leb, eqb}
 use lib.ListN.{length, getD, take, drop, length-drop}
 use lib.Seq.{getD-drop}
-use borrow.Author.Tests.{le-leb, eq-eqb, ne-eqb, leb-true, eqb-true}
+use borrow.Author.Tests.{le-leb, eq-eqb, ne-eqb}
 use Rattle.lists.proofs.Filling.{take-tabulate}
 use Rattle.lists.proofs.Tabulated.{length-tabulate, getD-tabulate, tabulate-ext, tabulate-getD}
 use Rattle.lists.specs.Tabulate.{tabulate}
 use Rattle.reader.specs.Fields.{fieldOf, fieldsOf}
-use Rattle.record.specs.Record.{Record, bad, sequences, frame, claimedBy, isWhole, countedOf, bodyOf, recordOf}
+use Rattle.record.specs.Record.{bad, sequences, frame, claimedBy, isWhole, countedOf, bodyOf, recordOf}
 use Rattle.record.proofs.Parsing.{short-claim, odd-claim, counted-short, body-short, body-unknown}
 use Rattle.lines.specs.Demands.{sizeOf, kindOf, fieldsFrom, OfOneRecord, UnknownKind, Bad}
 use Rattle.lines.specs.Demands.{lengthsOf, sequenceSymbols, checkCountsOf, frameSymbols}
-use Rattle.lines.specs.Streams.{IsWhole, EndsInside}
-use Rattle.lines.proofs.Streams.{claimed-said, claimed-nothing, not-all}
+use Rattle.lines.specs.Streams.{IsWhole}
+use Rattle.lines.proofs.Streams.{claimed-said, not-all}
 
 field-after : (r : List ℕ) (k : ℕ) → fieldOf (drop 2 r) k ≡ fieldOf r (1 + k)
 unfolding fieldOf

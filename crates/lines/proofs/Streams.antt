@@ -1,14 +1,14 @@
 -- There is one way to cut an input into whole records and a rest, so that what is cut piece by piece is what is cut at once; and the line of a rest.
 use mathlib.Core.Path.{_≡_, refl, sym, ap, ap₂, _∙_}
-use mathlib.Core.Logic.{_⊎_, inl, inr}
+use mathlib.Core.Logic.{inl, inr}
 use mathlib.Core.Bool.{Bool, true, false, cond, _&&_, false≢true}
-use mathlib.Core.List.{List, [], _∷_, _++_, map, append-assoc, append-nil}
+use mathlib.Core.List.{List, [], _∷_, _++_, append-assoc, append-nil}
 use Prim.Native.Nat.{ℕ, zero, suc, _+_, _*_, _%_, _≤_, _<_}
 use native.Mathlib.Nat.{le-refl}
 use native.Mathlib.Decide.{decLt}
 use native.Mathlib.Omega.{arith}
 use lib.Dec.{leb, eqb}
-use lib.ListN.{length, take, drop, getD, length-append, length-drop, take-append-drop, List·getD-append}
+use lib.ListN.{length, take, drop, length-append, length-drop, take-append-drop, List·getD-append}
 use lib.Seq.{length-take-le, take-at, drop-at, getD-take}
 use borrow.Author.Tests.{le-leb, lt-leb, leb-true, leb-false, ne-eqb}
 use Rattle.lists.specs.Tabulate.{joined}
@@ -33,7 +33,7 @@ length-said : (w z : List ℕ) → 2 ≤ length w → fieldOf (w ++ z) 0 ≡ fie
 unfolding fieldOf
 length-said w z h = ap₂ (λ (a b : ℕ). a + 256 * b) (List·getD-append w z 0 0 (omega arith)) (List·getD-append w z 0 1 (omega arith))
 
-length-kept : (n : ℕ) (x : List ℕ) → 2 ≤ n → fieldOf (take n x) 0 ≡ fieldOf x 0
+pub length-kept : (n : ℕ) (x : List ℕ) → 2 ≤ n → fieldOf (take n x) 0 ≡ fieldOf x 0
 unfolding fieldOf
 length-kept n x h = ap₂ (λ (a b : ℕ). a + 256 * b) (getD-take n x 0 0 (omega arith)) (getD-take n x 1 0 (omega arith))
 

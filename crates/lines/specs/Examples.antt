@@ -1,6 +1,6 @@
 -- Bytes of an input and the text that the program writes for them, as one table. `written` makes the text anew by `linesOf`; the theorem, in
 -- proofs/Examples.antt, is that the table stays as it is.
-use mathlib.Core.List.{List, [], _∷_, map}
+use mathlib.Core.List.{List, [], _∷_}
 use Prim.Native.Nat.{ℕ}
 use Rattle.lines.specs.Lines.{linesOf}
 

@@ -1,13 +1,13 @@
 -- The digits of a number read back are the number, so that the line of a refusal tells its number; and lines of other letters are not of refusals.
 use mathlib.Core.Path.{_≡_, refl, sym, ap, _∙_}
 use mathlib.Core.List.{List, [], _∷_, _++_}
-use Prim.Native.Nat.{ℕ, zero, suc, _+_, _-_, _*_, _/_, _%_, _^_, _≤_, _<_}
+use Prim.Native.Nat.{ℕ, zero, suc, _+_, _-_, _*_, _/_, _%_, _^_, _<_}
 use native.Mathlib.Nat.{pow-suc}
 use native.Mathlib.Decide.{decLt}
 use native.Mathlib.Omega.{arith}
 use lib.ListN.{drop, getD}
 use Rattle.record.specs.Line.{refusalLine}
-use Rattle.record.specs.Text.{decimal, spaced, line}
+use Rattle.record.specs.Text.{decimal, line}
 use Rattle.record.proofs.Digits.{decimal-small, decimal-large, spaced-one}
 
 -- the number that digits make after those that made n

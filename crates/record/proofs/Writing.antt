@@ -19,6 +19,10 @@ module _ (l : List ℕ) (at : ℕ) where
   pub written-as : (s t m : List ℕ) (e : ℕ) → s ≡ t → Written l at s m e → Written l at t m e
   written-as s t m e p w = subst (λ (x : List ℕ). Written l at x m e) p w
 
+  -- the line of another text that is the same
+  pub line-as : (s t m : List ℕ) (e : ℕ) → s ≡ t → Written l at s m e × (e ≤ at + 1024) → Written l at t m e × (e ≤ at + 1024)
+  line-as s t m e p (w, short) = (written-as s t m e p w, short)
+
   -- what stands before the end of a text, and what stands after it
   module _ (s m : List ℕ) (e : ℕ) (w : Written l at s m e) (fits : e ≤ length l) where
     head-length : length (take at l ++ s) ≡ e

@@ -1,2 +1,4 @@
 pub mod Filling
 pub mod Putting
+pub mod Running
+pub mod Turning

@@ -1,12 +1,12 @@
 -- Lines put one after another for the bytes of a window: none yet, one more, and where it stops.
-use mathlib.Core.Path.{_≡_, refl, sym, ap, ap₂, subst, _∙_}
-use mathlib.Core.Logic.{_⊎_, inl, inr}
+use mathlib.Core.Path.{_≡_, refl, sym, ap, ap₂, _∙_}
+use mathlib.Core.Logic.{_⊎_}
 use mathlib.Core.Bool.{Bool, true, false, cond}
-use mathlib.Core.List.{List, [], _∷_, _++_, append-assoc}
+use mathlib.Core.List.{List, [], _++_, append-assoc}
 use Prim.Native.Nat.{ℕ, _+_, _-_, _≤_, _<_}
 use native.Mathlib.Omega.{arith}
 use lib.Dec.{leb}
-use lib.ListN.{length, take, drop, length-take, length-drop, take-append-drop, drop-of-length-le}
+use lib.ListN.{length, take, drop, length-drop}
 use lib.Seq.{length-take-le, take-take, take-add, drop-drop, drop-at}
 use borrow.Author.Tests.{le-leb, lt-leb}
 use Rattle.record.specs.Line.{lineOf}
@@ -16,10 +16,7 @@ use Rattle.record.proofs.Writing.{before-end, same-length}
 use Rattle.lines.specs.Lines.{startsWhole, restOf, textOf, nextSize}
 use Rattle.lines.proofs.NextLine.{next-fits, next-line, next-kept, none-due}
 use Rattle.tomkhadi.specs.Lined.{Lined}
-use Rattle.tomkhadi.specs.Turned.{Turned}
-use Rattle.tomkhadi.specs.Window.{unused, Filled}
 use Rattle.tomkhadi.specs.declared.input.Window.{Window}
-use Rattle.tomkhadi.specs.declared.output.Put.{Put}
 
 -- ---- the size of the next record, by the tests
 
@@ -119,34 +116,3 @@ module _ (buffer : List ℕ) (w : Window) (out : List ℕ) (start used : ℕ) (n
       → Lined buffer w out (record { start = start; used = used })
   stopped stop =
       record { after = now .after; within = now .within; fits = now .fits; lines = now .lines; rest = now .rest; stops = stop }
-
--- ---- a turn: the window is filled, and the lines that are due are put
-
-module _ (before : List ℕ) (w : Window) (after : List ℕ) (full : Window) (f : Filled before w after full) (out : List ℕ) (put : Put)
-    (l : Lined after full out put) where
-  pub turned : Turned before w after out (record { start = put .start; end = full .end; more = full .more })
-  turned =
-      let i = f .inside in
-      record {
-        inside = record { ordered = l .within; within = i .within; room = i .room };
-        came = drop (w .end - w .start) (unused full after);
-        used = put .used;
-        fits = l .fits;
-        turn =
-            record {
-              lines = ap (textOf (full .more)) joins ∙ l .lines;
-              rest = λ t. ap restOf joins ∙ l .rest t;
-              ended = λ e. (ap (drop (w .end - w .start)) (f .ended e .1) ∙ none-left, f .ended e .0);
-            };
-        stops = l .stops;
-      }
-    where
-      none-left : drop (w .end - w .start) (unused w before) ≡ []
-      none-left =
-          let few : length (unused w before) ≤ w .end - w .start = omega (arith, length-take (w .end - w .start) (drop (w .start) before)) in
-          drop-of-length-le (unused w before) few
-
-      joins : unused w before ++ drop (w .end - w .start) (unused full after) ≡ unused full after
-      joins =
-          ap (λ (x : List ℕ). x ++ drop (w .end - w .start) (unused full after)) (sym (f .kept)) ∙
-          take-append-drop (w .end - w .start) (unused full after)

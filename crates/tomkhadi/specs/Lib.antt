@@ -1,3 +1,4 @@
 pub mod Lined
+pub mod Ran
 pub mod Turned
 pub mod Window

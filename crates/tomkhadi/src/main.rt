@@ -6,6 +6,7 @@ use input::Window;
 use input::filled;
 use output::put_lines;
 ghost use mathlib.Core.Path.{_≡_};
+ghost use Rattle.tomkhadi.specs.Ran.{Ran};
 ghost use Rattle.tomkhadi.specs.Turned.{Turned};
 ghost use Rattle.tomkhadi.specs.Window.{Ready, Roomy, isOver};
 
@@ -35,9 +36,10 @@ fn is_over(w: Window) -> bool
     w.start == w.end
 }
 
-// A loop has to end for its proof, so it counts its turns down, from a number that no run uses up.
-fn run(buffer: &mut [u8], scratch: &mut [u16], out: &mut [u8])
+// Turns until it is over. A loop has to end for its proof, so it counts its turns down, from a number that no run uses up.
+fn run(buffer: &mut [u8], scratch: &mut [u16], out: &mut [u8]) -> Window
     requires { ⌜ Roomy (now buffer) (now scratch) (now out) ⌝ }
+    ensures { λ r. ⌜ Ran (now (buffer .exit)) r ⌝ }
 {
     let mut w = Window {
         start: 0,
@@ -52,6 +54,7 @@ fn run(buffer: &mut [u8], scratch: &mut [u16], out: &mut [u8])
         }
         turns -= 1;
     }
+    w
 }
 
 fn main() {

@@ -9,6 +9,10 @@ use Rattle.reader.proofs.Handed.{value-handed, end-handed}
 use Rattle.reader.proofs.field_at.Statement.{statement}
 use Rattle.reader.proofs.field_at.Tie as tie
 
+-- from where a byte is there back to the start
+abbrev start-of : tie.Else1 → tie.Start
+start-of c = c .before .before
+
 returns : tie.Need-returns
 returns c =
     let start = c .before .before in
@@ -19,7 +23,7 @@ add-high c = search needs
 
 returns-2 : tie.Need-returns-2
 returns-2 c =
-    let start = c .before .before .before in
+    let start = start-of (c .before) in
     end-handed (now (start .args .s)) (start .args .at) (omega arith)
 
 shared-slice-read-wide : tie.Need-shared-slice-read-wide
@@ -42,7 +46,7 @@ add-t13 c = search needs
 
 returns-3 : tie.Need-returns-3
 returns-3 c =
-    let start = c .before .before .before .before .before .before .before in
+    let start = start-of (c .before .before .before .before .before) in
     ap₂ (λ (l h : ℕ). Value (l + 256 * h)) (c .before .before .wide .ensures .0) (c .wide2 .ensures .0)
     ∙ value-handed (now (start .args .s)) (start .args .at) (omega arith)
 

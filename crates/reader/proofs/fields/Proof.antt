@@ -18,6 +18,9 @@ Inv-loop s out₀ k₀ out k =
 abbrev μ-loop : tie.MeasureT-loop
 μ-loop s out₀ k₀ out k = length out₀ - k
 
+abbrev start-of : tie.At-loop Inv-loop μ-loop → tie.Start Inv-loop μ-loop
+start-of c = c .before .before .before
+
 loop-holds : tie.Need-loop-holds Inv-loop μ-loop
 loop-holds c = (omega arith, omega arith, refl, filled-none _ _)
 
@@ -35,9 +38,9 @@ same-length c = search needs
 
 returns : tie.Need-returns Inv-loop μ-loop
 returns c =
-    let start = c .before .before .before .before .before .before .before in
-    let at = c .before .before .before .before .loop in
-    let ended = end-means (now (start .args .s)) (at .k) (sym (c .enum-told .given .1) ∙ c .before .before .nth .ensures) in
+    let began = c .before .before .before .before in
+    let at = began .loop in
+    let ended = end-means (now (start-of began .args .s)) (at .k) (sym (c .enum-told .given .1) ∙ c .before .before .nth .ensures) in
     (omega arith, at .inv .3)
 
 mul-out : tie.Need-mul-out Inv-loop μ-loop
@@ -54,9 +57,9 @@ loop-less c = omega arith
 
 loop-again : tie.Need-loop-again Inv-loop μ-loop
 loop-again c =
-    let start = c .before .before .before .before .before .before .before .before in
-    let at = c .before .before .before .before .before .loop in
-    let handed = value-means (now (start .args .s)) (at .k) (c .before .v .given .0 .0)
+    let began = c .before .before .before .before .before in
+    let at = began .loop in
+    let handed = value-means (now (start-of began .args .s)) (at .k) (c .before .v .given .0 .0)
     (sym (c .before .v .given .1) ∙ c .before .before .before .nth .ensures) in
     (omega arith, omega arith, search needs, filled-more _ _ (at .out) (at .k) _ (handed .0) (handed .1) (omega arith) (at .inv .3))
 

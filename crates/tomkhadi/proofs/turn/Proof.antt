@@ -1,6 +1,7 @@
 -- `tomkhadi::turn` meets its contract.
-use Rattle.tomkhadi.proofs.Putting.{turned}
+use native.Mathlib.Omega.{arith}
 use borrow.Author.Needs.{needs}
+use Rattle.tomkhadi.proofs.Turning.{turned}
 use Rattle.tomkhadi.proofs.turn.Statement.{statement}
 use Rattle.tomkhadi.proofs.turn.Tie as tie
 
@@ -38,7 +39,7 @@ same-length-3 : tie.Need-same-length-3
 same-length-3 c = search needs
 
 returns : tie.Need-returns
-returns c = turned _ _ _ (filled-by c .filled .result) (filled-by c .filled .ensures) _ _ (put-by c .put-lines .ensures)
+returns c = turned _ _ _ (filled-by c .filled .result) (filled-by c .filled .ensures) _ _ (put-by c .put-lines .ensures) (omega arith)
 
 pub turn-spec : {M : Type 1} → statement M
 turn-spec =

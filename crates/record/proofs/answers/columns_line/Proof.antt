@@ -6,6 +6,13 @@ use Rattle.record.proofs.Lines.{line-more, line-end}
 use Rattle.record.proofs.answers.columns_line.Statement.{statement}
 use Rattle.record.proofs.answers.columns_line.Tie as tie
 
+-- from the end back to where the columns were put, and the head before them
+abbrev columns-put : tie.After-slice-known4 → tie.After-put-columns
+columns-put c = c .before .before .before .before .before .before
+
+abbrev head-put : tie.After-slice-known4 → tie.After-put-head
+head-put c = columns-put c .before .before .before .before
+
 cast-put-head : tie.Need-cast-put-head
 cast-put-head c = search needs
 
@@ -24,8 +31,8 @@ same-length c = search needs
 returns : tie.Need-returns
 unfolding columnsLine
 returns c =
-    let head = c .before .before .before .before .before .before .before .before .before .before .put-head .ensures in
-    let columns = c .before .before .before .before .before .before .put-columns .ensures in
+    let head = head-put c .put-head .ensures in
+    let columns = columns-put c .put-columns .ensures in
     let byte = c .before .before .put-byte .ensures in (
       line-end _ _ _ _ _ _ (omega arith) (line-more _ _ _ _ _ _ (omega arith) (head .0) _ _ _ (columns .0)) _ _ byte,
       omega (arith, byte .place),

@@ -1,12 +1,19 @@
 -- `record::answers::found_line` meets its contract.
-use Prim.Native.Nat.{_+_, _-_}
+use Prim.Native.Nat.{_+_, _-_, _≤_}
 use native.Mathlib.Omega.{arith}
 use borrow.Author.Needs.{needs}
-use lib.ListN.{length-take}
+use lib.ListN.{length, length-take}
 use Rattle.record.proofs.Registers.{refusal-found, register-found, count-found}
-use Rattle.record.proofs.Writing.{written-as}
+use Rattle.record.proofs.Writing.{line-as}
 use Rattle.record.proofs.answers.found_line.Statement.{statement}
 use Rattle.record.proofs.answers.found_line.Tie as tie
+
+-- from a register that was found back to the start, where the buffer holds all its taps
+abbrev start-of : tie.After-known-told2 → tie.Start
+start-of c = c .before .before .before .before .before
+
+taps-held : (c : tie.After-known-told2) → c .before .found2 .given .0 .0 + 1 ≤ length (start-of c .args .taps .now)
+taps-held c = count-found (start-of c .args .found) _ _ (c .before .found2 .given .1) _ (start-of c .pre .held)
 
 enum-known-found : tie.Need-enum-known-found
 enum-known-found c = search needs
@@ -18,11 +25,7 @@ enum-known-found-2 : tie.Need-enum-known-found-2
 enum-known-found-2 c = search needs
 
 add-end : tie.Need-add-end
-add-end c = omega (
-  arith,
-  count-found (c .before .before .before .before .before .args .found) _ _ (c .before .found2 .given .1) _
-      (c .before .before .before .before .before .pre .held),
-)
+add-end c = omega (arith, taps-held c)
 
 sub-taps-line : tie.Need-sub-taps-line
 sub-taps-line c = search needs
@@ -31,25 +34,16 @@ part-taps-line-start : tie.Need-part-taps-line-start
 part-taps-line-start c = search needs
 
 part-taps-line-end : tie.Need-part-taps-line-end
-part-taps-line-end c = omega (
-  arith,
-  count-found (c .before .before .before .before .before .before .args .found) _ _
-      (c .before .before .found2 .given .1) _ (c .before .before .before .before .before .before .pre .held),
-)
+part-taps-line-end c = omega (arith, taps-held (c .before))
 
 taps-line-requires : tie.Need-taps-line-requires
 taps-line-requires c κs =
-    let fits = count-found (c .before .before .before .before .before .before .before .args .found) _ _ (c .before .before .before .found2 .given .1) _
-    (c .before .before .before .before .before .before .before .pre .held) in
+    let known = c .before .before in
+    let fits = taps-held known in
     record {
       room = search needs;
       short = omega arith;
-      few =
-          omega (
-            arith,
-            length-take (c .before .before .before .found2 .given .0 .0 + 1 - 0)
-                (c .before .before .before .before .before .before .before .args .taps .now),
-          );
+      few = omega (arith, length-take (known .before .found2 .given .0 .0 + 1 - 0) (start-of known .args .taps .now));
     }
 
 same-length : tie.Need-same-length
@@ -57,16 +51,14 @@ same-length c = search needs
 
 returns : tie.Need-returns
 returns c =
-    let line = c .before .before .refusal-line .ensures in
-    (written-as _ _ _ _ _ _ (refusal-found _ _ _ (c .before .before .before .before .before .found .given .1)) (line .0), line .1)
+    line-as _ _ _ _ _ _ (refusal-found _ _ _ (c .before .before .before .before .before .found .given .1)) (c .before .before .refusal-line .ensures)
 
 same-length-2 : tie.Need-same-length-2
 same-length-2 c = search needs
 
 returns-2 : tie.Need-returns-2
 returns-2 c =
-    let line = c .before .before .taps-line .ensures in
-    (written-as _ _ _ _ _ _ (register-found _ _ _ (c .before .before .before .before .before .before .found2 .given .1) _) (line .0), line .1)
+    line-as _ _ _ _ _ _ (register-found _ _ _ (c .before .before .before .before .before .before .found2 .given .1) _) (c .before .before .taps-line .ensures)
 
 pub found-line-spec : {M : Type 1} → statement M
 found-line-spec =

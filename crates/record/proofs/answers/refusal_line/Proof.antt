@@ -11,6 +11,10 @@ use Rattle.record.proofs.Writing.{written-as}
 use Rattle.record.proofs.answers.refusal_line.Statement.{statement}
 use Rattle.record.proofs.answers.refusal_line.Tie as tie
 
+-- from the end back to where the head was put
+abbrev head-put : tie.After-slice-known3 → tie.After-put-head
+head-put c = c .before .before .before .before .before .before
+
 number-of-requires : tie.Need-number-of-requires
 number-of-requires c κs = search needs
 
@@ -29,9 +33,9 @@ same-length c = search needs
 returns : tie.Need-returns
 unfolding refusalLine
 returns c =
-    let head = c .before .before .before .before .before .before .put-head .ensures in
+    let head = head-put c .put-head .ensures in
     let byte = c .before .before .put-byte .ensures in (
-      written-as _ _ _ _ _ _ (ap (λ (k : ℕ). line 69 (k ∷ [])) (c .before .before .before .before .before .before .before .number-of .ensures))
+      written-as _ _ _ _ _ _ (ap (λ (k : ℕ). line 69 (k ∷ [])) (head-put c .before .number-of .ensures))
           (line-end _ _ _ _ _ _ (omega arith) (head .0) _ _ byte),
       omega (arith, byte .place, head .1),
     )

@@ -1,9 +1,16 @@
 -- `record::answers::reply_line` meets its contract.
 use borrow.Author.Needs.{needs}
 use Rattle.record.proofs.Frames.{refusal-replied, columns-replied, count-replied}
-use Rattle.record.proofs.Writing.{written-as}
+use Rattle.record.proofs.Writing.{line-as}
 use Rattle.record.proofs.answers.reply_line.Statement.{statement}
 use Rattle.record.proofs.answers.reply_line.Tie as tie
+
+-- from the line of a refusal, and from that of columns, back to what the reply was seen to be
+abbrev refused : tie.After-slice-known2 → tie.After-reply
+refused c = c .before .before .before .before .before
+
+abbrev counted : tie.After-slice-known3 → tie.After-reply2
+counted c = c .before .before .before .before .before
 
 enum-known-reply : tie.Need-enum-known-reply
 enum-known-reply c = search needs
@@ -28,22 +35,16 @@ same-length c = search needs
 
 returns : tie.Need-returns
 returns c =
-    let line = c .before .before .refusal-line .ensures in (
-      written-as _ _ _ _ _ _ (refusal-replied (c .before .before .before .before .before .before .before .before .args .reply) _ _
-          (c .before .before .before .before .before .reply .given .1)) (line .0),
-      line .1,
-    )
+    let start = refused c .before .before .before in
+    line-as _ _ _ _ _ _ (refusal-replied (start .args .reply) _ _ (refused c .reply .given .1)) (c .before .before .refusal-line .ensures)
 
 same-length-2 : tie.Need-same-length-2
 same-length-2 c = search needs
 
 returns-2 : tie.Need-returns-2
 returns-2 c =
-    let line = c .before .before .columns-line .ensures in (
-      written-as _ _ _ _ _ _ (columns-replied (c .before .before .before .before .before .before .before .before .args .reply) _ _
-          (c .before .before .before .before .before .reply2 .given .1)) (line .0),
-      line .1,
-    )
+    let start = counted c .before .before .before in
+    line-as _ _ _ _ _ _ (columns-replied (start .args .reply) _ _ (counted c .reply2 .given .1)) (c .before .before .columns-line .ensures)
 
 pub reply-line-spec : {M : Type 1} → statement M
 reply-line-spec =

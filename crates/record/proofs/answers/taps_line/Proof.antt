@@ -11,6 +11,16 @@ use Rattle.record.proofs.Writing.{written-as}
 use Rattle.record.proofs.answers.taps_line.Statement.{statement}
 use Rattle.record.proofs.answers.taps_line.Tie as tie
 
+-- from the end back to where the taps were put, the mark before them, and the head
+abbrev taps-put : tie.After-slice-known5 → tie.After-put-numbers
+taps-put c = c .before .before .before .before .before .before
+
+abbrev mark-put : tie.After-slice-known5 → tie.After-put-number
+mark-put c = taps-put c .before .before .before .before
+
+abbrev head-put : tie.After-slice-known5 → tie.After-put-head
+head-put c = mark-put c .before .before .before .before .before
+
 cast-put-head : tie.Need-cast-put-head
 cast-put-head c = search needs
 
@@ -35,14 +45,12 @@ same-length c = search needs
 returns : tie.Need-returns
 unfolding registerLine
 returns c =
-    let headed = c .before .before .before .before .before .before .before .before .before .before .before .before .before .before .before in
-    let head = headed .put-head .ensures in
-    let mark = c .before .before .before .before .before .before .before .before .before .before .put-number .ensures in
-    let taps = c .before .before .before .before .before .before .put-numbers .ensures in
+    let head = head-put c .put-head .ensures in
+    let mark = mark-put c .put-number .ensures in
+    let taps = taps-put c .put-numbers .ensures in
     let byte = c .before .before .put-byte .ensures in
-    let given = headed .before .before .before .before .args in (
-      written-as _ _ _ _ _ _ (ap (λ (k : ℕ). line 82 (given .size ∷ k ∷ given .taps .now))
-          (c .before .before .before .before .before .before .before .before .before .before .before .mark-of .ensures))
+    let given = head-put c .before .before .before .before .args in (
+      written-as _ _ _ _ _ _ (ap (λ (k : ℕ). line 82 (given .size ∷ k ∷ given .taps .now)) (mark-put c .before .mark-of .ensures))
           (line-end _ _ _ _ _ _ (omega arith)
           (line-more _ _ _ _ _ _ (omega arith) (line-more _ _ _ _ _ _ (omega arith) (head .0) _ _ _ (mark .0)) _ _ _ (taps .0)) _ _ byte),
       omega (arith, byte .place),

@@ -4,9 +4,16 @@ use native.Mathlib.Omega.{arith}
 use borrow.Author.Needs.{needs}
 use Rattle.record.specs.Line.{outputOf}
 use Rattle.record.proofs.Parsing.{bad-line, counted-short, counted-said}
-use Rattle.record.proofs.Writing.{written-as}
+use Rattle.record.proofs.Writing.{line-as}
 use Rattle.record.proofs.line.counted_line.Statement.{statement}
 use Rattle.record.proofs.line.counted_line.Tie as tie
+
+-- from the line of a record that is too short, and from that of another, back to the test
+abbrev too-short : tie.After-slice-known2 → tie.Then1
+too-short c = c .before .before .before .before
+
+abbrev parts-of : tie.After-slice-known3 → tie.After-parts-line-arg
+parts-of c = c .before .before .before .before .before .before
 
 add-end : tie.Need-add-end
 add-end c = search needs
@@ -19,11 +26,8 @@ same-length c = search needs
 
 returns : tie.Need-returns
 returns c =
-    let line = c .before .before .refusal-line .ensures in (
-      written-as _ _ _ _ _ _ (bad-line _ (counted-short (c .before .before .before .before .before .before .before .args .xs .now) _ _ (omega arith)))
-          (line .0),
-      line .1,
-    )
+    let start = too-short c .before .before .before in
+    line-as _ _ _ _ _ _ (bad-line _ (counted-short (start .args .xs .now) _ _ (omega arith))) (c .before .before .refusal-line .ensures)
 
 shared-slice-read-parts-line : tie.Need-shared-slice-read-parts-line
 shared-slice-read-parts-line c = search needs
@@ -57,11 +61,8 @@ same-length-2 c = search needs
 
 returns-2 : tie.Need-returns-2
 returns-2 c =
-    let line = c .before .before .parts-line .ensures in (
-      written-as _ _ _ _ _ _ (ap outputOf (counted-said (c .before .before .before .before .before .before .before .before .before .before .args .xs .now) _
-          _ (omega arith))) (line .0),
-      line .1,
-    )
+    let start = parts-of c .before .before .before .before in
+    line-as _ _ _ _ _ _ (ap outputOf (counted-said (start .args .xs .now) _ _ (omega arith))) (c .before .before .parts-line .ensures)
 
 pub counted-line-spec : {M : Type 1} → statement M
 counted-line-spec =

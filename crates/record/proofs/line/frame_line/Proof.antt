@@ -2,7 +2,7 @@
 use borrow.Author.Needs.{needs}
 use Rattle.job.specs.Job.{noArrays}
 use Rattle.record.proofs.Frames.{few-marks, frame-refused, frame-located}
-use Rattle.record.proofs.Writing.{written-as}
+use Rattle.record.proofs.Writing.{line-as}
 use Rattle.record.proofs.line.frame_line.Statement.{statement}
 use Rattle.record.proofs.line.frame_line.Tie as tie
 
@@ -23,11 +23,10 @@ same-length c = search needs
 
 returns : tie.Need-returns
 returns c =
-    let line = c .before .before .refusal-line .ensures in
     let checked = c .before .before .before .before .before in
     let shaped = checked .before .before in
     let refused = frame-refused _ _ _ _ (shaped .before .empty .ensures) (shaped .shape .result) (shaped .shape .ensures) _ (checked .checked .given .1) in
-    (written-as _ _ _ _ _ _ refused (line .0), line .1)
+    line-as _ _ _ _ _ _ refused (c .before .before .refusal-line .ensures)
 
 enum-told : tie.Need-enum-told
 enum-told c = search needs
@@ -45,7 +44,6 @@ same-length-2 c = search needs
 
 returns-2 : tie.Need-returns-2
 returns-2 c =
-    let line = c .before .before .reply-line .ensures in
     let located = c .before .before .before .before in
     let passed = located .before .before .before in
     let shaped = passed .before .before in
@@ -53,7 +51,7 @@ returns-2 c =
     frame-located _ _ _ _ (shaped .before .empty .ensures) (shaped .shape .result) (shaped .shape .ensures) (located .locate .result) _
     (passed .enum-told .given .1)
     (located .locate .ensures noArrays) in
-    (written-as _ _ _ _ _ _ same (line .0), line .1)
+    line-as _ _ _ _ _ _ same (c .before .before .reply-line .ensures)
 
 pub frame-line-spec : {M : Type 1} → statement M
 frame-line-spec =

@@ -6,6 +6,13 @@ use Rattle.record.proofs.Writing.{written-as}
 use Rattle.record.proofs.line.line.Statement.{statement}
 use Rattle.record.proofs.line.line.Tie as tie
 
+-- from the line of a whole record back to where its fields were lent on, and to where they were read
+abbrev fields-lent : tie.After-slice-known5 → tie.After-body-line-arg
+fields-lent c = c .before .before .before .before .before
+
+abbrev fields-read : tie.After-slice-known5 → tie.After-fields
+fields-read c = fields-lent c .before .before .before
+
 whole-requires : tie.Need-whole-requires
 whole-requires c κs = search needs
 
@@ -58,13 +65,12 @@ same-length-3 c = search needs
 returns-2 : tie.Need-returns-2
 returns-2 c =
     let line = c .before .before .body-line .ensures in
-    let read = c .before .before .before .before .before .before .before .before in
-    let tested = read .before .before .before in
+    let tested = fields-read c .before .before .before in
     let start = tested .before .before .before .before .before in
     let good = not-false _ (tested .if1 .left) in
     let bytes = start .args .bytes .now in
     let whole = tested .before .whole .ensures in
-    let fields = read .fields .ensures in (
+    let fields = fields-read c .fields .ensures in (
       written-as _ _ _ _ _ _ (whole-line bytes _ (whole .0) good (whole .1 good .1) _ _ _ (start .pre .0) (fields .0) (fields .1)) (line .0),
       (line .1, whole-left bytes _ (whole .0) good (whole .1 good .1) _ _ _ (start .pre .0) (fields .0) (fields .1)),
     )

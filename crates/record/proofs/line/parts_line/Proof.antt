@@ -3,9 +3,16 @@ use mathlib.Core.Path.{ap}
 use borrow.Author.Needs.{needs}
 use Rattle.record.specs.Line.{outputOf}
 use Rattle.record.proofs.Parsing.{kind-sequences, kind-frame}
-use Rattle.record.proofs.Writing.{written-as}
+use Rattle.record.proofs.Writing.{line-as}
 use Rattle.record.proofs.line.parts_line.Statement.{statement}
 use Rattle.record.proofs.line.parts_line.Tie as tie
+
+-- from the line of either kind back to the test
+abbrev kind-one : tie.After-slice-known2 → tie.Then1
+kind-one c = c .before .before .before .before
+
+abbrev kind-two : tie.After-slice-known3 → tie.Else1
+kind-two c = c .before .before .before .before
 
 register-line-requires : tie.Need-register-line-requires
 register-line-requires c κs = search needs
@@ -15,11 +22,8 @@ same-length c = search needs
 
 returns : tie.Need-returns
 returns c =
-    let line = c .before .before .register-line .ensures in (
-      written-as _ _ _ _ _ _ (ap outputOf (kind-sequences (c .before .before .before .before .before .before .before .before .args .kind) _ _ _
-          (search needs))) (line .0),
-      line .1,
-    )
+    let start = kind-one c .before .before .before .before in
+    line-as _ _ _ _ _ _ (ap outputOf (kind-sequences (start .args .kind) _ _ _ (search needs))) (c .before .before .register-line .ensures)
 
 frame-line-requires : tie.Need-frame-line-requires
 frame-line-requires c κs = search needs
@@ -29,11 +33,8 @@ same-length-2 c = search needs
 
 returns-2 : tie.Need-returns-2
 returns-2 c =
-    let line = c .before .before .frame-line .ensures in (
-      written-as _ _ _ _ _ _ (ap outputOf (kind-frame (c .before .before .before .before .before .before .before .before .args .kind) _ _ _ (search needs)))
-          (line .0),
-      line .1,
-    )
+    let start = kind-two c .before .before .before .before in
+    line-as _ _ _ _ _ _ (ap outputOf (kind-frame (start .args .kind) _ _ _ (search needs))) (c .before .before .frame-line .ensures)
 
 pub parts-line-spec : {M : Type 1} → statement M
 parts-line-spec =

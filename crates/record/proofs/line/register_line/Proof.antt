@@ -3,7 +3,7 @@ use mathlib.Core.Path.{refl}
 use native.Mathlib.Omega.{arith}
 use borrow.Author.Needs.{needs}
 use Rattle.record.proofs.Registers.{found-taps, found-output}
-use Rattle.record.proofs.Writing.{written-as}
+use Rattle.record.proofs.Writing.{line-as}
 use Rattle.record.proofs.line.register_line.Statement.{statement}
 use Rattle.record.proofs.line.register_line.Tie as tie
 
@@ -31,11 +31,8 @@ same-length c = search needs
 returns : tie.Need-returns
 returns c =
     let found = c .before .before .before .before .before .before .find in
-    let line = c .before .before .found-line .ensures in (
-      written-as _ _ _ _ _ _ (found-output _ _ _ _ _ refl (found .kept .1 .1 .1 .0) (found .ensures .leaves) (found .result) (found .ensures .answers))
-          (line .0),
-      line .1,
-    )
+    let same = found-output _ _ _ _ _ refl (found .kept .1 .1 .1 .0) (found .ensures .leaves) (found .result) (found .ensures .answers) in
+    line-as _ _ _ _ _ _ same (c .before .before .found-line .ensures)
 
 pub register-line-spec : {M : Type 1} → statement M
 register-line-spec =

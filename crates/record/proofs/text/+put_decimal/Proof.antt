@@ -32,6 +32,15 @@ abbrev claims : ℕ → put-decimal-lts.Claims
 claims t =
     (digit-reads.Asked, digit-reads.Learnt, put-byte-reads.Asked, put-byte-reads.Learnt, put-decimal-below t, put-decimal.Post)
 
+-- from the last digit back to where those of the tenth were put, and from there to the start
+abbrev tenth-put : (t : ℕ) → put-decimal-lts.After-digit2 (claims t) (put-decimal-at t) put-decimal.Post
+    → put-decimal-lts.After-put-decimal (claims t) (put-decimal-at t) put-decimal.Post
+tenth-put t c = c .before .before .before .before
+
+abbrev start-of : (t : ℕ) → put-decimal-lts.After-put-decimal (claims t) (put-decimal-at t) put-decimal.Post
+    → put-decimal-lts.Start (claims t) (put-decimal-at t) put-decimal.Post
+start-of t c = c .before .before .before .before
+
 put-decimal-digit-requires : (t : ℕ) → put-decimal-lts.Need-digit-requires (claims t) (put-decimal-at t) put-decimal.Post
 put-decimal-digit-requires t c κs = tt
 
@@ -59,22 +68,23 @@ put-decimal-digit-requires-2 t c κs = tt
 
 put-decimal-put-byte-requires-2 : (t : ℕ) → put-decimal-lts.Need-put-byte-requires-2 (claims t) (put-decimal-at t) put-decimal.Post
 put-decimal-put-byte-requires-2 t c κs =
-    let n : ℕ = c .before .before .before .before .before .before .before .before .args .n in
-    let e = last-room n _ refl (omega arith) (omega arith) in
-    let p = c .before .before .before .before .put-decimal .ensures .place in
-    omega (arith, c .before .before .before .before .before .before .before .before .pre .1)
+    let tenth = tenth-put t c in
+    let start = start-of t tenth in
+    let e = last-room (start .args .n) _ refl (omega arith) (omega arith) in
+    omega (arith, tenth .put-decimal .ensures .place, start .pre .1)
 
 put-decimal-same-length-2 : (t : ℕ) → put-decimal-lts.Need-same-length-2 (claims t) (put-decimal-at t) put-decimal.Post
 put-decimal-same-length-2 t c = search needs
 
 put-decimal-returns-2 : (t : ℕ) → put-decimal-lts.Need-returns-2 (claims t) (put-decimal-at t) put-decimal.Post
 put-decimal-returns-2 t c =
-    let n : ℕ = c .before .before .before .before .before .before .before .before .before .before .before .args .n in
-    let e = last-room n _ refl (omega arith) (omega arith) in
-    let p = c .before .before .before .before .before .before .before .put-decimal .ensures .place in
-    more-digits n _ (c .before .before .before .digit2 .ensures) (omega arith) (omega arith) _ _ _ _ _ _
-    (omega (arith, c .before .before .before .before .before .before .before .before .before .before .before .pre .1))
-    (c .before .before .before .before .before .before .before .put-decimal .ensures) (c .before .before .put-byte2 .ensures)
+    let digit = c .before .before .before in
+    let tenth = tenth-put t digit in
+    let start = start-of t tenth in
+    let e = last-room (start .args .n) _ refl (omega arith) (omega arith) in
+    let put = tenth .put-decimal .ensures in
+    more-digits (start .args .n) _ (digit .digit2 .ensures) (omega arith) (omega arith) _ _ _ _ _ _ (omega (arith, put .place, start .pre .1)) put
+    (c .before .before .put-byte2 .ensures)
 
 pub +put-decimal-spec : {M : Type 1} → statement M
 +put-decimal-spec = close μ-put-decimal λ t. put-decimal-lts.spec (claims t)

@@ -15,6 +15,13 @@ Inv-loop out₀ at c end₀ i₀ out end i = (d : ℕ) × (Walk c d i) × (Space
 abbrev μ-loop : tie.MeasureT-loop
 μ-loop out₀ at c end₀ i₀ out end i = 256 - i
 
+-- from the end of a turn back to where it began, and from there to the start
+abbrev began : tie.After-next2 Inv-loop μ-loop → tie.At-loop Inv-loop μ-loop
+began c = c .before .before .before .before .before .before
+
+abbrev start-of : tie.At-loop Inv-loop μ-loop → tie.Start Inv-loop μ-loop
+start-of c = c .before .before .before
+
 next-requires : tie.Need-next-requires Inv-loop μ-loop
 next-requires c κs = tt
 
@@ -27,7 +34,7 @@ cast-put-number c = search needs
 put-number-requires : tie.Need-put-number-requires Inv-loop μ-loop
 put-number-requires c κs =
     let v = c .before .before .loop .inv in
-    spaced-room _ _ _ (c .before .before .before .before .before .pre) _ _ _ (v .2) (walk-member _ _ _ (v .1) (omega arith) .0)
+    spaced-room _ _ _ (start-of (c .before .before) .pre) _ _ _ (v .2) (walk-member _ _ _ (v .1) (omega arith) .0)
 
 add-next : tie.Need-add-next Inv-loop μ-loop
 add-next c = search needs
@@ -37,26 +44,26 @@ next-requires-2 c κs = tt
 
 loop-less : tie.Need-loop-less Inv-loop μ-loop
 loop-less c =
-    let r = walk-rises _ _ _ (c .before .before .before .before .before .before .loop .inv .1) _ (omega arith) (c .next2 .ensures) in omega arith
+    let r = walk-rises _ _ _ (began c .loop .inv .1) _ (omega arith) (c .next2 .ensures) in omega arith
 
 loop-again : tie.Need-loop-again Inv-loop μ-loop
 loop-again c =
-    let v = c .before .before .before .before .before .before .loop .inv in
+    let v = began c .loop .inv in
     let m = walk-member _ _ _ (v .1) (omega arith) in (
       _,
       walk-next _ _ _ (v .1) _ (omega arith) (c .next2 .ensures),
-      spaced-next _ _ _ (c .before .before .before .before .before .before .before .before .before .pre) _ _ _ (v .2) _ _ _ (m .0) (m .1) (omega arith)
+      spaced-next _ _ _ (start-of (began c) .pre) _ _ _ (v .2) _ _ _ (m .0) (m .1) (omega arith)
           (c .before .before .before .put-number .ensures .0),
     )
 
 same-length : tie.Need-same-length Inv-loop μ-loop
-same-length c = Spacing.same-length _ _ _ (c .before .before .before .before .pre) _ _ _ (c .before .loop .inv .2)
+same-length c = Spacing.same-length _ _ _ (start-of (c .before) .pre) _ _ _ (c .before .loop .inv .2)
 
 returns : tie.Need-returns Inv-loop μ-loop
 returns c =
     let v = c .before .loop .inv in
     let all = walk-end _ _ _ (v .1) (omega arith) in
-    (spaced-all _ _ _ (c .before .before .before .before .pre) _ _ _ (v .2) all, omega (arith, v .2 .near))
+    (spaced-all _ _ _ (start-of (c .before) .pre) _ _ _ (v .2) all, omega (arith, v .2 .near))
 
 pub put-columns-spec : {M : Type 1} → statement M
 put-columns-spec =

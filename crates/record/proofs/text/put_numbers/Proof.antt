@@ -15,6 +15,13 @@ Inv-loop out₀ at xs end₀ i₀ out end i = Spaced xs out₀ at i out end
 abbrev μ-loop : tie.MeasureT-loop
 μ-loop out₀ at xs end₀ i₀ out end i = length xs - i
 
+-- from the end of a turn back to where it began, and from there to the start
+abbrev began : tie.After-slice-known2 Inv-loop μ-loop → tie.At-loop Inv-loop μ-loop
+began c = c .before .before .before .before .before .before
+
+abbrev start-of : tie.At-loop Inv-loop μ-loop → tie.Start Inv-loop μ-loop
+start-of c = c .before .before .before
+
 loop-holds : tie.Need-loop-holds Inv-loop μ-loop
 loop-holds c = spaced-none _ _ _
 
@@ -25,7 +32,9 @@ shared-slice-read-put-number : tie.Need-shared-slice-read-put-number Inv-loop μ
 shared-slice-read-put-number c = search needs
 
 put-number-requires : tie.Need-put-number-requires Inv-loop μ-loop
-put-number-requires c κs = spaced-room _ _ _ (c .before .before .before .before .before .before .pre) _ _ _ (c .before .before .before .loop .inv) (omega arith)
+put-number-requires c κs =
+    let at = c .before .before .before in
+    spaced-room _ _ _ (start-of at .pre) _ _ _ (at .loop .inv) (omega arith)
 
 add-i : tie.Need-add-i Inv-loop μ-loop
 add-i c = search needs
@@ -35,18 +44,17 @@ loop-less c = search needs
 
 loop-again : tie.Need-loop-again Inv-loop μ-loop
 loop-again c =
-    spaced-next _ _ _ (c .before .before .before .before .before .before .before .before .before .pre) _ _ _
-    (c .before .before .before .before .before .before .loop .inv) _ _ _ (omega arith) refl
-    (omega (arith, c .before .before .before .shared-slice-known2 .given (c .before .before .before .before .before .before .loop .i)))
-    (c .before .before .put-number .ensures .0)
+    let at = began c in
+    spaced-next _ _ _ (start-of at .pre) _ _ _ (at .loop .inv) _ _ _ (omega arith) refl
+    (omega (arith, c .before .before .before .shared-slice-known2 .given (at .loop .i))) (c .before .before .put-number .ensures .0)
 
 same-length : tie.Need-same-length Inv-loop μ-loop
-same-length c = Spacing.same-length _ _ _ (c .before .before .before .before .pre) _ _ _ (c .before .loop .inv)
+same-length c = Spacing.same-length _ _ _ (start-of (c .before) .pre) _ _ _ (c .before .loop .inv)
 
 returns : tie.Need-returns Inv-loop μ-loop
 returns c =
     let done = c .before .loop .inv in
-    (spaced-all _ _ _ (c .before .before .before .before .pre) _ _ _ done (omega (arith, done .within)), omega (arith, done .near, done .within))
+    (spaced-all _ _ _ (start-of (c .before) .pre) _ _ _ done (omega (arith, done .within)), omega (arith, done .near, done .within))
 
 pub put-numbers-spec : {M : Type 1} → statement M
 put-numbers-spec =

@@ -1,9 +1,12 @@
 -- `tomkhadi::input::refilled` meets its contract.
-use native.Mathlib.Omega.{arith}
 use borrow.Author.Needs.{needs}
 use Rattle.tomkhadi.proofs.Filling.{refills}
 use Rattle.tomkhadi.proofs.input.refilled.Statement.{statement}
 use Rattle.tomkhadi.proofs.input.refilled.Tie as tie
+
+-- from the end back to where the bytes were moved
+abbrev moved : tie.After-slice-known3 → tie.After-move-down
+moved c = c .before .before .before .before .before .before
 
 sub-kept : tie.Need-sub-kept
 sub-kept c = search needs
@@ -31,8 +34,8 @@ same-length c = search needs
 
 returns : tie.Need-returns
 returns c =
-    let start = c .before .before .before .before .before .before .before .before .before .before in
-    let move = c .before .before .before .before .before .before .move-down in
+    let start = moved c .before .before .before .before in
+    let move = moved c .move-down in
     let read = c .before .before .read in
     refills (start .args .w) (start .args .buffer .now) (start .pre) (move .last .0) (read .last .0) (read .result) (move .kept .0) (read .kept .0)
     (read .ensures) (move .ensures)
