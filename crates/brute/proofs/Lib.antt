@@ -1,5 +1,7 @@
+pub mod Cancelling
 pub mod CheckSums
 pub mod Choices
+pub mod Congruences
 pub mod Digits
 pub mod Draws
 pub mod Marks
@@ -8,5 +10,6 @@ pub mod Remainders
 pub mod Striking
 pub mod Sums
 pub mod Tables
+pub mod Terms
 pub mod Tests
 pub mod Writing
