@@ -1,3 +1,4 @@
+pub mod BackSubstitution
 pub mod Cancelling
 pub mod CheckSums
 pub mod Choices
@@ -5,11 +6,13 @@ pub mod Congruences
 pub mod Digits
 pub mod Draws
 pub mod Marks
+pub mod OneSolution
 pub mod Powers
 pub mod Remainders
 pub mod Striking
 pub mod Sums
 pub mod Tables
+pub mod Taps
 pub mod Terms
 pub mod Tests
 pub mod Writing
