@@ -1,12 +1,3 @@
-pub mod CheckSums
-pub mod Choices
-pub mod Digits
-pub mod Draws
 pub mod Marks
-pub mod Powers
-pub mod Remainders
-pub mod Striking
-pub mod Sums
+pub mod Places
 pub mod Tables
-pub mod Tests
-pub mod Writing

@@ -1,0 +1,10 @@
+pub mod CheckSums
+pub mod Choices
+pub mod Digits
+pub mod Draws
+pub mod Powers
+pub mod Remainders
+pub mod Striking
+pub mod Sums
+pub mod Tests
+pub mod Writing
