@@ -1,3 +1,4 @@
+pub mod Cancelling
 pub mod Marks
 pub mod Places
 pub mod Tables
