@@ -10,10 +10,10 @@ use native.Mathlib.Omega.{arith}
 use borrow.Author.Tests.{eq-eqb, ne-eqb}
 use lib.Dec.{eqb}
 use Rattle.field.specs.Prime.{Prime}
-use Rattle.brute.proofs.Congruences.{equal, rem-small, solved-by}
-use Rattle.brute.proofs.Terms.{sum-ext, sum-apart}
+use Rattle.plain.proofs.Congruences.{equal, rem-small, solved-by}
+use Rattle.plain.proofs.Terms.{sum-ext, sum-apart}
 use Rattle.brute.specs.Equations.{Echelon, Numbers, Solves, SolvesRows, valueAt}
-use Rattle.brute.specs.Plain.{Each, rem, sum}
+use Rattle.plain.specs.Plain.{Each, rem, sum}
 
 -- t with v for unknown m
 abbrev replaced : (t : ℕ → ℕ) (m v : ℕ) → ℕ → ℕ

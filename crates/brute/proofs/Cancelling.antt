@@ -6,12 +6,12 @@ use Prim.Native.Nat.{ℕ, zero, suc, _+_, _*_, _≤_, _<_}
 use native.Mathlib.Nat.{le-step, lt-suc-self, mul-comm}
 use native.Mathlib.Omega.{arith}
 use Rattle.field.specs.Prime.{Prime}
-use Rattle.brute.proofs.Congruences.{equal, rem-small, same-sum, same-product, zero-product, zero-added, cancel-term, cancel-factor}
-use Rattle.brute.proofs.Remainders.{rem-none}
-use Rattle.brute.proofs.Sums.{sum-zero, sum-suc}
-use Rattle.brute.proofs.Terms.{sum-first}
+use Rattle.plain.proofs.Congruences.{equal, rem-small, same-sum, same-product, zero-product, zero-added, cancel-term, cancel-factor}
+use Rattle.plain.proofs.Remainders.{rem-none}
+use Rattle.plain.proofs.Sums.{sum-zero, sum-suc}
+use Rattle.plain.proofs.Terms.{sum-first}
 use Rattle.brute.specs.Equations.{Solves}
-use Rattle.brute.specs.Plain.{rem, sum}
+use Rattle.plain.specs.Plain.{rem, sum}
 
 -- each value of `new` is that of `old` times `lead`, less that of `row` times x
 abbrev pub Crossed : (p n : ℕ) (old row new : ℕ → ℕ) (lead x : ℕ) → Type 0

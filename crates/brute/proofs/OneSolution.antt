@@ -6,10 +6,10 @@ use Prim.Native.Nat.{ℕ, zero, suc, _+_, _*_, _≤_, _<_}
 use native.Mathlib.Decide.{ℕ-discrete, decLt}
 use native.Mathlib.Omega.{arith}
 use Rattle.field.specs.Prime.{Prime}
-use Rattle.brute.proofs.Congruences.{equal, rem-small, cancel-term, cancel-factor}
-use Rattle.brute.proofs.Terms.{sum-apart}
+use Rattle.plain.proofs.Congruences.{equal, rem-small, cancel-term, cancel-factor}
+use Rattle.plain.proofs.Terms.{sum-apart}
 use Rattle.brute.specs.Equations.{Echelon, Numbers, SolvesRows, valueAt}
-use Rattle.brute.specs.Plain.{Each, rem}
+use Rattle.plain.specs.Plain.{Each, rem}
 
 module _ (p n : ℕ) (table : List ℕ) (prime : Prime p) (echelon : Echelon p n table) (all : Each 1 n (λ k. valueAt table k k ≡ 0 → ⊥)) where
   module _ (t u : ℕ → ℕ) (wt : Numbers p t) (wu : Numbers p u) (st : SolvesRows p n table t) (su : SolvesRows p n table u) where

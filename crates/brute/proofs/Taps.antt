@@ -9,10 +9,10 @@ use native.Mathlib.Omega.{arith}
 use lib.ListN.{getD}
 use Rattle.lists.proofs.Tabulated.{getD-tabulate}
 use Rattle.lists.specs.Tabulate.{tabulate}
-use Rattle.brute.proofs.Congruences.{equal}
-use Rattle.brute.proofs.Terms.{sum-ext}
+use Rattle.plain.proofs.Congruences.{equal}
+use Rattle.plain.proofs.Terms.{sum-ext}
 use Rattle.brute.specs.Equations.{Solves}
-use Rattle.brute.specs.Plain.{before, discrepancy, rem, sum}
+use Rattle.plain.specs.Plain.{before, discrepancy, rem, sum}
 
 module _ (p : ℕ) (s taps : List ℕ) (n : ℕ) (t : ℕ → ℕ) (same : (k : ℕ) → k < n → getD taps k 0 ≡ t k) where
   pub discrepancy-solves : (j : ℕ) → (discrepancy p s taps n j ≡ 0) ↔ Solves p n (before s j) t

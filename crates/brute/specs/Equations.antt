@@ -6,7 +6,7 @@ use mathlib.Core.List.{List}
 use Prim.Native.Nat.{ℕ, _+_, _*_, _<_, _≤_}
 use lib.Dec.{ltb}
 use lib.ListN.{length, getD}
-use Rattle.brute.specs.Plain.{Each, rem, sum}
+use Rattle.plain.specs.Plain.{Each, rem, sum}
 use Rattle.brute.specs.declared.eliminate.Added.{Added}
 use Rattle.brute.specs.declared.eliminate.Added.the-variants.{Follows, Contradicts}
 

@@ -1,14 +1,14 @@
 // Linear equations modulo a prime p, solved by elimination without division. An equation is a row of values in a table: value 0 is the
 // constant, value k the coefficient of unknown k. Row k leads with unknown k, or its value k is 0 and it counts as empty. Row 0 is
 // the equation that is being added.
-use crate::values::cross;
-use crate::values::get;
-use crate::values::put;
+use plain::values::cross;
+use plain::values::get;
+use plain::values::put;
 ghost use mathlib.Core.Path.{_≡_};
 ghost use Prim.Native.Nat.{ℕ, _+_, _*_, _<_, _≤_};
 ghost use lib.ListN.{length, getD, replicate};
 ghost use Rattle.brute.specs.Equations.{Cleared, Decided, placeOf};
-ghost use Rattle.brute.specs.Plain.{Each, Tells};
+ghost use Rattle.plain.specs.Plain.{Each, Tells};
 ghost use Rattle.brute.specs.declared.eliminate.Added.the-variants.{Follows, Contradicts};
 
 // How many values a row has room for. The table has as many rows.

@@ -4,15 +4,15 @@ use crate::eliminate::add;
 use crate::eliminate::clear;
 use crate::eliminate::contradicts;
 use crate::eliminate::determined;
-use crate::sequences::discrepancy;
-use crate::sequences::sequence;
-use crate::values::before;
-use crate::values::put;
+use plain::sequences::discrepancy;
+use plain::sequences::sequence;
+use plain::values::before;
+use plain::values::put;
 ghost use mathlib.Core.Path.{_≡_};
 ghost use mathlib.Core.Bool.{true, false};
 ghost use Prim.Native.Nat.{_+_, _≤_};
 ghost use lib.ListN.{length, getD};
-ghost use Rattle.brute.specs.Plain.{Each, Tells, discrepancy, sequence};
+ghost use Rattle.plain.specs.Plain.{Each, Tells, discrepancy, sequence};
 
 pub struct Answer {
     pub length: usize,

@@ -5,7 +5,7 @@ use native.Mathlib.Omega.{arith}
 use lib.ListN.{length}
 use borrow.Author.Needs.{needs}
 use Rattle.brute.proofs.Marks.{marked-none, marked-more, marked-all}
-use Rattle.brute.specs.Frames.{Marked}
+use Rattle.brute.specs.Locating.{Marked}
 use Rattle.brute.proofs.locator.mark.Statement.{statement}
 use Rattle.brute.proofs.locator.mark.Tie as tie
 
