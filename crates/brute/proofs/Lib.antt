@@ -3,5 +3,6 @@ pub mod Cancelling
 pub mod Marks
 pub mod OneSolution
 pub mod Places
+pub mod Roots
 pub mod Tables
 pub mod Taps
