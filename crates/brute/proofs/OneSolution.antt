@@ -4,10 +4,12 @@ use mathlib.Core.Path.{_≡_, refl, sym, ap, subst, _∙_}
 use mathlib.Core.List.{List}
 use Prim.Native.Nat.{ℕ, zero, suc, _+_, _*_, _≤_, _<_}
 use native.Mathlib.Decide.{ℕ-discrete, decLt}
+use native.Mathlib.Nat.{zero-mul}
 use native.Mathlib.Omega.{arith}
 use Rattle.field.specs.Prime.{Prime}
 use Rattle.plain.proofs.Congruences.{equal, rem-small, cancel-term, cancel-factor}
 use Rattle.plain.proofs.Terms.{sum-apart}
+use Rattle.brute.proofs.BackSubstitution.{lead-not-zero}
 use Rattle.brute.specs.Equations.{Echelon, Numbers, SolvesRows, valueAt}
 use Rattle.plain.specs.Plain.{Each, rem}
 
@@ -20,8 +22,7 @@ module _ (p n : ℕ) (table : List ℕ) (prime : Prime p) (echelon : Echelon p n
         let both = sym (equal p (parts (λ j. valueAt table m j * t j) (λ j h other. refl))) ∙ st m low less lead ∙ sym (su m low less lead)
         ∙ equal p (parts (λ j. valueAt table m j * u j) (λ j h other. term j h other (ℕ-discrete j 0) (decLt j m))) in
         sym (rem-small (t m) p (wt .below m))
-        ∙ cancel-factor p prime (valueAt table m m) (t m) (u m)
-        (λ z. lead (sym (rem-small (valueAt table m m) p (echelon .below m m low less less lead)) ∙ z))
+        ∙ cancel-factor p prime (valueAt table m m) (t m) (u m) (lead-not-zero p n table prime echelon m low less lead)
         (cancel-term p rest (valueAt table m m * t m) (valueAt table m m * u m) both)
         ∙ rem-small (u m) p (wu .below m)
       where
@@ -30,7 +31,7 @@ module _ (p n : ℕ) (table : List ℕ) (prime : Prime p) (echelon : Echelon p n
             ap (λ (x : ℕ). valueAt table m j * x) (ap u e ∙ wu .one ∙ sym (wt .one) ∙ sym (ap t e))
         term j h other (no e) (yes l) =
             let z = echelon .leads m j (omega arith) l less (all m low less) in
-            ap (λ (x : ℕ). x * u j) z ∙ (let q : 0 * u j ≡ 0 * t j = omega arith in q) ∙ ap (λ (x : ℕ). x * t j) (sym z)
+            ap (λ (x : ℕ). x * u j) z ∙ zero-mul (u j) ∙ sym (ap (λ (x : ℕ). x * t j) z ∙ zero-mul (t j))
         term j h other (no e) (no l) = ap (λ (x : ℕ). valueAt table m j * x) (sym (after j (omega arith) h))
 
     same-from : (d m : ℕ) → 1 ≤ m → n ≤ m + d → (k : ℕ) → m ≤ k → k < n → t k ≡ u k
