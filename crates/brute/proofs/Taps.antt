@@ -7,10 +7,10 @@ use Prim.Native.Nat.{ℕ, _*_, _≤_, _<_}
 use native.Mathlib.Decide.{decLt}
 use native.Mathlib.Nat.{mul-comm}
 use native.Mathlib.Omega.{arith}
-use lib.ListN.{length, getD}
+use lib.ListN.{length, getD, List·getD-eq-default}
 use Rattle.field.specs.Prime.{Prime}
 use Rattle.lists.proofs.Filling.{by-entries}
-use Rattle.lists.proofs.Tabulated.{length-tabulate, getD-tabulate, getD-tabulate-past}
+use Rattle.lists.proofs.Tabulated.{length-tabulate, getD-tabulate}
 use Rattle.lists.specs.Tabulate.{tabulate}
 use Rattle.plain.proofs.Congruences.{equal}
 use Rattle.plain.proofs.Terms.{sum-ext}
@@ -26,6 +26,16 @@ discrepancy-solves p s taps n j = (λ e. sym same ∙ e, λ e. same ∙ e)
     same =
         equal p (sum-ext n (λ k. getD taps k 0 * before s j k) (λ k. before s j k * getD taps k 0) (λ k h. mul-comm (getD taps k 0) (before s j k)))
 
+-- residues, the first of them 1; past the last tap is 0
+pub taps-numbers : (p : ℕ) (taps : List ℕ) → 0 < p → getD taps 0 0 ≡ 1 → Each 0 (length taps) (λ k. getD taps k 0 < p) → Numbers p (λ k. getD taps k 0)
+taps-numbers p taps positive one below = record {
+  one = one;
+  below = λ k. elim (decLt k (length taps)) [
+    | yes h ↦ below k (omega arith) h
+    | no h ↦ subst (λ (x : ℕ). x < p) (sym (List·getD-eq-default taps 0 (let le : length taps ≤ k = omega arith in le))) positive
+  ];
+}
+
 -- n taps, the first of them 1, meet the conditions that stand in the table
 pub record Meets (p n : ℕ) (table taps : List ℕ) : Type 0 where
   pub size : length taps ≡ n
@@ -36,13 +46,9 @@ module _ (p n : ℕ) (table : List ℕ) (prime : Prime p) (echelon : Echelon p n
   listed : (t : ℕ → ℕ) → Numbers p t → SolvesRows p n table t → Meets p n table (tabulate n t)
   listed t w solved = record {
     size = length-tabulate n t;
-    numbers = record {
-      one = getD-tabulate n t 0 0 some ∙ w .one;
-      below = λ k. elim (decLt k n) [
-        | yes h ↦ subst (λ (x : ℕ). x < p) (sym (getD-tabulate n t k 0 h)) (w .below k)
-        | no h ↦ let e = getD-tabulate-past n t k 0 (omega arith) in omega (arith, prime .two-or-more)
-      ];
-    };
+    numbers =
+        taps-numbers p (tabulate n t) (omega (arith, prime .two-or-more)) (getD-tabulate n t 0 0 some ∙ w .one)
+        (λ k l h. subst (λ (x : ℕ). x < p) (sym (getD-tabulate n t k 0 (let e = length-tabulate n t in omega arith))) (w .below k));
     solved = λ k low high leads.
         equal p (sum-ext n (λ j. valueAt table k j * getD (tabulate n t) j 0) (λ j. valueAt table k j * t j)
         (λ j h. ap (λ (x : ℕ). valueAt table k j * x) (getD-tabulate n t j 0 h)))
