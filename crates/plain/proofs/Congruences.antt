@@ -2,9 +2,9 @@
 -- not 0 may be cancelled, and b + a·v is 0 for some residue v.
 use mathlib.Core.Path.{_≡_, refl, sym, ap, _∙_}
 use Prim.Native.Nat.{ℕ, zero, suc, _+_, _-_, _*_, _%_, _≤_, _<_}
-use native.Mathlib.Nat.{add-comm, mul-mod-left, mod-eq-of-lt}
+use native.Mathlib.Nat.{add-comm, add-zero, mul-comm, one-mul, zero-mul, mul-mod-left, mod-eq-of-lt}
 use native.Mathlib.Omega.{arith}
-use Rattle.field.proofs.Euclid.{cancel}
+use Rattle.field.proofs.Euclid.{cancel, euclid}
 use Rattle.field.proofs.Fermat.{times-inverse}
 use Rattle.field.specs.Prime.{Prime}
 use Rattle.field.specs.Residue.{inverse}
@@ -28,10 +28,10 @@ module _ (p : ℕ) where
   same-product a b c e = sym (rem-mul a c p) ∙ ap (λ (x : ℕ). rem (x * c) p) e ∙ rem-mul b c p
 
   pub zero-product : (a c : ℕ) → rem a p ≡ 0 → rem (a * c) p ≡ 0
-  zero-product a c e = same-product a 0 c (e ∙ sym (rem-none p)) ∙ equal (let z : 0 * c ≡ 0 = omega arith in z) ∙ rem-none p
+  zero-product a c e = same-product a 0 c (e ∙ sym (rem-none p)) ∙ equal (zero-mul c) ∙ rem-none p
 
   pub zero-added : (a b : ℕ) → rem b p ≡ 0 → rem (a + b) p ≡ rem a p
-  zero-added a b e = same-sum a a b 0 refl (e ∙ sym (rem-none p)) ∙ equal (let z : a + 0 ≡ a = omega arith in z)
+  zero-added a b e = same-sum a a b 0 refl (e ∙ sym (rem-none p)) ∙ equal (add-zero a)
 
 -- a times p − 1 is the negative of a
 negative : (p a : ℕ) → rem (a + a * (p - 1)) p ≡ 0
@@ -47,28 +47,34 @@ cancel-term p a b c e = sym (back b) ∙ same-sum p (a + b) (a + c) (a * (p - 1)
     back x = equal p (let z : a + x + a * (p - 1) ≡ x + (a + a * (p - 1)) = omega arith in z) ∙ zero-added p x (a + a * (p - 1)) (negative p a)
 
 module _ (p : ℕ) (prime : Prime p) where
-  positive : 0 < p
-  positive = omega (arith, prime .two-or-more)
+  by-division : (x : ℕ) → x % p ≡ rem x p
+  by-division x = rem-positive x p (omega (arith, prime .two-or-more))
+
+  undivided : (a : ℕ) → (rem a p ≡ 0 → ⊥) → a % p ≡ 0 → ⊥
+  undivided a some z = some (sym (by-division a) ∙ z)
 
   pub cancel-factor : (a b c : ℕ) → (rem a p ≡ 0 → ⊥) → rem (a * b) p ≡ rem (a * c) p → rem b p ≡ rem c p
   cancel-factor a b c some e =
-      sym (rem-positive b p positive)
-      ∙ cancel p prime a b c (λ z. some (sym (rem-positive a p positive) ∙ z)) (rem-positive (a * b) p positive ∙ e ∙ sym (rem-positive (a * c) p positive))
-      ∙ rem-positive c p positive
+      sym (by-division b) ∙ cancel p prime a b c (undivided a some) (by-division (a * b) ∙ e ∙ sym (by-division (a * c))) ∙ by-division c
 
-  -- the value that solves b + a·v = 0
-  abbrev root : (a b : ℕ) → ℕ
-  root a b = rem (b * (p - 1) * inverse p a) p
+  pub zero-factor : (a b : ℕ) → (rem b p ≡ 0 → ⊥) → rem (a * b) p ≡ 0 → rem a p ≡ 0
+  zero-factor a b some e = sym (by-division a) ∙ euclid p prime b a (undivided b some) (by-division (b * a) ∙ equal p (mul-comm b a) ∙ e)
 
+  -- v is −b / a
   pub solved-by : (a b : ℕ) → (rem a p ≡ 0 → ⊥) → (v : ℕ) × (v < p) × (rem (b + a * v) p ≡ 0)
-  solved-by a b some =
-      let inverted : rem (a * inverse p a) p ≡ rem 1 p =
-      sym (rem-positive (a * inverse p a) p positive) ∙ times-inverse p prime a (λ z. some (sym (rem-positive a p positive) ∙ z))
-      ∙ sym (rem-small 1 p (prime .two-or-more)) in (
-        root a b,
-        rem-lt (b * (p - 1) * inverse p a) p positive,
-        rem-add-mul b a (b * (p - 1) * inverse p a) p
-            ∙ equal p (let z : b + a * (b * (p - 1) * inverse p a) ≡ b + a * inverse p a * (b * (p - 1)) = omega arith in z)
-            ∙ same-sum p b b (a * inverse p a * (b * (p - 1))) (1 * (b * (p - 1))) refl (same-product p (a * inverse p a) 1 (b * (p - 1)) inverted)
-            ∙ equal p (let z : b + 1 * (b * (p - 1)) ≡ b + b * (p - 1) = omega arith in z) ∙ negative p b,
-      )
+  solved-by a b some = (rem (minus * over) p, rem-lt (minus * over) p (omega (arith, prime .two-or-more)), solved)
+    where
+      minus : ℕ
+      minus = b * (p - 1)
+
+      over : ℕ
+      over = inverse p a
+
+      inverted : rem (a * over) p ≡ rem 1 p
+      inverted = sym (by-division (a * over)) ∙ times-inverse p prime a (undivided a some) ∙ sym (rem-small 1 p (prime .two-or-more))
+
+      solved : rem (b + a * rem (minus * over) p) p ≡ 0
+      solved =
+          rem-add-mul b a (minus * over) p ∙ equal p (let z : b + a * (minus * over) ≡ b + a * over * minus = omega arith in z)
+          ∙ same-sum p b b (a * over * minus) (1 * minus) refl (same-product p (a * over) 1 minus inverted)
+          ∙ equal p (ap (λ (x : ℕ). b + x) (one-mul minus)) ∙ negative p b

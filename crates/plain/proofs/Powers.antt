@@ -41,3 +41,11 @@ weighed-none h = sym (zero-mod 257) ∙ ap (λ (x : ℕ). x % 257) (sym (sum-zer
 
 pub weight-none : (x j : ℕ) → 1 ≡ x ^ (j * 0) % 257
 weight-none x j = power-none x ∙ ap (λ (m : ℕ). x ^ m % 257) (sym (mul-zero j))
+
+-- the powers of y, where y is power j of x
+pub power-of-power : (x j i : ℕ) {y : ℕ} → y ≡ x ^ j % 257 → y ^ i % 257 ≡ x ^ (j * i) % 257
+power-of-power x j zero {y} e = ap (λ (v : ℕ). v % 257) (pow-zero y) ∙ weight-none x j
+power-of-power x j (suc i) {y} e =
+    weight-more x j i e (power-of-power x j i e)
+    (ap (λ (v : ℕ). v % 257) (pow-suc y i) ∙ mod-is-rem (y ^ i * y) ∙ sym (rem-mul (y ^ i) y 257) ∙ ap (λ (v : ℕ). rem (v * y) 257) (sym (mod-is-rem (y ^ i))))
+    ∙ ap (λ (m : ℕ). x ^ (j * m) % 257) (add-one i)

@@ -1,15 +1,23 @@
--- Sums with the same terms, with one term set apart, and with none but the first.
+-- Sums with the same terms or terms of the same remainder, with one term set apart, and with none but the first.
 use mathlib.Core.Path.{_≡_, refl, sym, ap, ap₂, _∙_}
 use Prim.Native.Nat.{ℕ, zero, suc, _+_, _≤_, _<_}
 use native.Mathlib.Nat.{le-step, lt-suc-self}
 use native.Mathlib.Decide.{ℕ-discrete}
 use native.Mathlib.Omega.{arith}
+use Rattle.plain.proofs.Congruences.{equal, same-sum}
 use Rattle.plain.proofs.Sums.{sum-zero, sum-suc}
-use Rattle.plain.specs.Plain.{sum}
+use Rattle.plain.specs.Plain.{rem, sum}
 
 pub sum-ext : (n : ℕ) (f g : ℕ → ℕ) → ((j : ℕ) → j < n → f j ≡ g j) → sum n f ≡ sum n g
 sum-ext zero f g e = sum-zero f ∙ sym (sum-zero g)
 sum-ext (suc n) f g e = sum-suc n f ∙ ap₂ _+_ (sum-ext n f g (λ j h. e j (le-step h))) (e n (lt-suc-self n)) ∙ sym (sum-suc n g)
+
+-- terms that leave the same remainder
+pub sum-same : (p n : ℕ) (f g : ℕ → ℕ) → ((j : ℕ) → j < n → rem (f j) p ≡ rem (g j) p) → rem (sum n f) p ≡ rem (sum n g) p
+sum-same p zero f g e = equal p (sum-zero f ∙ sym (sum-zero g))
+sum-same p (suc n) f g e =
+    equal p (sum-suc n f) ∙ same-sum p (sum n f) (sum n g) (f n) (g n) (sum-same p n f g (λ j h. e j (le-step h))) (e n (lt-suc-self n))
+    ∙ equal p (sym (sum-suc n g))
 
 -- what the terms apart from term m add up to, whatever that term is
 pub sum-apart : (n m : ℕ) (f : ℕ → ℕ) → m < n →
