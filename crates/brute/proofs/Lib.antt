@@ -1,8 +1,11 @@
 pub mod BackSubstitution
 pub mod Cancelling
+pub mod Crossing
+pub mod Eliminating
 pub mod Marks
 pub mod OneSolution
 pub mod Places
 pub mod Roots
+pub mod Storing
 pub mod Tables
 pub mod Taps

@@ -1,2 +1,3 @@
 pub mod Equations
 pub mod Locating
+pub mod Prime
