@@ -13,7 +13,7 @@ use lib.Dec.{eqb}
 use Rattle.field.specs.Prime.{Prime}
 use Rattle.plain.proofs.Congruences.{equal, rem-small, solved-by}
 use Rattle.plain.proofs.Terms.{sum-ext, sum-apart}
-use Rattle.brute.specs.Equations.{Echelon, Numbers, Solves, SolvesRows, valueAt}
+use Rattle.brute.specs.Equations.{Echelon, LeadsRow, Numbers, Solves, SolvesRows, valueAt}
 use Rattle.plain.specs.Plain.{Each, rem}
 
 -- t with v for unknown m
@@ -39,26 +39,23 @@ module _ (t : ℕ → ℕ) (m v : ℕ) where
 -- t is f at each unknown whose row does not lead, and solves the rows from m on that lead
 record Chosen (p n : ℕ) (table : List ℕ) (f t : ℕ → ℕ) (m : ℕ) : Type 0 where
   numbers : Numbers p t
-  free : (k : ℕ) → (1 ≤ k → k < n → (valueAt table k k ≡ 0 → ⊥) → ⊥) → t k ≡ f k
-  solved : Each m n (λ k. (valueAt table k k ≡ 0 → ⊥) → Solves p n (valueAt table k) t)
+  free : (k : ℕ) → (1 ≤ k → k < n → LeadsRow table k → ⊥) → t k ≡ f k
+  solved : Each m n (λ k. LeadsRow table k → Solves p n (valueAt table k) t)
 
 module _ (p n : ℕ) (table : List ℕ) (prime : Prime p) (echelon : Echelon p n table) where
   abbrev From : (f : ℕ → ℕ) (m : ℕ) → Type 0
   From f m = (t : ℕ → ℕ) × Chosen p n table f t m
 
-  abbrev pub Leads : ℕ → Type 0
-  Leads k = valueAt table k k ≡ 0 → ⊥
-
-  chosen-idle : (f : ℕ → ℕ) (m : ℕ) → (m < n → Leads m → ⊥) → From f (suc m) → From f m
+  chosen-idle : (f : ℕ → ℕ) (m : ℕ) → (m < n → LeadsRow table m → ⊥) → From f (suc m) → From f m
   chosen-idle f m idle (t, w) =
       (t, record { numbers = w .numbers; free = w .free; solved = λ k low high leads. later k low high leads (ℕ-discrete k m) })
     where
-      later : (k : ℕ) → m ≤ k → k < n → Leads k → Dec (k ≡ m) → Solves p n (valueAt table k) t
-      later k low high leads (yes e) = absurd (idle (omega arith) (subst Leads e leads))
+      later : (k : ℕ) → m ≤ k → k < n → LeadsRow table k → Dec (k ≡ m) → Solves p n (valueAt table k) t
+      later k low high leads (yes e) = absurd (idle (omega arith) (subst (LeadsRow table) e leads))
       later k low high leads (no e) = w .solved k (omega arith) high leads
 
   -- a row after m does not have unknown m
-  row-keeps : (t : ℕ → ℕ) (m v k : ℕ) → 1 ≤ m → m < k → k < n → Leads k → Solves p n (valueAt table k) t → Solves p n (valueAt table k) (replaced t m v)
+  row-keeps : (t : ℕ → ℕ) (m v k : ℕ) → 1 ≤ m → m < k → k < n → LeadsRow table k → Solves p n (valueAt table k) t → Solves p n (valueAt table k) (replaced t m v)
   row-keeps t m v k low after high leads solved =
       equal p (sum-ext n (λ j. valueAt table k j * replaced t m v j) (λ j. valueAt table k j * t j) (λ j h. term j (ℕ-discrete j m))) ∙ solved
     where
@@ -68,11 +65,11 @@ module _ (p n : ℕ) (table : List ℕ) (prime : Prime p) (echelon : Echelon p n
           ap (λ (x : ℕ). x * replaced t m v j) z ∙ zero-mul (replaced t m v j) ∙ sym (ap (λ (x : ℕ). x * t j) z ∙ zero-mul (t j))
       term j (no e) = ap (λ (x : ℕ). valueAt table k j * x) (replaced-elsewhere t m v j e)
 
-  pub lead-not-zero : (m : ℕ) → 1 ≤ m → m < n → Leads m → rem (valueAt table m m) p ≡ 0 → ⊥
+  pub lead-not-zero : (m : ℕ) → 1 ≤ m → m < n → LeadsRow table m → rem (valueAt table m m) p ≡ 0 → ⊥
   lead-not-zero m low less leads z = leads (sym (rem-small (valueAt table m m) p (echelon .below m m low less less leads)) ∙ z)
 
   -- some value for unknown m solves row m
-  row-solved : (t : ℕ → ℕ) (m : ℕ) → 1 ≤ m → m < n → Leads m → (v : ℕ) × (v < p) × Solves p n (valueAt table m) (replaced t m v)
+  row-solved : (t : ℕ → ℕ) (m : ℕ) → 1 ≤ m → m < n → LeadsRow table m → (v : ℕ) × (v < p) × Solves p n (valueAt table m) (replaced t m v)
   row-solved t m low less leads =
       let (rest, parts) = sum-apart n m (λ j. valueAt table m j * t j) less in
       let (v, small, root) = solved-by p prime (valueAt table m m) rest (lead-not-zero m low less leads) in (
@@ -83,14 +80,14 @@ module _ (p n : ℕ) (table : List ℕ) (prime : Prime p) (echelon : Echelon p n
             ∙ root,
       )
 
-  chosen-led : (f : ℕ → ℕ) (m : ℕ) → 1 ≤ m → m < n → Leads m → From f (suc m) → From f m
+  chosen-led : (f : ℕ → ℕ) (m : ℕ) → 1 ≤ m → m < n → LeadsRow table m → From f (suc m) → From f m
   chosen-led f m low less leads (t, w) =
       let (v, small, here) = row-solved t m low less leads in (
         replaced t m v,
         record {
           numbers = numbers-replaced t m v (w .numbers) low small;
           free = λ k idle.
-              replaced-elsewhere t m v k (λ e. idle (omega arith) (omega arith) (subst Leads (sym e) leads)) ∙ w .free k idle;
+              replaced-elsewhere t m v k (λ e. idle (omega arith) (omega arith) (subst (LeadsRow table) (sym e) leads)) ∙ w .free k idle;
           solved = λ k l high leads. elim (ℕ-discrete k m) [
             | yes e ↦ subst (λ (i : ℕ). Solves p n (valueAt table i) (replaced t m v)) (sym e) here
             | no e ↦ row-keeps t m v k low (omega arith) high leads (w .solved k (omega arith) high leads)

@@ -10,10 +10,10 @@ use Rattle.field.specs.Prime.{Prime}
 use Rattle.plain.proofs.Congruences.{equal, rem-small, cancel-term, cancel-factor}
 use Rattle.plain.proofs.Terms.{sum-apart}
 use Rattle.brute.proofs.BackSubstitution.{lead-not-zero}
-use Rattle.brute.specs.Equations.{Echelon, Numbers, SolvesRows, valueAt}
+use Rattle.brute.specs.Equations.{Echelon, LeadsRow, Numbers, SolvesRows, valueAt}
 use Rattle.plain.specs.Plain.{Each}
 
-module _ (p n : ℕ) (table : List ℕ) (prime : Prime p) (echelon : Echelon p n table) (all : Each 1 n (λ k. valueAt table k k ≡ 0 → ⊥)) (t u : ℕ → ℕ)
+module _ (p n : ℕ) (table : List ℕ) (prime : Prime p) (echelon : Echelon p n table) (all : Each 1 n (LeadsRow table)) (t u : ℕ → ℕ)
     (wt : Numbers p t) (wu : Numbers p u) (st : SolvesRows p n table t) (su : SolvesRows p n table u) where
   row-fixes : (m : ℕ) → 1 ≤ m → m < n → ((k : ℕ) → m < k → k < n → t k ≡ u k) → t m ≡ u m
   row-fixes m low less after =

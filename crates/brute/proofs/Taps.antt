@@ -17,7 +17,7 @@ use Rattle.plain.proofs.Terms.{sum-ext}
 use Rattle.plain.specs.Plain.{Each, before, discrepancy, rem, sum}
 use Rattle.brute.proofs.BackSubstitution.{some-solution, two-solutions}
 use Rattle.brute.proofs.OneSolution.{one-solution}
-use Rattle.brute.specs.Equations.{Echelon, Numbers, Solves, SolvesRows, valueAt}
+use Rattle.brute.specs.Equations.{Echelon, LeadsRow, Numbers, Solves, SolvesRows, valueAt}
 
 pub discrepancy-solves : (p : ℕ) (s taps : List ℕ) (n j : ℕ) → (discrepancy p s taps n j ≡ 0) ↔ Solves p n (before s j) (λ k. getD taps k 0)
 discrepancy-solves p s taps n j = (λ e. sym same ∙ e, λ e. same ∙ e)
@@ -68,7 +68,7 @@ module _ (p n : ℕ) (table : List ℕ) (prime : Prime p) (echelon : Echelon p n
         λ e. differ (sym (getD-tabulate n t m 0 less) ∙ ap (λ (l : List ℕ). getD l m 0) e ∙ getD-tabulate n u m 0 less),
       )
 
-  pub one-taps : Each 1 n (λ k. valueAt table k k ≡ 0 → ⊥) → (a b : List ℕ) → Meets p n table a → Meets p n table b → a ≡ b
+  pub one-taps : Each 1 n (LeadsRow table) → (a b : List ℕ) → Meets p n table a → Meets p n table b → a ≡ b
   one-taps all a b fa fb =
       by-entries n (λ k. getD b k 0) a (fa .size)
       (one-solution p n table prime echelon all (λ k. getD a k 0) (λ k. getD b k 0) (fa .numbers) (fb .numbers) (fa .solved) (fb .solved))
