@@ -6,6 +6,7 @@ pub mod Marks
 pub mod OneSolution
 pub mod Places
 pub mod Roots
+pub mod SolvingTaps
 pub mod Storing
 pub mod Tables
 pub mod Taps
