@@ -2,10 +2,12 @@ pub mod BackSubstitution
 pub mod Cancelling
 pub mod Crossing
 pub mod Eliminating
+pub mod Gathering
 pub mod Marks
 pub mod OneSolution
 pub mod Places
 pub mod Roots
+pub mod Sequences
 pub mod Storing
 pub mod Tables
 pub mod Taps
