@@ -2,10 +2,13 @@ pub mod BackSubstitution
 pub mod Cancelling
 pub mod Crossing
 pub mod Eliminating
+pub mod Gathering
 pub mod Marks
 pub mod OneSolution
 pub mod Places
+pub mod Producing
 pub mod Roots
+pub mod Sequences
 pub mod SolvingTaps
 pub mod Storing
 pub mod Tables

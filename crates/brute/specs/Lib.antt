@@ -1,3 +1,4 @@
 pub mod Equations
 pub mod Locating
 pub mod Prime
+pub mod Registers
