@@ -104,8 +104,8 @@ module _ (p l : ℕ) (s old : List ℕ) where
       gathered = λ prime room echelon residues.
           gathered-none p (l + 1) next (λ t. SolvesRows p (l + 1) old t × MeetsOne p l s t)
           (λ t numbers r.
-          contradicted p (l + 1) new posed (before s j) (room-still room) wrote prime (omega arith) (λ k h. before-below p prime s residues j k) before-it
-          (w .gathered prime room echelon residues) answer next decided is t numbers (r .0, λ i a b. r .1 i a (omega arith)) (r .1 j low high));
+              contradicted p (l + 1) new posed (before s j) (room-still room) wrote prime (omega arith) (λ k h. before-below p prime s residues j k) before-it
+              (w .gathered prime room echelon residues) answer next decided is t numbers (r .0, λ i a b. r .1 i a (omega arith)) (r .1 j low high));
     }
 
 -- the conditions of the first h sequences
