@@ -9,8 +9,8 @@ use native.Mathlib.Omega.{arith}
 use lib.ListN.{length, getD, set, length-set}
 use lib.Seq.{getD-set-same, getD-set-other}
 use mir.Val.{boolByte}
-use Rattle.brute.specs.Frames.{Located, Marked}
-use Rattle.brute.specs.Plain.{Tells, capped, sum}
+use Rattle.brute.specs.Locating.{Located, Marked}
+use Rattle.plain.specs.Plain.{Tells, capped, sum}
 
 pub marked-none : (l : List ℕ) → Marked l l 0
 marked-none l = record { size = refl; marks = λ k less. absurd (let z : ⊥ = omega arith in z); after = λ k le. refl }

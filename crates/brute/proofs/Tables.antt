@@ -1,4 +1,4 @@
--- A table whose leading values are cleared one after the other, and the answers about an equation.
+-- A table whose leading values are cleared one after the other.
 use mathlib.Core.Path.{_≡_, refl, sym, ap, _∙_}
 use mathlib.Core.List.{List}
 use mathlib.Core.Logic.{_⊎_, inl, inr}
@@ -7,8 +7,7 @@ use native.Mathlib.Decide.{decLt, ℕ-discrete}
 use native.Mathlib.Omega.{arith}
 use lib.ListN.{length, getD, set, length-set, List·getD-eq-default}
 use lib.Seq.{getD-set-same, getD-set-other}
-use Rattle.brute.specs.Equations.{Cleared, Decided, placeOf}
-use Rattle.brute.specs.declared.eliminate.Added.the-variants.{Follows, Leads, Contradicts}
+use Rattle.brute.specs.Equations.{Cleared, placeOf}
 
 pub cleared-none : (l : List ℕ) → Cleared l l 1
 cleared-none l = record { size = refl; leads = λ k low high. absurd (let z : ⊥ = omega arith in z); kept = λ m out. refl }
@@ -46,17 +45,3 @@ cleared-all i n w ge (inr le) = record {
   leads = λ k l h. absurd (let z : ⊥ = omega arith in z);
   kept = λ m out. w .kept m (λ k l h. absurd (let z : ⊥ = omega arith in z));
 }
-
-module _ (old new : List ℕ) (same : length new ≡ length old) where
-  pub decided-leads : Decided Leads old new
-  decided-leads = record {
-    size = same;
-    follows = λ e. absurd (let z : _≡_ {A = ℕ} 0 1 = cc in omega arith);
-    contradicts = λ e. absurd (let z : _≡_ {A = ℕ} 0 1 = cc in omega arith);
-  }
-
-  pub decided-follows : getD new 0 0 ≡ 0 → Decided Follows old new
-  decided-follows h = record { size = same; follows = λ e. h; contradicts = λ e. absurd (let z : _≡_ {A = ℕ} 0 1 = cc in omega arith) }
-
-  pub decided-contradicts : (getD new 0 0 ≡ 0 → ⊥) → Decided Contradicts old new
-  decided-contradicts h = record { size = same; follows = λ e. absurd (let z : _≡_ {A = ℕ} 0 1 = cc in omega arith); contradicts = λ e. h }

@@ -1,7 +1,4 @@
-pub mod Answers
-pub mod Counting
-pub mod Drawn
 pub mod Equations
-pub mod Frames
-pub mod Plain
-pub mod Written
+pub mod Locating
+pub mod Prime
+pub mod Registers

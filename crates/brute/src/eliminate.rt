@@ -1,14 +1,13 @@
 // Linear equations modulo a prime p, solved by elimination without division. An equation is a row of values in a table: value 0 is the
 // constant, value k the coefficient of unknown k. Row k leads with unknown k, or its value k is 0 and it counts as empty. Row 0 is
 // the equation that is being added.
-use crate::values::cross;
-use crate::values::get;
-use crate::values::put;
+use plain::values::cross;
+use plain::values::get;
+use plain::values::put;
 ghost use mathlib.Core.Path.{_≡_};
-ghost use Prim.Native.Nat.{ℕ, _+_, _*_, _<_, _≤_};
-ghost use lib.ListN.{length, getD, replicate};
-ghost use Rattle.brute.specs.Equations.{Cleared, Decided, placeOf};
-ghost use Rattle.brute.specs.Plain.{Each, Tells};
+ghost use lib.ListN.{getD, replicate};
+ghost use Rattle.brute.specs.Equations.{Cancelled, Cleared, CrossedAt, Decided, LeadsRow, Stored, placeOf, valueAt};
+ghost use Rattle.plain.specs.Plain.{Each, Tells};
 ghost use Rattle.brute.specs.declared.eliminate.Added.the-variants.{Follows, Contradicts};
 
 // How many values a row has room for. The table has as many rows.
@@ -60,7 +59,7 @@ fn place(k: usize, j: usize) -> usize
 }
 
 fn value(table: &[u16], k: usize, j: usize) -> u16
-    ensures { λ r. ⌜ r ≡ getD (now (table .entry)) (placeOf k j) 0 ⌝ }
+    ensures { λ r. ⌜ r ≡ valueAt (now (table .entry)) k j ⌝ }
 {
     get(table, place(k, j))
 }
@@ -76,7 +75,7 @@ pub fn clear(table: &mut [u16], n: usize)
 
 // Takes the multiple of row k by which unknown k falls out from value j of the equation that is being added.
 fn cancel_value(p: u16, table: &mut [u16], k: usize, j: usize, x: u16)
-    ensures { λ r. ⌜ length (now (table .exit)) ≡ length (now (table .entry)) ⌝ }
+    ensures { λ r. ⌜ CrossedAt p (now (table .entry)) (now (table .exit)) k j x ⌝ }
 {
     let lead = value(table, k, k);
     let v = cross(p, get(table, j), lead, value(table, k, j), x);
@@ -85,7 +84,7 @@ fn cancel_value(p: u16, table: &mut [u16], k: usize, j: usize, x: u16)
 
 // Takes unknown k out of the equation that is being added, by row k.
 fn cancel(p: u16, table: &mut [u16], k: usize, n: usize)
-    ensures { λ r. ⌜ length (now (table .exit)) ≡ length (now (table .entry)) ⌝ }
+    ensures { λ r. ⌜ Cancelled p (now (table .entry)) (now (table .exit)) k n ⌝ }
 {
     let x = get(table, k);
     if x == 0 {
@@ -96,8 +95,9 @@ fn cancel(p: u16, table: &mut [u16], k: usize, n: usize)
     }
 }
 
+// The equation that is being added becomes row k.
 fn keep(table: &mut [u16], k: usize, n: usize)
-    ensures { λ r. ⌜ length (now (table .exit)) ≡ length (now (table .entry)) ⌝ }
+    ensures { λ r. ⌜ Stored (now (table .entry)) (now (table .exit)) k n ⌝ }
 {
     for j in 0..n {
         let v = get(table, j);
@@ -106,7 +106,9 @@ fn keep(table: &mut [u16], k: usize, n: usize)
 }
 
 // The equation that is being added has unknown k, and no row leads with it.
-fn is_new(table: &[u16], k: usize) -> bool {
+fn is_new(table: &[u16], k: usize) -> bool
+    ensures { λ r. ⌜ Tells r ((getD (now (table .entry)) k 0 ≡ 0 → ⊥) × (valueAt (now (table .entry)) k k ≡ 0)) ⌝ }
+{
     if get(table, k) == 0 {
         return false;
     }
@@ -115,7 +117,7 @@ fn is_new(table: &[u16], k: usize) -> bool {
 
 // Adds the equation of row 0, which has n values.
 pub fn add(p: u16, table: &mut [u16], n: usize) -> Added
-    ensures { λ r. ⌜ Decided r (now (table .entry)) (now (table .exit)) ⌝ }
+    ensures { λ r. ⌜ Decided p n r (now (table .entry)) (now (table .exit)) ⌝ }
 {
     for k in 1..n {
         if is_new(table, k) {
@@ -132,7 +134,7 @@ pub fn add(p: u16, table: &mut [u16], n: usize) -> Added
 
 // Every unknown leads a row: there is at most one solution.
 pub(crate) fn determined(table: &[u16], n: usize) -> bool
-    ensures { λ r. ⌜ Tells r (Each 1 n (λ k. getD (now (table .entry)) (placeOf k k) 0 ≡ 0 → ⊥)) ⌝ }
+    ensures { λ r. ⌜ Tells r (Each 1 n (λ k. LeadsRow (now (table .entry)) k)) ⌝ }
 {
     for k in 1..n {
         if value(table, k, k) == 0 {

@@ -1,106 +1,22 @@
-// Frames over the field of 257 from their definitions. Check sums take the powers of 3 by repeated multiplication, and the second locator
-// asks elimination: whether a column is named is whether its equation follows from those of the taps.
+// The second locator, which asks elimination: whether a column is named is whether its equation follows from those of the taps.
 use crate::eliminate;
-use crate::sequences::start;
 use crate::shortest::shortest;
-use crate::values::get;
-use crate::values::part;
-use crate::values::plus;
-use crate::values::plus_product;
-use crate::values::product;
-use crate::values::put;
-use crate::values::put_at;
-use crate::values::times;
+use plain::frames::power;
+use plain::frames::size;
+use plain::values::get;
+use plain::values::put;
+use plain::values::times;
 ghost use mathlib.Core.Path.{_≡_};
-ghost use mathlib.Core.Bool.{true, false};
-ghost use Prim.Native.Nat.{ℕ, suc, _+_, _*_, _-_, _%_, _^_, _<_, _≤_};
+ghost use Prim.Native.Nat.{ℕ, _%_, _^_, _<_};
 ghost use lib.ListN.{length, getD};
-ghost use Rattle.brute.specs.Frames.{Located, Marked, Summed, checkSum, row};
-ghost use Rattle.brute.specs.Plain.{Each, Tells, capped, sum};
-ghost use Rattle.brute.specs.Written.{Wrote};
+ghost use Rattle.brute.specs.Locating.{Located, Marked};
+ghost use Rattle.plain.specs.Plain.{Tells};
+ghost use Rattle.plain.specs.Written.{Wrote};
 
 // What locating must answer: the number of the refusal, or 0, and the length of the shortest register.
 pub struct Expected {
     pub number: u32,
     pub length: usize,
-}
-
-pub fn power(x: u16, e: usize) -> u16
-    ensures { λ r. ⌜ r ≡ x ^ e % 257 ⌝ }
-{
-    let mut r: u16 = 1;
-    for _ in 0..e {
-        r = times(257, r, x);
-    }
-    r
-}
-
-// Row h of a frame, which has at most eight.
-pub fn row(frame: &[u16], columns: u16, h: usize) -> &[u16]
-    ensures { λ r. ⌜ now r ≡ row (now (frame .entry)) columns h ⌝ }
-{
-    if h < 8 {
-        return part(frame, product(h as u16, columns) as usize, columns as usize);
-    }
-    part(frame, 1, 0)
-}
-
-// The check sum S_j of a row.
-fn check_sum(row: &[u16], j: usize) -> u16
-    ensures { λ r. ⌜ r ≡ checkSum (now (row .entry)) j ⌝ }
-{
-    let step = power(3, j);
-    let mut weight: u16 = 1;
-    let mut sum: u16 = 0;
-    for i in 0..row.len() {
-        sum = plus_product(257, sum, get(row, i), weight);
-        weight = times(257, weight, step);
-    }
-    sum
-}
-
-fn row_sums(row: &[u16], n: u16, sums: &mut [u16], at: usize)
-    ensures { λ r. ⌜ Wrote (now (sums .entry)) (now (sums .exit)) at (at + n) (λ k. checkSum (now (row .entry)) (suc (k - at))) ⌝ }
-{
-    for j in 0..n {
-        let i = j as usize;
-        put_at(sums, at, i, check_sum(row, i + 1));
-    }
-}
-
-// The check sums of all rows, row after row.
-pub fn check_sums(columns: u16, checks: &[u16], frame: &[u16], sums: &mut [u16])
-    ensures { λ r. ⌜
-        Summed columns (now (checks .entry)) (now (frame .entry)) (length (now (checks .entry))) (now (sums .entry)) (now (sums .exit))
-        ⌝ }
-{
-    for h in 0..checks.len() {
-        let at = start(checks, h);
-        row_sums(row(frame, columns, h), get(checks, h), sums, at);
-    }
-}
-
-fn all_zero(a: &[u16]) -> bool
-    ensures { λ r. ⌜ Tells r (Each 0 (length (now (a .entry))) (λ i. getD (now (a .entry)) i 0 ≡ 0)) ⌝ }
-{
-    for i in 0..a.len() {
-        if get(a, i) != 0 {
-            return false;
-        }
-    }
-    true
-}
-
-// Every check sum of the frame is 0. There is room for 512 of them.
-pub fn legal(columns: u16, checks: &[u16], frame: &[u16]) -> bool
-    ensures { λ r. ⌜
-        Tells r (Each 0 (length (now (checks .entry))) (λ h. Each 0 (getD (now (checks .entry)) h 0) (λ j.
-        sum h (λ i. getD (now (checks .entry)) i 0) + j < 512 → checkSum (row (now (frame .entry)) columns h) (suc j) ≡ 0)))
-        ⌝ }
-{
-    let mut sums = [0u16; 512];
-    check_sums(columns, checks, frame, &mut sums);
-    all_zero(&sums)
 }
 
 // Some row has fewer than c checks.
@@ -142,17 +58,6 @@ fn mark(table: &mut [u16], columns: u16, n: usize, named: &mut [u16])
         let marked = names(table, i, n);
         put(named, i as usize, marked as u16);
     }
-}
-
-// How many marks are set.
-pub fn size(marks: &[u16]) -> usize
-    ensures { λ r. ⌜ r ≡ capped (sum (length (now (marks .entry))) (λ i. getD (now (marks .entry)) i 0)) ⌝ }
-{
-    let mut n: usize = 0;
-    for i in 0..marks.len() {
-        n = plus(n, get(marks, i) as usize);
-    }
-    n
 }
 
 // What locating answers for these check sums; the marks of the named columns are left in the lent array.

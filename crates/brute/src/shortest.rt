@@ -4,15 +4,13 @@ use crate::eliminate::add;
 use crate::eliminate::clear;
 use crate::eliminate::contradicts;
 use crate::eliminate::determined;
-use crate::sequences::discrepancy;
-use crate::sequences::sequence;
-use crate::values::before;
-use crate::values::put;
-ghost use mathlib.Core.Path.{_≡_};
-ghost use mathlib.Core.Bool.{true, false};
-ghost use Prim.Native.Nat.{_+_, _≤_};
-ghost use lib.ListN.{length, getD};
-ghost use Rattle.brute.specs.Plain.{Each, Tells, discrepancy, sequence};
+use plain::sequences::discrepancy;
+use plain::sequences::sequence;
+use plain::values::before;
+use plain::values::put;
+ghost use Rattle.brute.specs.Registers.{Generates, GeneratesOne, Searched, SequenceAdded, Solvable};
+ghost use Rattle.plain.specs.Plain.{Tells, before};
+ghost use Rattle.plain.specs.Written.{Wrote};
 
 pub struct Answer {
     pub length: usize,
@@ -21,7 +19,7 @@ pub struct Answer {
 
 // The equation of the symbol at place j: it and the symbols before it, times the taps, add up to 0.
 fn pose(table: &mut [u16], s: &[u16], j: usize, n: usize)
-    ensures { λ r. ⌜ length (now (table .exit)) ≡ length (now (table .entry)) ⌝ }
+    ensures { λ r. ⌜ Wrote (now (table .entry)) (now (table .exit)) 0 n (before (now (s .entry)) j) ⌝ }
 {
     for k in 0..n {
         put(table, k, before(s, j, k));
@@ -30,7 +28,7 @@ fn pose(table: &mut [u16], s: &[u16], j: usize, n: usize)
 
 // The conditions of one sequence; false where no taps meet them. With l from its length on there is nothing to meet.
 fn add_sequence(p: u16, table: &mut [u16], s: &[u16], l: usize) -> bool
-    ensures { λ r. ⌜ length (now (table .exit)) ≡ length (now (table .entry)) ⌝ }
+    ensures { λ r. ⌜ SequenceAdded p l (now (s .entry)) (now (table .entry)) (now (table .exit)) r ⌝ }
 {
     if s.len() <= l {
         return true;
@@ -46,7 +44,7 @@ fn add_sequence(p: u16, table: &mut [u16], s: &[u16], l: usize) -> bool
 
 // Some register of length l generates all sequences. Its conditions are left in the table.
 fn solvable(p: u16, lengths: &[u16], symbols: &[u16], l: usize, table: &mut [u16]) -> bool
-    ensures { λ r. ⌜ length (now (table .exit)) ≡ length (now (table .entry)) ⌝ }
+    ensures { λ r. ⌜ Solvable p l (now (lengths .entry)) (now (symbols .entry)) (now (table .entry)) (now (table .exit)) r ⌝ }
 {
     clear(table, std::num::wrapping_add_usize(l, 1));
     for h in 0..lengths.len() {
@@ -59,7 +57,9 @@ fn solvable(p: u16, lengths: &[u16], symbols: &[u16], l: usize, table: &mut [u16
 
 // The length is at most 128, or 129 where no register was found.
 pub fn shortest(p: u16, lengths: &[u16], symbols: &[u16], table: &mut [u16]) -> Answer
-    ensures { λ r. ⌜ (r .length ≤ 129) × (length (now (table .exit)) ≡ length (now (table .entry))) ⌝ }
+    ensures { λ r. ⌜
+        Searched p (now (lengths .entry)) (now (symbols .entry)) (now (table .entry)) (now (table .exit)) (r .length) (r .alone)
+        ⌝ }
 {
     for l in 0..129 {
         if solvable(p, lengths, symbols, l, table) {
@@ -74,7 +74,7 @@ pub fn shortest(p: u16, lengths: &[u16], symbols: &[u16], table: &mut [u16]) -> 
 }
 
 fn generates_one(p: u16, s: &[u16], taps: &[u16], l: usize) -> bool
-    ensures { λ r. ⌜ Tells r (Each l (length (now (s .entry))) (λ j. discrepancy p (now (s .entry)) (now (taps .entry)) (l + 1) j ≡ 0)) ⌝ }
+    ensures { λ r. ⌜ Tells r (GeneratesOne p l (now (s .entry)) (now (taps .entry))) ⌝ }
 {
     if s.len() <= l {
         return true;
@@ -89,10 +89,7 @@ fn generates_one(p: u16, s: &[u16], taps: &[u16], l: usize) -> bool
 
 // The register with these l + 1 taps, the first for the symbol itself, generates all sequences.
 pub fn generates(p: u16, lengths: &[u16], symbols: &[u16], taps: &[u16], l: usize) -> bool
-    ensures { λ r. ⌜
-        Tells r (Each 0 (length (now (lengths .entry))) (λ h. Each l (length (sequence (now (lengths .entry)) (now (symbols .entry)) h))
-        (λ j. discrepancy p (sequence (now (lengths .entry)) (now (symbols .entry)) h) (now (taps .entry)) (l + 1) j ≡ 0)))
-        ⌝ }
+    ensures { λ r. ⌜ Tells r (Generates p l (now (lengths .entry)) (now (symbols .entry)) (now (taps .entry))) ⌝ }
 {
     for h in 0..lengths.len() {
         if !generates_one(p, sequence(lengths, symbols, h), taps, l) {

@@ -6,18 +6,18 @@ use crate::model::EMPTY;
 use crate::model::Model;
 use crate::model::size;
 use crate::tallies::LISTS;
-use brute::damage::damage;
-use brute::random::draw;
-use brute::random::draw_from;
-use brute::random::fill_from;
-use brute::tally::count;
-use brute::tally::print_frame;
-use brute::values::copy;
-use brute::values::first;
-use brute::values::minus;
-use brute::values::part;
-use brute::values::put;
-use brute::values::remainder;
+use plain::damage::damage;
+use plain::random::draw;
+use plain::random::draw_from;
+use plain::random::fill_from;
+use plain::tally::count;
+use plain::tally::print_frame;
+use plain::values::copy;
+use plain::values::first;
+use plain::values::minus;
+use plain::values::part;
+use plain::values::put;
+use plain::values::remainder;
 
 enum Call {
     Shape,

@@ -6,9 +6,9 @@ mod edges;
 mod model;
 mod tallies;
 
-use brute::tally::print;
-use brute::tally::print_end;
-use brute::values::get;
+use plain::tally::print;
+use plain::tally::print_end;
+use plain::values::get;
 
 // Runs everything up to the first disagreement.
 fn run(state: &mut u64, counts: &mut [u64]) -> bool {

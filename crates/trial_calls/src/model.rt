@@ -1,12 +1,12 @@
 // A simple model of a job: what each call must answer, and the state that it leaves. It shares no code with the library.
-use brute::locator::check_sums;
 use brute::locator::locate;
-use brute::locator::row;
-use brute::values::copy;
-use brute::values::get;
-use brute::values::minus;
-use brute::values::part;
-use brute::values::product;
+use plain::frames::check_sums;
+use plain::frames::row;
+use plain::values::copy;
+use plain::values::get;
+use plain::values::minus;
+use plain::values::part;
+use plain::values::product;
 
 pub(crate) const EMPTY: u16 = 0;
 
@@ -204,7 +204,7 @@ fn sums_differ(model: Model, frame: &[u16]) -> bool {
     let mut sums = [0u16; 512];
     let lent = part(&checks, 0, model.rows as usize);
     check_sums(model.columns, lent, frame, &mut sums);
-    !brute::compare::same(&held, &sums, 0)
+    !plain::compare::same(&held, &sums, 0)
 }
 
 fn repair_reason(model: Model, frame: &[u16]) -> u32 {

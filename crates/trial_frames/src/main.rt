@@ -6,9 +6,9 @@ mod frames;
 mod subsets;
 mod tallies;
 
-use brute::tally::print;
-use brute::tally::print_end;
 use frames::Size;
+use plain::tally::print;
+use plain::tally::print_end;
 
 // Runs everything up to the first disagreement.
 fn run(state: &mut u64, counts: &mut [u64]) -> bool {

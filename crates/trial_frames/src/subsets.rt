@@ -1,14 +1,14 @@
 // How far the nearest legal frame is, for frames of few columns: all sets of columns are tried, and elimination tells whether errors in
 // them alone give the check sums.
-use brute::counting::advance;
 use brute::eliminate;
-use brute::locator::power;
-use brute::locator::size;
-use brute::sequences::sequence;
-use brute::values::get;
-use brute::values::part;
-use brute::values::put;
-use brute::values::times;
+use plain::counting::advance;
+use plain::frames::power;
+use plain::frames::size;
+use plain::sequences::sequence;
+use plain::values::get;
+use plain::values::part;
+use plain::values::put;
+use plain::values::times;
 
 // The equation of check sum j: the errors of the marked columns, times their weights, add up to it.
 fn pose(table: &mut [u16], marks: &[u16], sum: u16, j: usize) {

@@ -1,13 +1,13 @@
 // Random sequences of several kinds.
-use brute::random::draw;
-use brute::random::fill_from;
-use brute::sequences::start;
-use brute::values::before;
-use brute::values::cross;
-use brute::values::get;
-use brute::values::plus_product;
-use brute::values::put;
-use brute::values::remainder;
+use plain::random::draw;
+use plain::random::fill_from;
+use plain::sequences::start;
+use plain::values::before;
+use plain::values::cross;
+use plain::values::get;
+use plain::values::plus_product;
+use plain::values::put;
+use plain::values::remainder;
 
 // What follows at place i by the recurrence with these l taps.
 fn next(p: u16, s: &[u16], i: usize, taps: &[u16], l: usize) -> u16 {

@@ -1,14 +1,14 @@
 // The finder at the edges (SPECIFICATION.md, "Examples"): what is just taken and what is just refused, and which of two reasons to refuse comes first.
 use crate::tallies::EDGES;
-use brute::tally::count;
-use brute::tally::print_list;
-use brute::values::get;
-use brute::values::minus;
-use brute::values::part;
-use brute::values::put;
-use brute::values::set;
 use finder::Found;
 use finder::find::find;
+use plain::tally::count;
+use plain::tally::print_list;
+use plain::values::get;
+use plain::values::minus;
+use plain::values::part;
+use plain::values::put;
+use plain::values::set;
 use refusal::number_of;
 
 // The number of the refusal, or 0.

@@ -1,7 +1,7 @@
 // The shortest register by trying all taps, for small p and short sequences.
-use brute::counting::advance;
 use brute::shortest::Answer;
 use brute::shortest::generates;
+use plain::counting::advance;
 
 // How many taps of length l generate all sequences, counted one by one up to 4096.
 fn count(p: u16, lengths: &[u16], symbols: &[u16], l: usize) -> usize {

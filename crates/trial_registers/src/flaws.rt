@@ -2,17 +2,17 @@
 use crate::edges::find_in;
 use crate::registers::prime;
 use crate::tallies::REFUSED;
-use brute::random::draw;
-use brute::random::draw_from;
-use brute::random::fill_from;
-use brute::sequences::start;
-use brute::tally::count;
-use brute::tally::print_list;
-use brute::values::get;
-use brute::values::minus;
-use brute::values::part;
-use brute::values::put;
-use brute::values::remainder;
+use plain::random::draw;
+use plain::random::draw_from;
+use plain::random::fill_from;
+use plain::sequences::start;
+use plain::tally::count;
+use plain::tally::print_list;
+use plain::values::get;
+use plain::values::minus;
+use plain::values::part;
+use plain::values::put;
+use plain::values::remainder;
 
 // No number from 2 to p − 1 divides p.
 fn is_prime(p: u16) -> bool {

@@ -9,8 +9,8 @@ mod registers;
 mod sorted;
 mod tallies;
 
-use brute::tally::print;
-use brute::tally::print_end;
+use plain::tally::print;
+use plain::tally::print_end;
 use registers::Drawn;
 
 // Runs everything up to the first disagreement.

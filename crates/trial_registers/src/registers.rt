@@ -7,22 +7,22 @@ use crate::sorted::sort;
 use crate::tallies::ALONE;
 use crate::tallies::LONGER_FROM_STARTS;
 use crate::tallies::NOT_ALONE;
-use brute::counting::advance;
 use brute::eliminate;
-use brute::random::draw;
-use brute::random::draw_from;
-use brute::random::fill_from;
-use brute::sequences::start;
 use brute::shortest::Answer;
 use brute::shortest::generates;
 use brute::shortest::shortest;
-use brute::tally::count;
-use brute::tally::print_list;
-use brute::values::cross;
-use brute::values::get;
-use brute::values::part;
 use finder::Found;
 use finder::find::find;
+use plain::counting::advance;
+use plain::random::draw;
+use plain::random::draw_from;
+use plain::random::fill_from;
+use plain::sequences::start;
+use plain::tally::count;
+use plain::tally::print_list;
+use plain::values::cross;
+use plain::values::get;
+use plain::values::part;
 
 // The taps, the first of which is 1, times the first of b are b.
 fn proportional(p: u16, a: &[u16], b: &[u16], n: usize) -> bool {

@@ -1,20 +1,25 @@
 -- `brute::eliminate::add` meets its contract.
-use mathlib.Core.Path.{sym, _∙_, _≡_}
-use Prim.Native.Nat.{_-_}
+use mathlib.Core.Path.{_≡_, refl, sym, _∙_}
+use Prim.Native.Nat.{_-_, _≤_}
+use native.Mathlib.Omega.{arith}
 use lib.ListN.{length}
 use borrow.Author.Needs.{needs}
-use Rattle.brute.proofs.Tables.{decided-leads, decided-contradicts, decided-follows}
+use Rattle.brute.proofs.Eliminating.{Reduced, reduced-none, reduced-more, leading, following, contradicting}
+use Rattle.brute.specs.Equations.{Posed}
 use Rattle.brute.proofs.eliminate.add.Statement.{statement}
 use Rattle.brute.proofs.eliminate.add.Tie as tie
 
 abbrev Inv-loop : tie.InvT-loop
-Inv-loop p table₀ n k₀ table k = length table ≡ length table₀
+Inv-loop p table₀ n k₀ table k = (1 ≤ k) × (length table ≡ length table₀) × (Posed p n table₀ → Reduced p n table₀ k table)
 
 abbrev μ-loop : tie.MeasureT-loop
 μ-loop p table₀ n k₀ table k = n - k
 
+abbrev loop-of : tie.After-is-new Inv-loop μ-loop → tie.At-loop Inv-loop μ-loop
+loop-of c = c .before .before .before
+
 loop-holds : tie.Need-loop-holds Inv-loop μ-loop
-loop-holds c = search needs
+loop-holds c = (omega arith, refl, λ posed. reduced-none _ _ _ posed)
 
 is-new-requires : tie.Need-is-new-requires Inv-loop μ-loop
 is-new-requires c κs = search needs
@@ -26,7 +31,16 @@ same-length : tie.Need-same-length Inv-loop μ-loop
 same-length c = search needs
 
 returns : tie.Need-returns Inv-loop μ-loop
-returns c = decided-leads _ _ (c .before .before .keep .ensures ∙ c .before .before .before .before .before .before .before .before .loop .inv)
+returns c =
+    let kept = c .before .before in
+    let found = kept .before .before in
+    let at = loop-of (found .before) in
+    record {
+      size = kept .keep .ensures .size ∙ at .loop .inv .1;
+      settled = λ posed.
+          leading _ _ _ posed _ _ (at .loop .inv .2 posed) (at .loop .inv .0) (omega arith) (found .before .is-new .ensures .yes (found .if1 .taken)) _
+          (kept .keep .ensures);
+    }
 
 cancel-requires : tie.Need-cancel-requires Inv-loop μ-loop
 cancel-requires c κs = search needs
@@ -38,7 +52,16 @@ loop-less : tie.Need-loop-less Inv-loop μ-loop
 loop-less c = search needs
 
 loop-again : tie.Need-loop-again Inv-loop μ-loop
-loop-again c = search needs
+loop-again c =
+    let out = c .before .before in
+    let known = out .before .before in
+    let at = loop-of (known .before) in (
+      omega arith,
+      out .cancel .ensures .size ∙ at .loop .inv .1,
+      λ posed.
+          reduced-more _ _ _ posed _ _ (at .loop .inv .2 posed) (at .loop .inv .0) (omega arith) _ (out .cancel .ensures)
+          (known .before .is-new .ensures .no (known .if1 .left)),
+    )
 
 get-requires : tie.Need-get-requires Inv-loop μ-loop
 get-requires c κs = search needs
@@ -47,13 +70,23 @@ same-length-2 : tie.Need-same-length-2 Inv-loop μ-loop
 same-length-2 c = search needs
 
 returns-2 : tie.Need-returns-2 Inv-loop μ-loop
-returns-2 c = decided-contradicts _ _ (c .before .before .before .before .loop .inv) (λ e. c .if2 .taken (c .before .get .ensures ∙ e))
+returns-2 c =
+    let inv = c .before .before .before .before .loop .inv in
+    record {
+      size = inv .1;
+      settled = λ posed. contradicting _ _ _ posed _ _ (inv .2 posed) (omega arith) (λ e. c .if2 .taken (c .before .get .ensures ∙ e));
+    }
 
 same-length-3 : tie.Need-same-length-3 Inv-loop μ-loop
 same-length-3 c = search needs
 
 returns-3 : tie.Need-returns-3 Inv-loop μ-loop
-returns-3 c = decided-follows _ _ (c .before .before .before .before .loop .inv) (sym (c .before .get .ensures) ∙ c .if2 .left)
+returns-3 c =
+    let inv = c .before .before .before .before .loop .inv in
+    record {
+      size = inv .1;
+      settled = λ posed. following _ _ _ posed _ _ (inv .2 posed) (omega arith) (sym (c .before .get .ensures) ∙ c .if2 .left);
+    }
 
 pub add-spec : {M : Type 1} → statement M
 add-spec =

@@ -1,16 +1,53 @@
--- `brute::eliminate::cancel` is safe and ends: `table` keeps its length.
-use Prim.Native.Nat.{_-_}
-use mathlib.Core.Path.{_≡_}
-use lib.ListN.{length}
+-- `brute::eliminate::cancel` meets its contract.
+use mathlib.Core.Path.{sym, _∙_}
+use Prim.Native.Nat.{_-_, _≤_}
+use native.Mathlib.Omega.{arith}
 use borrow.Author.Needs.{needs}
+use Rattle.brute.proofs.Crossing.{cancelled-none, cancelled-zero, cancelled-more, cancelled-all}
+use Rattle.brute.specs.Equations.{Cancelled}
 use Rattle.brute.proofs.eliminate.cancel.Statement.{statement}
 use Rattle.brute.proofs.eliminate.cancel.Tie as tie
 
 abbrev Inv-loop : tie.InvT-loop
-Inv-loop p table₀ k n x j₀ table j = length table ≡ length table₀
+Inv-loop p table₀ k n x j₀ table j = (j ≤ n) × Cancelled p table₀ table k j
 
 abbrev μ-loop : tie.MeasureT-loop
 μ-loop p table₀ k n x j₀ table j = n - j
+
+get-requires : tie.Need-get-requires Inv-loop μ-loop
+get-requires c κs = search needs
+
+same-length : tie.Need-same-length Inv-loop μ-loop
+same-length c = search needs
+
+returns : tie.Need-returns Inv-loop μ-loop
+returns c = cancelled-zero _ _ _ _ (sym (c .before .get .ensures) ∙ c .if1 .taken)
+
+loop-holds : tie.Need-loop-holds Inv-loop μ-loop
+loop-holds c = (omega arith, cancelled-none _ _ _)
+
+cancel-value-requires : tie.Need-cancel-value-requires Inv-loop μ-loop
+cancel-value-requires c κs = search needs
+
+add-j : tie.Need-add-j Inv-loop μ-loop
+add-j c = search needs
+
+loop-less : tie.Need-loop-less Inv-loop μ-loop
+loop-less c = search needs
+
+loop-again : tie.Need-loop-again Inv-loop μ-loop
+loop-again c =
+    let asked = c .before .before in
+    let at = asked .before .before .before in (
+      omega arith,
+      cancelled-more _ _ _ _ _ _ _ (at .loop .inv .1) (at .before .before .get .ensures) (at .before .if1 .left) (asked .cancel-value .ensures),
+    )
+
+same-length-2 : tie.Need-same-length-2 Inv-loop μ-loop
+same-length-2 c = search needs
+
+returns-2 : tie.Need-returns-2 Inv-loop μ-loop
+returns-2 c = cancelled-all _ _ _ _ _ _ (c .before .loop .inv .1) (c .before .loop .inv .0) (omega arith)
 
 pub cancel-spec : {M : Type 1} → statement M
 cancel-spec =
@@ -18,13 +55,13 @@ cancel-spec =
     (tie.spec
     Inv-loop
     μ-loop
-    (λ c κs. search needs)
-    (λ c. search needs)
-    (λ c. search needs)
-    (λ c. search needs)
-    (λ c κs. search needs)
-    (λ c. search needs)
-    (λ c. search needs)
-    (λ c. search needs)
-    (λ c. search needs)
-    (λ c. search needs))
+    get-requires
+    same-length
+    returns
+    loop-holds
+    cancel-value-requires
+    add-j
+    loop-less
+    loop-again
+    same-length-2
+    returns-2)

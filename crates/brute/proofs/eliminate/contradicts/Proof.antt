@@ -3,7 +3,7 @@ use mathlib.Core.Path.{_≡_}
 use Prim.Native.Nat.{ℕ}
 use native.Mathlib.Omega.{arith}
 use borrow.Author.Needs.{needs}
-use Rattle.brute.proofs.Tests.{tells-true, tells-false}
+use Rattle.plain.proofs.Tests.{tells-true, tells-false}
 use Rattle.brute.proofs.eliminate.contradicts.Statement.{statement}
 use Rattle.brute.proofs.eliminate.contradicts.Tie as tie
 

@@ -4,9 +4,9 @@ use Prim.Native.Nat.{_-_, _≤_}
 use native.Mathlib.Omega.{arith}
 use lib.ListN.{getD}
 use borrow.Author.Needs.{needs}
-use Rattle.brute.proofs.Tests.{each-none, each-more, each-fails, each-holds}
+use Rattle.plain.proofs.Tests.{each-none, each-more, each-fails, each-holds}
 use Rattle.brute.specs.Equations.{placeOf}
-use Rattle.brute.specs.Plain.{Each}
+use Rattle.plain.specs.Plain.{Each}
 use Rattle.brute.proofs.eliminate.determined.Statement.{statement}
 use Rattle.brute.proofs.eliminate.determined.Tie as tie
 

@@ -3,7 +3,7 @@ use mathlib.Core.Logic.{inl, inr, ⊎-elim}
 use mathlib.Core.Path.{sym}
 use native.Mathlib.Omega.{arith}
 use borrow.Author.Needs.{needs}
-use Rattle.brute.proofs.Choices.{place-in, place-out}
+use Rattle.brute.proofs.Places.{place-in, place-out}
 use Rattle.brute.proofs.eliminate.place.Statement.{statement}
 use Rattle.brute.proofs.eliminate.place.Tie as tie
 

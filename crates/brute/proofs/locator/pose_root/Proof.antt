@@ -3,9 +3,9 @@ use mathlib.Core.Path.{_≡_}
 use Prim.Native.Nat.{_-_, _%_, _^_, _≤_}
 use native.Mathlib.Omega.{arith}
 use borrow.Author.Needs.{needs}
-use Rattle.brute.proofs.Powers.{power-none, power-more}
-use Rattle.brute.proofs.Writing.{wrote-none, wrote-put, wrote-all}
-use Rattle.brute.specs.Written.{Wrote}
+use Rattle.plain.proofs.Powers.{power-none, power-more}
+use Rattle.plain.proofs.Writing.{wrote-none, wrote-put, wrote-all}
+use Rattle.plain.specs.Written.{Wrote}
 use Rattle.brute.proofs.locator.pose_root.Statement.{statement}
 use Rattle.brute.proofs.locator.pose_root.Tie as tie
 

@@ -4,8 +4,8 @@ use Prim.Native.Nat.{_-_, _<_}
 use native.Mathlib.Omega.{arith}
 use lib.ListN.{length, getD}
 use borrow.Author.Needs.{needs}
-use Rattle.brute.proofs.Tests.{some-found, none-found, each-none, each-more}
-use Rattle.brute.specs.Plain.{Each}
+use Rattle.plain.proofs.Tests.{some-found, none-found, each-none, each-more}
+use Rattle.plain.specs.Plain.{Each}
 use Rattle.brute.proofs.locator.short_row.Statement.{statement}
 use Rattle.brute.proofs.locator.short_row.Tie as tie
 

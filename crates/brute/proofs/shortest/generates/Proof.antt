@@ -5,8 +5,8 @@ use Prim.Native.Nat.{ℕ, _+_, _-_}
 use native.Mathlib.Omega.{arith}
 use lib.ListN.{length}
 use borrow.Author.Needs.{needs}
-use Rattle.brute.proofs.Tests.{told-fails, told-holds, each-none, each-more, each-fails, each-holds}
-use Rattle.brute.specs.Plain.{Tells, Each, discrepancy, sequence}
+use Rattle.plain.proofs.Tests.{told-fails, told-holds, each-none, each-more, each-fails, each-holds}
+use Rattle.plain.specs.Plain.{Tells, Each, discrepancy, sequence}
 use Rattle.brute.proofs.shortest.generates.Statement.{statement}
 use Rattle.brute.proofs.shortest.generates.Tie as tie
 

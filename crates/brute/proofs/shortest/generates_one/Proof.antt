@@ -4,8 +4,8 @@ use Prim.Native.Nat.{_+_, _-_, _≤_}
 use native.Mathlib.Omega.{arith}
 use lib.ListN.{length}
 use borrow.Author.Needs.{needs}
-use Rattle.brute.proofs.Tests.{each-none, each-more, each-fails, each-holds}
-use Rattle.brute.specs.Plain.{Each, discrepancy}
+use Rattle.plain.proofs.Tests.{each-none, each-more, each-fails, each-holds}
+use Rattle.plain.specs.Plain.{Each, discrepancy}
 use Rattle.brute.proofs.shortest.generates_one.Statement.{statement}
 use Rattle.brute.proofs.shortest.generates_one.Tie as tie
 

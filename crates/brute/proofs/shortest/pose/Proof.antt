@@ -1,16 +1,44 @@
--- `brute::shortest::pose` is safe and ends: `table` keeps its length.
-use Prim.Native.Nat.{_-_}
-use mathlib.Core.Path.{_≡_}
-use lib.ListN.{length}
+-- `brute::shortest::pose` meets its contract.
+use Prim.Native.Nat.{_-_, _≤_}
+use native.Mathlib.Omega.{arith}
 use borrow.Author.Needs.{needs}
+use Rattle.plain.proofs.Writing.{wrote-none, wrote-put, wrote-all}
+use Rattle.plain.specs.Plain.{before}
+use Rattle.plain.specs.Written.{Wrote}
 use Rattle.brute.proofs.shortest.pose.Statement.{statement}
 use Rattle.brute.proofs.shortest.pose.Tie as tie
 
 abbrev Inv-loop : tie.InvT-loop
-Inv-loop table₀ s j n k₀ table k = length table ≡ length table₀
+Inv-loop table₀ s j n k₀ table k = (k ≤ n) × Wrote table₀ table 0 k (before s j)
 
 abbrev μ-loop : tie.MeasureT-loop
 μ-loop table₀ s j n k₀ table k = n - k
+
+loop-holds : tie.Need-loop-holds Inv-loop μ-loop
+loop-holds c = (omega arith, wrote-none _ 0 _)
+
+before-requires : tie.Need-before-requires Inv-loop μ-loop
+before-requires c κs = search needs
+
+put-requires : tie.Need-put-requires Inv-loop μ-loop
+put-requires c κs = search needs
+
+add-k : tie.Need-add-k Inv-loop μ-loop
+add-k c = search needs
+
+loop-less : tie.Need-loop-less Inv-loop μ-loop
+loop-less c = search needs
+
+loop-again : tie.Need-loop-again Inv-loop μ-loop
+loop-again c =
+    let at = c .before .before .before .before .before .before in
+    (omega arith, wrote-put 0 (at .loop .k) _ (at .loop .inv .1) (omega arith) (c .before .before .put .ensures) (c .before .before .before .before2 .ensures))
+
+same-length : tie.Need-same-length Inv-loop μ-loop
+same-length c = search needs
+
+returns : tie.Need-returns Inv-loop μ-loop
+returns c = wrote-all 0 _ _ (c .before .loop .inv .1) (c .before .loop .inv .0) (omega arith)
 
 pub pose-spec : {M : Type 1} → statement M
 pose-spec =
@@ -18,11 +46,11 @@ pose-spec =
     (tie.spec
     Inv-loop
     μ-loop
-    (λ c. search needs)
-    (λ c κs. search needs)
-    (λ c κs. search needs)
-    (λ c. search needs)
-    (λ c. search needs)
-    (λ c. search needs)
-    (λ c. search needs)
-    (λ c. search needs))
+    loop-holds
+    before-requires
+    put-requires
+    add-k
+    loop-less
+    loop-again
+    same-length
+    returns)

@@ -1,0 +1,75 @@
+-- `plain::compare::differs` meets its contract.
+use mathlib.Core.List.{List}
+use mathlib.Core.Path.{ap, sym, _∙_, _≡_}
+use Prim.Native.Nat.{ℕ, _-_, _≤_}
+use native.Mathlib.Omega.{arith}
+use lib.ListN.{getD}
+use borrow.Author.Needs.{needs}
+use Rattle.plain.proofs.Tests.{some-found, none-found, each-none, each-more}
+use Rattle.plain.specs.Frames.{row}
+use Rattle.plain.specs.Plain.{Each}
+use Rattle.plain.proofs.compare.differs.Statement.{statement}
+use Rattle.plain.proofs.compare.differs.Tie as tie
+
+abbrev Inv-loop : tie.InvT-loop
+Inv-loop columns rows a b i h₀ h = (h ≤ rows) × Each 0 h (λ k. getD (row a columns k) i 0 ≡ getD (row b columns k) i 0)
+
+abbrev μ-loop : tie.MeasureT-loop
+μ-loop columns rows a b i h₀ h = rows - h
+
+loop-holds : tie.Need-loop-holds Inv-loop μ-loop
+loop-holds c = (omega arith, each-none _ _)
+
+row-requires : tie.Need-row-requires Inv-loop μ-loop
+row-requires c κs = search needs
+
+get-requires : tie.Need-get-requires Inv-loop μ-loop
+get-requires c κs = search needs
+
+row-requires-2 : tie.Need-row-requires-2 Inv-loop μ-loop
+row-requires-2 c κs = search needs
+
+get-requires-2 : tie.Need-get-requires-2 Inv-loop μ-loop
+get-requires-2 c κs = search needs
+
+returns : tie.Need-returns Inv-loop μ-loop
+returns c =
+    let at = c .before .before .before .before .before .before in
+    let start = at .before .before .before in
+    let left = c .before .before .before .get .ensures ∙ ap (λ (l : List ℕ). getD l (start .args .i) 0) (c .before .before .before .before .row .ensures) in
+    let right = c .before .get2 .ensures ∙ ap (λ (l : List ℕ). getD l (start .args .i) 0) (c .before .before .row2 .ensures) in
+    some-found _ _ (at .loop .h) (omega arith) (λ e. c .if1 .taken (left ∙ e ∙ sym right))
+
+add-h : tie.Need-add-h Inv-loop μ-loop
+add-h c = search needs
+
+loop-less : tie.Need-loop-less Inv-loop μ-loop
+loop-less c = search needs
+
+loop-again : tie.Need-loop-again Inv-loop μ-loop
+loop-again c =
+    let at = c .before .before .before .before .before .before in
+    let start = at .before .before .before in
+    let left = c .before .before .before .get .ensures ∙ ap (λ (l : List ℕ). getD l (start .args .i) 0) (c .before .before .before .before .row .ensures) in
+    let right = c .before .get2 .ensures ∙ ap (λ (l : List ℕ). getD l (start .args .i) 0) (c .before .before .row2 .ensures) in
+    (omega arith, each-more _ _ _ (at .loop .inv .1) (sym left ∙ c .if1 .left ∙ right))
+
+returns-2 : tie.Need-returns-2 Inv-loop μ-loop
+returns-2 c = none-found _ _ _ (omega arith) (λ k low high n. n (c .before .loop .inv .1 k low high))
+
+pub differs-spec : {M : Type 1} → statement M
+differs-spec =
+    tie.close
+    (tie.spec
+    Inv-loop
+    μ-loop
+    loop-holds
+    row-requires
+    get-requires
+    row-requires-2
+    get-requires-2
+    returns
+    add-h
+    loop-less
+    loop-again
+    returns-2)

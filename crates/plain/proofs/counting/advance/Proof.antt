@@ -1,0 +1,87 @@
+-- `plain::counting::advance` meets its contract.
+use mathlib.Core.Path.{ap, _∙_, _≡_}
+use Prim.Native.Nat.{ℕ, _+_, _-_, _≤_}
+use native.Mathlib.Omega.{arith}
+use borrow.Author.Needs.{needs}
+use Rattle.plain.proofs.Digits.{carried-none, carried-more, carried-all, counted}
+use Rattle.plain.specs.Counting.{Carried}
+use Rattle.plain.specs.Plain.{rem}
+use Rattle.plain.proofs.counting.advance.Statement.{statement}
+use Rattle.plain.proofs.counting.advance.Tie as tie
+
+abbrev Inv-loop : tie.InvT-loop
+Inv-loop p a₀ from to i₀ a i = (from ≤ i) × (from ≤ to → i ≤ to) × Carried p a₀ a from i
+
+abbrev μ-loop : tie.MeasureT-loop
+μ-loop p a₀ from to i₀ a i = to - i
+
+loop-holds : tie.Need-loop-holds Inv-loop μ-loop
+loop-holds c = (omega arith, λ le. le, carried-none _ _ _)
+
+get-requires : tie.Need-get-requires Inv-loop μ-loop
+get-requires c κs = search needs
+
+plus-product-requires : tie.Need-plus-product-requires Inv-loop μ-loop
+plus-product-requires c κs = search needs
+
+put-requires : tie.Need-put-requires Inv-loop μ-loop
+put-requires c κs = search needs
+
+same-length : tie.Need-same-length Inv-loop μ-loop
+same-length c = search needs
+
+returns : tie.Need-returns Inv-loop μ-loop
+returns c =
+    let at = c .before .before .before .before .before .before .before .before .before in
+    let args = at .before .before .args in
+    let read = c .before .before .before .before .before .before .get .ensures in
+    let risen = c .before .before .before .before .before .plus-product .ensures ∙ ap (λ (x : ℕ). rem (x + 1) (args .p)) read in (
+      λ e. (
+        at .loop .i,
+        counted _ _ _ _ _ _ _ (at .loop .inv .2) (at .loop .inv .0) (c .before .before .before .put .ensures) risen _ (omega arith) (c .if1 .taken),
+      ),
+      λ le e. absurd (let z : _≡_ {A = ℕ} 0 1 = cc in omega arith),
+    )
+
+add-i : tie.Need-add-i Inv-loop μ-loop
+add-i c = search needs
+
+loop-less : tie.Need-loop-less Inv-loop μ-loop
+loop-less c = search needs
+
+loop-again : tie.Need-loop-again Inv-loop μ-loop
+loop-again c =
+    let at = c .before .before .before .before .before .before .before .before .before in
+    let read = c .before .before .before .before .before .before .get .ensures in
+    let risen = c .before .before .before .before .before .plus-product .ensures ∙ ap (λ (x : ℕ). rem (x + 1) (at .before .before .args .p)) read in (
+      omega arith,
+      λ le. omega arith,
+      carried-more _ _ _ _ _ _ _ (at .loop .inv .2) (at .loop .inv .0) (c .before .before .before .put .ensures) risen (c .if1 .left),
+    )
+
+same-length-2 : tie.Need-same-length-2 Inv-loop μ-loop
+same-length-2 c = search needs
+
+returns-2 : tie.Need-returns-2 Inv-loop μ-loop
+returns-2 c = (
+  λ e. absurd (let z : _≡_ {A = ℕ} 0 1 = cc in omega arith),
+  λ le e. carried-all _ _ _ _ _ _ (c .before .loop .inv .2) (c .before .loop .inv .1 le) (omega arith),
+)
+
+pub advance-spec : {M : Type 1} → statement M
+advance-spec =
+    tie.close
+    (tie.spec
+    Inv-loop
+    μ-loop
+    loop-holds
+    get-requires
+    plus-product-requires
+    put-requires
+    same-length
+    returns
+    add-i
+    loop-less
+    loop-again
+    same-length-2
+    returns-2)

@@ -1,0 +1,80 @@
+-- `plain::damage::damage` meets its contract.
+use mathlib.Core.List.{List}
+use mathlib.Core.Path.{sym, subst}
+use Prim.Native.Nat.{ℕ, _≤_}
+use native.Mathlib.Omega.{arith}
+use lib.ListN.{length}
+use borrow.Author.Needs.{needs}
+use Rattle.plain.proofs.Choices.{part-length-le}
+use Rattle.plain.proofs.Striking.{damaged-all}
+use Rattle.plain.proofs.damage.damage.Statement.{statement}
+use Rattle.plain.proofs.damage.damage.Tie as tie
+
+slice-aggregate-number : tie.Need-slice-aggregate-number
+slice-aggregate-number c = search needs
+
+number-requires : tie.Need-number-requires
+number-requires c κs = search needs
+
+slice-aggregate-mix : tie.Need-slice-aggregate-mix
+slice-aggregate-mix c = search needs
+
+mix-requires : tie.Need-mix-requires
+mix-requires c κs = search needs
+
+draw-requires : tie.Need-draw-requires
+draw-requires c κs = search needs
+
+slice-aggregate-draw-factors : tie.Need-slice-aggregate-draw-factors
+slice-aggregate-draw-factors c = search needs
+
+draw-factors-requires : tie.Need-draw-factors-requires
+draw-factors-requires c κs = search needs
+
+slice-aggregate-part : tie.Need-slice-aggregate-part
+slice-aggregate-part c = search needs
+
+part-requires : tie.Need-part-requires
+part-requires c κs = search needs
+
+slice-aggregate-damage-columns : tie.Need-slice-aggregate-damage-columns
+slice-aggregate-damage-columns c = search needs
+
+at-most-eight-requires : tie.Need-at-most-eight-requires
+at-most-eight-requires c κs = search needs
+
+damage-columns-requires : tie.Need-damage-columns-requires
+damage-columns-requires c κs = search needs
+
+same-length : tie.Need-same-length
+same-length c = search needs
+
+returns : tie.Need-returns
+returns c =
+    let cut = c .before .before .before .before .before .before .before in
+    let drawn = cut .before .before .before in
+    let mixed = drawn .before .before .before .before .before .before in
+    let start = mixed .before .before .before .before .before .before .before in
+    let few = subst (λ (l : List ℕ). length l ≤ start .args .w) (sym (cut .part .ensures)) (part-length-le (mixed .mix .last .1 .0) 0 (start .args .w)) in (
+      _,
+      (few, damaged-all _ _ _ _ _ _ (c .before .before .damage-columns .ensures) (omega arith) (c .before .before .before .before .at-most-eight .ensures .0)),
+    )
+
+pub damage-spec : {M : Type 1} → statement M
+damage-spec =
+    tie.close
+    (tie.spec
+    slice-aggregate-number
+    number-requires
+    slice-aggregate-mix
+    mix-requires
+    draw-requires
+    slice-aggregate-draw-factors
+    draw-factors-requires
+    slice-aggregate-part
+    part-requires
+    slice-aggregate-damage-columns
+    at-most-eight-requires
+    damage-columns-requires
+    same-length
+    returns)

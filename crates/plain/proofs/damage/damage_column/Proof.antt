@@ -1,0 +1,87 @@
+-- `plain::damage::damage_column` meets its contract.
+use mathlib.Core.Path.{ap}
+use Prim.Native.Nat.{ℕ, _+_, _-_, _≤_}
+use native.Mathlib.Omega.{arith}
+use borrow.Author.Needs.{needs}
+use Rattle.plain.proofs.Striking.{struck-none, struck-more, struck-rows}
+use Rattle.plain.specs.Frames.{Struck}
+use Rattle.plain.proofs.damage.damage_column.Statement.{statement}
+use Rattle.plain.proofs.damage.damage_column.Tie as tie
+
+abbrev Inv-loop : tie.InvT-loop
+Inv-loop state₀ kind factors columns rows i frame₀ e h₀ state frame h = (h ≤ rows) × Struck columns h i frame₀ frame
+
+abbrev μ-loop : tie.MeasureT-loop
+μ-loop state₀ kind factors columns rows i frame₀ e h₀ state frame h = rows - h
+
+draw-from-requires : tie.Need-draw-from-requires Inv-loop μ-loop
+draw-from-requires c κs = search needs
+
+loop-holds : tie.Need-loop-holds Inv-loop μ-loop
+loop-holds c = (omega arith, struck-none _ _ _)
+
+product-requires : tie.Need-product-requires Inv-loop μ-loop
+product-requires c κs = search needs
+
+add-at : tie.Need-add-at Inv-loop μ-loop
+add-at c = search needs
+
+cast-get : tie.Need-cast-get Inv-loop μ-loop
+cast-get c = search needs
+
+get-requires : tie.Need-get-requires Inv-loop μ-loop
+get-requires c κs = search needs
+
+error-requires : tie.Need-error-requires Inv-loop μ-loop
+error-requires c κs = search needs
+
+get-requires-2 : tie.Need-get-requires-2 Inv-loop μ-loop
+get-requires-2 c κs = search needs
+
+plus-product-requires : tie.Need-plus-product-requires Inv-loop μ-loop
+plus-product-requires c κs = search needs
+
+put-requires : tie.Need-put-requires Inv-loop μ-loop
+put-requires c κs = search needs
+
+add-h : tie.Need-add-h Inv-loop μ-loop
+add-h c = search needs
+
+loop-less : tie.Need-loop-less Inv-loop μ-loop
+loop-less c = search needs
+
+loop-again : tie.Need-loop-again Inv-loop μ-loop
+loop-again c =
+    let summed = c .before .before .before .before .before .before .before .before .before .before in
+    let at = summed .before .before in
+    let start = at .before .before .before .before .before in
+    let place = ap (λ (x : ℕ). x + start .args .i) (summed .product .ensures .0) in
+    (omega arith, struck-more _ _ _ _ _ (at .loop .inv .1) place (c .before .before .put .ensures))
+
+same-length : tie.Need-same-length Inv-loop μ-loop
+same-length c = search needs
+
+returns : tie.Need-returns Inv-loop μ-loop
+returns c = struck-rows _ _ _ _ (c .before .loop .inv .0) (c .before .loop .inv .1)
+
+pub damage-column-spec : {M : Type 1} → statement M
+damage-column-spec =
+    tie.close
+    (tie.spec
+    Inv-loop
+    μ-loop
+    draw-from-requires
+    loop-holds
+    product-requires
+    add-at
+    cast-get
+    get-requires
+    error-requires
+    get-requires-2
+    plus-product-requires
+    put-requires
+    add-h
+    loop-less
+    loop-again
+    same-length
+    returns)

@@ -1,0 +1,58 @@
+-- `plain::damage::damage_columns` meets its contract.
+use mathlib.Core.Path.{_≡_, refl}
+use Prim.Native.Nat.{_-_, _≤_}
+use native.Mathlib.Omega.{arith}
+use lib.ListN.{length}
+use borrow.Author.Needs.{needs}
+use Rattle.plain.proofs.Striking.{damaged-none, damaged-more, damaged-all}
+use Rattle.plain.specs.Frames.{Damaged}
+use Rattle.plain.proofs.damage.damage_columns.Statement.{statement}
+use Rattle.plain.proofs.damage.damage_columns.Tie as tie
+
+abbrev Inv-loop : tie.InvT-loop
+Inv-loop state₀ kind factors columns rows order frame₀ k₀ k-end state frame k = (k ≤ k-end) × (k-end ≡ length order) × Damaged columns rows order k frame₀ frame
+
+abbrev μ-loop : tie.MeasureT-loop
+μ-loop state₀ kind factors columns rows order frame₀ k₀ k-end state frame k = k-end - k
+
+loop-holds : tie.Need-loop-holds Inv-loop μ-loop
+loop-holds c = (omega arith, refl, damaged-none _ _ _ _)
+
+get-requires : tie.Need-get-requires Inv-loop μ-loop
+get-requires c κs = search needs
+
+damage-column-requires : tie.Need-damage-column-requires Inv-loop μ-loop
+damage-column-requires c κs = search needs
+
+add-k : tie.Need-add-k Inv-loop μ-loop
+add-k c = search needs
+
+loop-less : tie.Need-loop-less Inv-loop μ-loop
+loop-less c = search needs
+
+loop-again : tie.Need-loop-again Inv-loop μ-loop
+loop-again c =
+    let at = c .before .before .before .before .before .before .before in
+    let named = c .before .before .before .before .before .get .ensures in
+    (omega arith, refl, damaged-more _ _ _ _ _ (at .loop .inv .2) named (c .before .before .damage-column .ensures))
+
+same-length : tie.Need-same-length Inv-loop μ-loop
+same-length c = search needs
+
+returns : tie.Need-returns Inv-loop μ-loop
+returns c = damaged-all _ _ _ _ _ _ (c .before .loop .inv .2) (omega arith) (omega arith)
+
+pub damage-columns-spec : {M : Type 1} → statement M
+damage-columns-spec =
+    tie.close
+    (tie.spec
+    Inv-loop
+    μ-loop
+    loop-holds
+    get-requires
+    damage-column-requires
+    add-k
+    loop-less
+    loop-again
+    same-length
+    returns)

@@ -1,0 +1,28 @@
+-- `plain::damage::number` is safe and ends: `order` keeps its length.
+use Prim.Native.Nat.{_-_}
+use mathlib.Core.Path.{_≡_}
+use lib.ListN.{length}
+use borrow.Author.Needs.{needs}
+use Rattle.plain.proofs.damage.number.Statement.{statement}
+use Rattle.plain.proofs.damage.number.Tie as tie
+
+abbrev Inv-loop : tie.InvT-loop
+Inv-loop order₀ n i₀ order i = length order ≡ length order₀
+
+abbrev μ-loop : tie.MeasureT-loop
+μ-loop order₀ n i₀ order i = n - i
+
+pub number-spec : {M : Type 1} → statement M
+number-spec =
+    tie.close
+    (tie.spec
+    Inv-loop
+    μ-loop
+    (λ c. search needs)
+    (λ c. search needs)
+    (λ c κs. search needs)
+    (λ c. search needs)
+    (λ c. search needs)
+    (λ c. search needs)
+    (λ c. search needs)
+    (λ c. search needs))

@@ -1,0 +1,84 @@
+-- `plain::frames::check_sums` meets its contract.
+use mathlib.Core.Path.{_≡_, refl}
+use Prim.Native.Nat.{_-_, _≤_}
+use native.Mathlib.Omega.{arith}
+use lib.ListN.{length}
+use borrow.Author.Needs.{needs}
+use Rattle.plain.proofs.CheckSums.{summed-none, summed-more, summed-all}
+use Rattle.plain.specs.Frames.{Summed}
+use Rattle.plain.proofs.frames.check_sums.Statement.{statement}
+use Rattle.plain.proofs.frames.check_sums.Tie as tie
+
+abbrev Inv-loop : tie.InvT-loop
+Inv-loop columns checks frame sums₀ h₀ h-end sums h = (h ≤ h-end) × (h-end ≡ length checks) × Summed columns checks frame h sums₀ sums
+
+abbrev μ-loop : tie.MeasureT-loop
+μ-loop columns checks frame sums₀ h₀ h-end sums h = h-end - h
+
+loop-holds : tie.Need-loop-holds Inv-loop μ-loop
+loop-holds c = (omega arith, refl, summed-none _ _ _ _)
+
+start-requires : tie.Need-start-requires Inv-loop μ-loop
+start-requires c κs = search needs
+
+row-requires : tie.Need-row-requires Inv-loop μ-loop
+row-requires c κs = search needs
+
+get-requires : tie.Need-get-requires Inv-loop μ-loop
+get-requires c κs = search needs
+
+row-sums-requires : tie.Need-row-sums-requires Inv-loop μ-loop
+row-sums-requires c κs = search needs
+
+add-h : tie.Need-add-h Inv-loop μ-loop
+add-h c = search needs
+
+loop-less : tie.Need-loop-less Inv-loop μ-loop
+loop-less c = search needs
+
+loop-again : tie.Need-loop-again Inv-loop μ-loop
+loop-again c =
+    let at = c .before .before .before .before .before .before .before .before in (
+      omega arith,
+      refl,
+      summed-more
+          _
+          _
+          _
+          _
+          _
+          _
+          _
+          _
+          _
+          _
+          (at .loop .inv .2)
+          (c .before .before .row-sums .ensures)
+          (c .before .before .before .before .before .before .start .ensures)
+          (c .before .before .before .before .get .ensures)
+          (c .before .before .before .before .before .row .ensures)
+          (omega arith),
+    )
+
+same-length : tie.Need-same-length Inv-loop μ-loop
+same-length c = search needs
+
+returns : tie.Need-returns Inv-loop μ-loop
+returns c = summed-all _ _ _ _ _ _ _ (c .before .loop .inv .2) (omega arith) (omega arith)
+
+pub check-sums-spec : {M : Type 1} → statement M
+check-sums-spec =
+    tie.close
+    (tie.spec
+    Inv-loop
+    μ-loop
+    loop-holds
+    start-requires
+    row-requires
+    get-requires
+    row-sums-requires
+    add-h
+    loop-less
+    loop-again
+    same-length
+    returns)

@@ -1,0 +1,83 @@
+-- `plain::frames::row_sums` meets its contract.
+use mathlib.Core.Path.{_≡_, ap, _∙_}
+use Prim.Native.Nat.{ℕ, suc, _+_, _-_, _≤_}
+use native.Mathlib.Omega.{arith}
+use borrow.Author.Needs.{needs}
+use Rattle.plain.proofs.Writing.{wrote-none, wrote-put, wrote-all}
+use Rattle.plain.specs.Frames.{checkSum}
+use Rattle.plain.specs.Written.{Wrote}
+use Rattle.plain.proofs.frames.row_sums.Statement.{statement}
+use Rattle.plain.proofs.frames.row_sums.Tie as tie
+
+abbrev Inv-loop : tie.InvT-loop
+Inv-loop row n sums₀ at j₀ sums j = (j ≤ n) × Wrote sums₀ sums at (at + j) (λ k. checkSum row (suc (k - at)))
+
+abbrev μ-loop : tie.MeasureT-loop
+μ-loop row n sums₀ at j₀ sums j = n - j
+
+loop-holds : tie.Need-loop-holds Inv-loop μ-loop
+loop-holds c = (omega arith, wrote-all _ _ _ (wrote-none _ _ _) (omega arith) (omega arith))
+
+cast-i : tie.Need-cast-i Inv-loop μ-loop
+cast-i c = search needs
+
+add-check-sum : tie.Need-add-check-sum Inv-loop μ-loop
+add-check-sum c = search needs
+
+check-sum-requires : tie.Need-check-sum-requires Inv-loop μ-loop
+check-sum-requires c κs = search needs
+
+put-at-requires : tie.Need-put-at-requires Inv-loop μ-loop
+put-at-requires c κs = search needs
+
+add-j : tie.Need-add-j Inv-loop μ-loop
+add-j c = search needs
+
+loop-less : tie.Need-loop-less Inv-loop μ-loop
+loop-less c = search needs
+
+loop-again : tie.Need-loop-again Inv-loop μ-loop
+loop-again c =
+    let at = c .before .before .before .before .before .before in
+    let start = at .before .before .before in
+    let place = start .args .at in
+    let own : at .loop .j + 1 ≡ suc (place + at .loop .j - place) = omega arith in (
+      omega arith,
+      wrote-all
+          _
+          (place + at .loop .j + 1)
+          _
+          (wrote-put
+          _
+          (place + at .loop .j)
+          _
+          (at .loop .inv .1)
+          (omega arith)
+          (c .before .before .put-at .ensures)
+          (c .before .before .before .check-sum .ensures ∙ ap (λ (k : ℕ). checkSum (start .args .row .now) k) own))
+          (omega arith)
+          (omega arith),
+    )
+
+same-length : tie.Need-same-length Inv-loop μ-loop
+same-length c = search needs
+
+returns : tie.Need-returns Inv-loop μ-loop
+returns c = wrote-all _ _ _ (c .before .loop .inv .1) (omega arith) (omega arith)
+
+pub row-sums-spec : {M : Type 1} → statement M
+row-sums-spec =
+    tie.close
+    (tie.spec
+    Inv-loop
+    μ-loop
+    loop-holds
+    cast-i
+    add-check-sum
+    check-sum-requires
+    put-at-requires
+    add-j
+    loop-less
+    loop-again
+    same-length
+    returns)

@@ -1,0 +1,6 @@
+pub mod Answers
+pub mod Counting
+pub mod Drawn
+pub mod Frames
+pub mod Plain
+pub mod Written

@@ -1,0 +1,125 @@
+// Damage of frames: symbols of columns that are chosen at random are changed.
+use crate::random::draw;
+use crate::random::draw_from;
+use crate::random::fill_from;
+use crate::values::get;
+use crate::values::part;
+use crate::values::plus_product;
+use crate::values::product;
+use crate::values::put;
+use crate::values::remainder;
+use crate::values::times;
+ghost use mathlib.Core.Path.{_≡_};
+ghost use mathlib.Core.List.{List};
+ghost use Prim.Native.Nat.{ℕ, _≤_};
+ghost use lib.ListN.{length};
+ghost use Rattle.plain.specs.Frames.{Damaged, Struck};
+
+fn number(order: &mut [u16], n: u16) {
+    for i in 0..n {
+        put(order, i as usize, i);
+    }
+}
+
+fn swap(a: &mut [u16], i: usize, j: usize) {
+    let x = get(a, i);
+    let y = get(a, j);
+    put(a, i, y);
+    put(a, j, x);
+}
+
+fn mix(state: &mut u64, order: &mut [u16], n: u16) {
+    for i in 0..n {
+        let j = draw(state, n);
+        swap(order, i as usize, j as usize);
+    }
+}
+
+// How damage spreads over the rows of a column: in every row by itself, in multiples of one number, or in one row alone.
+fn draw_factors(state: &mut u64, kind: u16, factors: &mut [u16], rows: usize) {
+    if kind == 2 {
+        let h = draw(state, remainder(rows as u64, 65535));
+        put(factors, h as usize, 1);
+        return;
+    }
+    fill_from(state, 0, 257, factors, rows);
+    put(factors, 0, draw_from(state, 1, 256));
+}
+
+fn error(state: &mut u64, kind: u16, factor: u16, e: u16) -> u16 {
+    if kind == 0 {
+        return draw_from(state, 1, 256);
+    }
+    times(257, factor, e)
+}
+
+// A frame has at most eight rows.
+fn at_most_eight(rows: usize) -> u16
+    ensures { λ r. ⌜ (r ≤ rows) × (r ≤ 8) ⌝ }
+{
+    if rows < 8 {
+        return rows as u16;
+    }
+    8
+}
+
+fn damage_column(
+    state: &mut u64,
+    kind: u16,
+    factors: &[u16],
+    columns: u16,
+    rows: u16,
+    i: u16,
+    frame: &mut [u16],
+)
+    ensures { λ r. ⌜ Struck columns rows i (now (frame .entry)) (now (frame .exit)) ⌝ }
+{
+    let e = draw_from(state, 1, 256);
+    for h in 0..rows {
+        let at = product(h, columns) as usize + i as usize;
+        let x = error(state, kind, get(factors, h as usize), e);
+        let v = plus_product(257, get(frame, at), x, 1);
+        put(frame, at, v);
+    }
+}
+
+fn damage_columns(
+    state: &mut u64,
+    kind: u16,
+    factors: &[u16],
+    columns: u16,
+    rows: u16,
+    order: &[u16],
+    frame: &mut [u16],
+)
+    ensures { λ r. ⌜ Damaged columns rows (now (order .entry)) (length (now (order .entry))) (now (frame .entry)) (now (frame .exit)) ⌝ }
+{
+    for k in 0..order.len() {
+        let i = get(order, k);
+        damage_column(state, kind, factors, columns, rows, i, frame);
+    }
+}
+
+// Damages at most w columns: some symbols of them are changed, and no others.
+pub fn damage(state: &mut u64, columns: u16, rows: usize, w: u16, frame: &mut [u16])
+    ensures { λ r. ⌜
+        ((order : List ℕ) × ((length order ≤ w) × Damaged columns rows order (length order) (now (frame .entry)) (now (frame .exit))))
+        ⌝ }
+{
+    let mut order = [0u16; 256];
+    number(&mut order, columns);
+    mix(state, &mut order, columns);
+    let kind = draw(state, 3);
+    let mut factors = [0u16; 8];
+    draw_factors(state, kind, &mut factors, rows);
+    let chosen = part(&order, 0, w as usize);
+    damage_columns(
+        state,
+        kind,
+        &factors,
+        columns,
+        at_most_eight(rows),
+        chosen,
+        frame,
+    );
+}
