@@ -25,10 +25,6 @@ pub claimed-said : (x : List ℕ) → 2 ≤ length x → claimedBy x ≡ fieldOf
 unfolding claimedBy
 claimed-said x h = ap (λ (b : Bool). cond b (fieldOf x 0) 0) (le-leb 2 (length x) h)
 
-pub claimed-nothing : (x : List ℕ) → length x < 2 → claimedBy x ≡ 0
-unfolding claimedBy
-claimed-nothing x h = ap (λ (b : Bool). cond b (fieldOf x 0) 0) (lt-leb 2 (length x) h)
-
 length-said : (w z : List ℕ) → 2 ≤ length w → fieldOf (w ++ z) 0 ≡ fieldOf w 0
 unfolding fieldOf
 length-said w z h = ap₂ (λ (a b : ℕ). a + 256 * b) (List·getD-append w z 0 0 (omega arith)) (List·getD-append w z 0 1 (omega arith))
