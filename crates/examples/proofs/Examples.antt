@@ -13,7 +13,7 @@ use Rattle.field257.specs.LocatorPolynomial.{locatorPolynomial}
 use Rattle.frame.specs.Encode.{eachRow, encoded, dataBelow, encodeTests}
 use Rattle.frame.specs.Frame.{checkSum, checkSums, rowSums, sequences, heldSums, heldSequences, frameTests, weight}
 use Rattle.frame.specs.Shape.{shapeOf, rowsInRange, columnsInRange, checksInRange, isShape, shapeTests}
-use Rattle.job.specs.Calls.{registerTests, step}
+use Rattle.job.specs.Calls.{registerTests, step, late}
 use Rattle.job.specs.Job.{noColumns, phaseSound, headSound, countsEmpty}
 use Rattle.lists.specs.Tabulate.{tabulate, every, joined}
 use Rattle.register.specs.Algorithm4.{start, replaced, changed, turn, rounds, isAlone, found, foundAlone, step as stepAt}
@@ -32,5 +32,5 @@ unfolding table computed lengthOf registers kept doesGenerate residueLists split
 examples = refl
 
 pub literals : Literals
-unfolding marked refusals noColumns columnsOf has number listed
-literals = record { words = refl; columns = refl; none = refl; numbers = refl }
+unfolding marked refusals noColumns columnsOf has number listed tabulate late
+literals = record { words = refl; columns = refl; each = refl; none = refl; numbers = refl; shaping = refl }

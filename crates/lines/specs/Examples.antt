@@ -2,6 +2,8 @@
 -- proofs/Examples.antt, is that the table stays as it is.
 use mathlib.Core.List.{List, [], _∷_}
 use Prim.Native.Nat.{ℕ}
+use lib.ListN.{drop, replicate}
+use Rattle.lists.specs.Tabulate.{tabulate, joined}
 use Rattle.lines.specs.Lines.{linesOf}
 
 pub record Example : Type 0 where
@@ -62,10 +64,33 @@ table =
           0 ∷ [];
       text = 69 ∷ 32 ∷ 50 ∷ 54 ∷ 10 ∷ [];
     } ∷
-    -- p = 65521, the sequence 1 300: fields of two bytes, and a number of five digits
+    -- p = 65521, the sequence 1 16787: fields of two bytes, and a number of five digits, among them those that no other line has
     record {
-      bytes = 12 ∷ 0 ∷ 1 ∷ 0 ∷ 241 ∷ 255 ∷ 1 ∷ 0 ∷ 2 ∷ 0 ∷ 1 ∷ 0 ∷ 44 ∷ 1 ∷ [];
-      text = 82 ∷ 32 ∷ 49 ∷ 32 ∷ 49 ∷ 32 ∷ 49 ∷ 32 ∷ 54 ∷ 53 ∷ 50 ∷ 50 ∷ 49 ∷ 10 ∷ [];
+      bytes = 12 ∷ 0 ∷ 1 ∷ 0 ∷ 241 ∷ 255 ∷ 1 ∷ 0 ∷ 2 ∷ 0 ∷ 1 ∷ 0 ∷ 147 ∷ 65 ∷ [];
+      text = 82 ∷ 32 ∷ 49 ∷ 32 ∷ 49 ∷ 32 ∷ 49 ∷ 32 ∷ 52 ∷ 56 ∷ 55 ∷ 51 ∷ 52 ∷ 10 ∷ [];
+    } ∷
+    -- p = 7, the sequences 1 2 4 and 3 and 5 3 6
+    record {
+      bytes =
+          26 ∷ 0 ∷ 1 ∷ 0 ∷ 7 ∷ 0 ∷ 3 ∷ 0 ∷ 3 ∷ 0 ∷ 1 ∷ 0 ∷ 3 ∷ 0 ∷ 1 ∷ 0 ∷ 2 ∷ 0 ∷ 4 ∷ 0 ∷ 3 ∷ 0 ∷ 5 ∷ 0 ∷ 3 ∷ 0 ∷ 6 ∷ 0 ∷ [];
+      text = 82 ∷ 32 ∷ 49 ∷ 32 ∷ 49 ∷ 32 ∷ 49 ∷ 32 ∷ 53 ∷ 10 ∷ [];
+    } ∷
+    -- p = 2, a sequence of 128 zeros, the longest length that is taken
+    record {
+      bytes = joined ((8 ∷ 1 ∷ 1 ∷ 0 ∷ 2 ∷ 0 ∷ 1 ∷ 0 ∷ 128 ∷ 0 ∷ []) ∷ replicate 256 0 ∷ []);
+      text = 82 ∷ 32 ∷ 48 ∷ 32 ∷ 49 ∷ 32 ∷ 49 ∷ 10 ∷ [];
+    } ∷
+    -- 4 columns, checks 1, 2 and 3, a legal frame with the data 1 to 6
+    record {
+      bytes =
+          36 ∷ 0 ∷ 2 ∷ 0 ∷ 3 ∷ 0 ∷ 4 ∷ 0 ∷ 1 ∷ 0 ∷ 2 ∷ 0 ∷ 3 ∷ 0 ∷ 155 ∷ 0 ∷ 1 ∷ 0 ∷ 2 ∷ 0 ∷ 3 ∷ 0 ∷ 186 ∷ 0 ∷ 138 ∷ 0 ∷ 4 ∷ 0 ∷ 5 ∷ 0 ∷
+          252 ∷ 0 ∷ 50 ∷ 0 ∷ 23 ∷ 0 ∷ 6 ∷ 0 ∷ [];
+      text = 70 ∷ 32 ∷ 48 ∷ 10 ∷ [];
+    } ∷
+    -- 256 columns, 2 checks, a legal frame: 81 and 17, and in each later column the number of the column
+    record {
+      bytes = joined ((8 ∷ 2 ∷ 2 ∷ 0 ∷ 1 ∷ 0 ∷ 0 ∷ 1 ∷ 2 ∷ 0 ∷ 81 ∷ 0 ∷ 17 ∷ 0 ∷ []) ∷ drop 2 (tabulate 256 (λ i. i ∷ 0 ∷ [])));
+      text = 70 ∷ 32 ∷ 48 ∷ 10 ∷ [];
     } ∷
     -- p = 4
     record { bytes = 10 ∷ 0 ∷ 1 ∷ 0 ∷ 4 ∷ 0 ∷ 1 ∷ 0 ∷ 1 ∷ 0 ∷ 0 ∷ 0 ∷ []; text = 69 ∷ 32 ∷ 49 ∷ 10 ∷ [] } ∷

@@ -1,7 +1,7 @@
 //! The program on streams of records: good ones, bad ones, random bytes, streams cut short, and many
 //! records. It answers a line for each, whether the bytes come from a pipe, all at once or a few at a
 //! time, or from a file, whose reads fill all the room that they are lent. It does not keep a line back
-//! while it waits for the next record.
+//! while it waits for the next record, and goes on after a million of them that come one by one.
 
 use std::fs::{self, File};
 use std::io::{BufRead, BufReader, Read, Write};
@@ -93,6 +93,23 @@ fn in_turn(judge: &mut Judge, records: &[Vec<u8>]) {
     }
     drop(stdin);
     program.wait().expect("it ends");
+}
+
+/// So many records without a kind, each sent when the line of the one before it has come, so that the
+/// program makes a turn for each. It does not stop before the input ends.
+fn many_turns(judge: &mut Judge, count: usize) {
+    let mut program = started(Stdio::piped());
+    let mut stdin = program.stdin.take().expect("it has an input");
+    let mut stdout = BufReader::new(program.stdout.take().expect("it has an output"));
+    let mut line = String::new();
+    let mut goes_on = || {
+        line.clear();
+        stdin.write_all(&[0, 0]).is_ok() && stdout.read_line(&mut line).is_ok() && line == "E 9\n"
+    };
+    let answered = (0..count).take_while(|_| goes_on()).count();
+    drop(stdin);
+    program.wait().expect("it ends");
+    judge.compare("the program in many turns", &(), count, answered);
 }
 
 /// The record of the fields, with the length that they have.
@@ -195,4 +212,5 @@ pub fn run(judge: &mut Judge) {
     slowly(judge, &mut random, &stream[..stream.len().min(20_000)]);
     let records: Vec<Vec<u8>> = (0..20).map(|_| some_frame(&mut random)).collect();
     in_turn(judge, &records);
+    many_turns(judge, 1_000_001);
 }
