@@ -8,6 +8,7 @@ pub mod OneSolution
 pub mod Places
 pub mod Producing
 pub mod Roots
+pub mod Searching
 pub mod Sequences
 pub mod SolvingTaps
 pub mod Storing
