@@ -6,11 +6,8 @@ pub mod Gathering
 pub mod Marks
 pub mod OneSolution
 pub mod Places
-pub mod Producing
 pub mod Roots
-pub mod Searching
 pub mod Sequences
-pub mod SolvingTaps
 pub mod Storing
 pub mod Tables
 pub mod Taps
