@@ -2,8 +2,9 @@
 use mathlib.Core.Path.{_≡_, refl, sym, ap, subst, _∙_}
 use mathlib.Core.Bool.{Bool, true, false}
 use mathlib.Core.List.{List}
-use Prim.Native.Nat.{ℕ, _+_, _-_, _≤_, _<_}
+use Prim.Native.Nat.{ℕ, _+_, _-_, _%_, _^_, _≤_, _<_}
 use native.Mathlib.Decide.{decLe, decLt}
+use native.Mathlib.Nat.{mod-eq-of-lt}
 use native.Mathlib.Omega.{arith}
 use lib.ListN.{length, getD, drop, List·getD-eq-default}
 use lib.Seq.{getD-take, getD-drop}
@@ -14,7 +15,7 @@ use Rattle.plain.specs.Written.{Wrote}
 use Rattle.brute.proofs.Gathering.{gathered-more, contradicted, gathered-rows, gathered-as, gathered-none, gathered-cleared}
 use Rattle.brute.specs.Equations.{Cleared, Decided, Echelon, Room, Solves, SolvesRows}
 use Rattle.brute.specs.Prime.{Prime}
-use Rattle.brute.specs.Registers.{Gathered, Meets, MeetsOne, Residues, SequenceAdded}
+use Rattle.brute.specs.Registers.{Gathered, Given, Meets, MeetsOne, Residues, SequenceAdded, Solvable}
 use Rattle.brute.specs.declared.eliminate.Added.{Added}
 use Rattle.brute.specs.declared.eliminate.Added.the-variants.{Contradicts}
 
@@ -146,3 +147,48 @@ module _ (p l : ℕ) (lengths symbols : List ℕ) where
     first-fails fails inside =
         gathered-none p (l + 1) next (Meets p l lengths symbols)
         (λ t numbers r. joined .none fails t numbers (g .solved refl t numbers .1 (λ i low high. r i low (omega arith)), r h (omega arith) inside))
+
+-- a length of a register that is not too large has a successor
+pub next-length : (l n : ℕ) → l ≤ 128 → n ≡ (l + 1) % 2 ^ 64 → n ≡ l + 1
+next-length l n small e = e ∙ mod-eq-of-lt (omega arith)
+
+-- the conditions of the first h sequences, in a table whose leading values were cleared
+pub record FirstGathered (p l : ℕ) (lengths symbols : List ℕ) (h : ℕ) (old table : List ℕ) : Type 0 where
+  pub size : length table ≡ length old
+  pub gathered : Given p symbols old → l ≤ 128 → Gathered p (l + 1) (MeetsFirst p l lengths symbols h) table true
+
+module _ (p l : ℕ) (lengths symbols : List ℕ) where
+  same-given : (old table : List ℕ) → length table ≡ length old → Given p symbols old → Given p symbols table
+  same-given old table size given = record { prime = given .prime; residues = given .residues; places = size ∙ given .places }
+
+  pub all-begin : (old table : List ℕ) (n : ℕ) → n ≡ (l + 1) % 2 ^ 64 → Cleared old table n → FirstGathered p l lengths symbols 0 table table
+  all-begin old table n e cleared =
+      record { size = refl; gathered = λ given small. first-none p l lengths symbols old table n (next-length l n small e) cleared }
+
+  module _ (h : ℕ) (s old table next : List ℕ) (b : Bool) (w : FirstGathered p l lengths symbols h old table) (this : s ≡ sequence lengths symbols h)
+      (added : SequenceAdded p l s table next b) where
+    room-left : Given p symbols old → l ≤ 128 → Room (l + 1) table
+    room-left given small = record { most = omega arith; places = w .size ∙ given .places }
+
+    pub all-more : b ≡ true → FirstGathered p l lengths symbols (h + 1) old next
+    all-more holds = record {
+      size = added .size ∙ w .size;
+      gathered = λ given small.
+          first-more p l lengths symbols (given .prime) (given .residues) h s table next b (room-left given small) (w .gathered given small) this added holds;
+    }
+
+    pub all-fails : (entry : List ℕ) → length old ≡ length entry → b ≡ false → h < length lengths → Solvable p l lengths symbols entry next false
+    all-fails entry size fails inside = record {
+      size = added .size ∙ w .size ∙ size;
+      gathered = λ given small.
+          let here = same-given entry old size given in
+          first-fails p l lengths symbols (given .prime) (given .residues) h s table next b (room-left here small) (w .gathered here small) this added
+          fails inside;
+    }
+
+  pub all-done : (h : ℕ) (entry old table : List ℕ) → FirstGathered p l lengths symbols h old table → length old ≡ length entry → h ≤ length lengths →
+      length lengths ≤ h → Solvable p l lengths symbols entry table true
+  all-done h entry old table w size le ge = record {
+    size = w .size ∙ size;
+    gathered = λ given small. first-all p l lengths symbols h table le ge (w .gathered (same-given entry old size given) small);
+  }
