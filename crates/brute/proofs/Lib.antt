@@ -6,7 +6,9 @@ pub mod Gathering
 pub mod Marks
 pub mod OneSolution
 pub mod Places
+pub mod Producing
 pub mod Roots
+pub mod Searching
 pub mod Sequences
 pub mod Storing
 pub mod Tables
