@@ -4,6 +4,7 @@ pub mod Crossing
 pub mod Eliminating
 pub mod Gathering
 pub mod Marks
+pub mod Naming
 pub mod OneSolution
 pub mod Places
 pub mod Producing
