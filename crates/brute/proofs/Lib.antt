@@ -3,6 +3,7 @@ pub mod Cancelling
 pub mod Crossing
 pub mod Eliminating
 pub mod Gathering
+pub mod Locating
 pub mod Marks
 pub mod Naming
 pub mod OneSolution

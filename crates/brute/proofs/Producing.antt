@@ -39,7 +39,7 @@ found-idle f (suc n) never = pick (decLt n 1) (ℕ-discrete (f n) 0) (λ q. foun
         wider (before (λ all. never (subst (λ (b : ℕ). Each 1 b (λ k. f k ≡ 0 → ⊥)) (add-one n) (each-more (λ k. f k ≡ 0 → ⊥) 1 n all e))))
 
 module _ (p l : ℕ) (lengths symbols : List ℕ) where
-  taps-numbers : Prime p → (taps : List ℕ) → Register p l taps → Numbers p (λ k. getD taps k 0)
+  pub taps-numbers : Prime p → (taps : List ℕ) → Register p l taps → Numbers p (λ k. getD taps k 0)
   taps-numbers prime taps r = record { one = r .first; below = λ k. pick k (decLt k (l + 1)) }
     where
       pick : (k : ℕ) → Dec (k < l + 1) → getD taps k 0 < p
@@ -48,7 +48,7 @@ module _ (p l : ℕ) (lengths symbols : List ℕ) where
           let z : getD taps k 0 ≡ 0 = List·getD-eq-default taps 0 (let s = r .size in omega arith) in
           let two = prime .two-or-more in omega arith
 
-  taps-meet : (taps : List ℕ) → Produces p l lengths symbols taps → Meets p l lengths symbols (λ k. getD taps k 0)
+  pub taps-meet : (taps : List ℕ) → Produces p l lengths symbols taps → Meets p l lengths symbols (λ k. getD taps k 0)
   taps-meet taps w h low high j least most =
       discrepancy-solves p (sequence lengths symbols h) taps (l + 1) (λ k. getD taps k 0) (λ k inside. refl) j .0 (w .generates h low high j least most)
 
