@@ -11,7 +11,17 @@ use Rattle.plain.specs.Written.{Wrote}
 use Rattle.brute.proofs.Eliminating.{solves-ext, same-echelon, same-solved}
 use Rattle.brute.proofs.Places.{rows-kept}
 use Rattle.brute.specs.Equations.{
-  Cleared, Decided, Echelon, LeadsRow, Numbers, Posed, Room, Solves, SolvesAdded, SolvesRows, valueAt,
+  Cleared,
+  Decided,
+  Echelon,
+  LeadsRow,
+  Numbers,
+  Posed,
+  Room,
+  Solves,
+  SolvesAdded,
+  SolvesRows,
+  valueAt,
 }
 use Rattle.brute.specs.Prime.{Prime}
 use Rattle.brute.specs.Registers.{Gathered}

@@ -3,10 +3,14 @@ pub mod Cancelling
 pub mod Crossing
 pub mod Eliminating
 pub mod Gathering
+pub mod Locating
 pub mod Marks
+pub mod Naming
 pub mod OneSolution
 pub mod Places
+pub mod Producing
 pub mod Roots
+pub mod Searching
 pub mod Sequences
 pub mod Storing
 pub mod Tables

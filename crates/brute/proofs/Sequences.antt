@@ -105,8 +105,8 @@ module _ (p l : ℕ) (s old : List ℕ) where
       gathered = λ prime room echelon residues.
           gathered-none p (l + 1) next (λ t. SolvesRows p (l + 1) old t × MeetsOne p l s t)
           (λ t numbers r.
-              contradicted p (l + 1) new posed (before s j) (room-still room) wrote prime (omega arith) (λ k h. before-below p prime s residues j k) before-it
-              (w .gathered prime room echelon residues) answer next decided is t numbers (r .0, λ i a b. r .1 i a (omega arith)) (r .1 j low high));
+          contradicted p (l + 1) new posed (before s j) (room-still room) wrote prime (omega arith) (λ k h. before-below p prime s residues j k) before-it
+          (w .gathered prime room echelon residues) answer next decided is t numbers (r .0, λ i a b. r .1 i a (omega arith)) (r .1 j low high));
     }
 
 -- the conditions of the first h sequences
@@ -148,8 +148,8 @@ module _ (p l : ℕ) (lengths symbols : List ℕ) where
         gathered-none p (l + 1) next (Meets p l lengths symbols)
         (λ t numbers r. joined .none fails t numbers (g .solved refl t numbers .1 (λ i low high. r i low (omega arith)), r h (omega arith) inside))
 
--- a length of a register that is not too large has a successor
-pub next-length : (l n : ℕ) → l ≤ 128 → n ≡ (l + 1) % 2 ^ 64 → n ≡ l + 1
+-- a length of a register has a successor
+pub next-length : (l n : ℕ) → l ≤ 129 → n ≡ (l + 1) % 2 ^ 64 → n ≡ l + 1
 next-length l n small e = e ∙ mod-eq-of-lt (omega arith)
 
 -- the conditions of the first h sequences, in a table whose leading values were cleared
@@ -163,7 +163,7 @@ module _ (p l : ℕ) (lengths symbols : List ℕ) where
 
   pub all-begin : (old table : List ℕ) (n : ℕ) → n ≡ (l + 1) % 2 ^ 64 → Cleared old table n → FirstGathered p l lengths symbols 0 table table
   all-begin old table n e cleared =
-      record { size = refl; gathered = λ given small. first-none p l lengths symbols old table n (next-length l n small e) cleared }
+      record { size = refl; gathered = λ given small. first-none p l lengths symbols old table n (next-length l n (omega arith) e) cleared }
 
   module _ (h : ℕ) (s old table next : List ℕ) (b : Bool) (w : FirstGathered p l lengths symbols h old table) (this : s ≡ sequence lengths symbols h)
       (added : SequenceAdded p l s table next b) where
