@@ -18,11 +18,6 @@ rem-positive x (suc p) h = refl
 pub rem-lt : (x p : ℕ) → 0 < p → rem x p < p
 rem-lt x p h = let e = rem-positive x p h in let l = mod-lt x h in omega arith
 
-pub rem-fits : (x p : ℕ) → p < 65536 → rem x p < 65536
-unfolding rem
-rem-fits x zero h = omega arith
-rem-fits x (suc p) h = let l = mod-lt x {m = suc p} (omega arith) in omega arith
-
 pub rem-rem : (x p : ℕ) → rem (rem x p) p ≡ rem x p
 unfolding rem
 rem-rem x zero = refl
