@@ -14,7 +14,7 @@ use Rattle.brute.proofs.Naming.{still-determined, still-solved}
 use Rattle.brute.specs.Equations.{Numbers, SolvesRows}
 use Rattle.brute.specs.Locating.{Determined, Marked, MarkedRoots, Named, RootAt}
 
-pub marked-none : (l : List ℕ) → Marked l l 0
+marked-none : (l : List ℕ) → Marked l l 0
 marked-none l = record { size = refl; marks = λ k less. absurd (let z : ⊥ = omega arith in z); after = λ k le. refl }
 
 byte : (b : Bool) → (boolByte b ≡ 0) ⊎ (boolByte b ≡ 1)
@@ -33,7 +33,7 @@ module _ (i : ℕ) (b : Bool) (old new next : List ℕ) (w : Marked old new i) (
   here : i < length old → getD next i 0 ≡ boolByte b
   here room = ap (λ (l : List ℕ). getD l i 0) e ∙ getD-set-same new i (boolByte b) 0 (let s = w .size in omega arith)
 
-  pub marked-more : Marked old next (i + 1)
+  marked-more : Marked old next (i + 1)
   marked-more = record {
     size = ap length e ∙ length-set new i (boolByte b) ∙ w .size;
     marks = λ k less room. at k less room (ℕ-discrete k i);

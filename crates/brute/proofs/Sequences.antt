@@ -1,5 +1,5 @@
 -- The conditions of sequences, symbol after symbol and sequence after sequence, gathered in a table.
-use mathlib.Core.Path.{_≡_, refl, sym, ap, subst, _∙_}
+use mathlib.Core.Path.{_≡_, refl, ap, subst, _∙_}
 use mathlib.Core.Bool.{Bool, true, false}
 use mathlib.Core.List.{List}
 use Prim.Native.Nat.{ℕ, _+_, _-_, _%_, _^_, _≤_, _<_}
@@ -27,7 +27,7 @@ module _ (p : ℕ) (prime : Prime p) where
       pick (yes h) = all i (omega arith) h
       pick (no h) = let z : getD s i 0 ≡ 0 = List·getD-eq-default s 0 (omega arith) in let two = prime .two-or-more in omega arith
 
-  pub before-below : (s : List ℕ) → Residues p s → (j k : ℕ) → before s j k < p
+  before-below : (s : List ℕ) → Residues p s → (j k : ℕ) → before s j k < p
   before-below s all j k = pick (decLe k j)
     where
       pick : Dec (k ≤ j) → before s j k < p
@@ -58,8 +58,9 @@ module _ (p l : ℕ) (s old : List ℕ) where
         (λ t numbers. (λ r. (r, each-none (λ i. Solves p (l + 1) (before s i) t) l), λ r. r .0)) (gathered-rows p (l + 1) old echelon);
   }
 
-  pub so-far-all : (j : ℕ) (new : List ℕ) → length new ≡ length old → SoFar p l s old j new → (l ≤ j) → (j ≤ length s) → length s ≤ j → SequenceAdded p l s old new true
-  so-far-all j new size w low le ge = record {
+  pub so-far-all : (j : ℕ) (new : List ℕ) → length new ≡ length old → SoFar p l s old j new → j ≤ length s → length s ≤ j →
+      SequenceAdded p l s old new true
+  so-far-all j new size w le ge = record {
     size = size;
     gathered = λ prime room echelon residues.
         subst (λ (n : ℕ). Gathered p (l + 1) (λ t. SolvesRows p (l + 1) old t × Each l n (λ i. Solves p (l + 1) (before s i) t)) new true)
@@ -114,12 +115,12 @@ abbrev pub MeetsFirst : (p l : ℕ) (lengths symbols : List ℕ) (h : ℕ) → (
 MeetsFirst p l lengths symbols h t = Each 0 h (λ g. MeetsOne p l (sequence lengths symbols g) t)
 
 module _ (p l : ℕ) (lengths symbols : List ℕ) where
-  pub first-none : (old table : List ℕ) (n : ℕ) → n ≡ l + 1 → Cleared old table n → Gathered p (l + 1) (MeetsFirst p l lengths symbols 0) table true
+  first-none : (old table : List ℕ) (n : ℕ) → n ≡ l + 1 → Cleared old table n → Gathered p (l + 1) (MeetsFirst p l lengths symbols 0) table true
   first-none old table n e cleared =
       gathered-cleared p (l + 1) table old (subst (λ (m : ℕ). Cleared old table m) e cleared) (MeetsFirst p l lengths symbols 0)
       (λ t. each-none (λ g. MeetsOne p l (sequence lengths symbols g) t) 0)
 
-  pub first-all : (h : ℕ) (table : List ℕ) → h ≤ length lengths → length lengths ≤ h → Gathered p (l + 1) (MeetsFirst p l lengths symbols h) table true →
+  first-all : (h : ℕ) (table : List ℕ) → h ≤ length lengths → length lengths ≤ h → Gathered p (l + 1) (MeetsFirst p l lengths symbols h) table true →
       Gathered p (l + 1) (Meets p l lengths symbols) table true
   first-all h table le ge g =
       subst (λ (n : ℕ). Gathered p (l + 1) (MeetsFirst p l lengths symbols n) table true) (let e : h ≡ length lengths = omega arith in e) g
@@ -132,7 +133,7 @@ module _ (p l : ℕ) (lengths symbols : List ℕ) where
         subst (λ (x : List ℕ). SequenceAdded p l x table next b) this added .gathered prime room (g .echelon refl)
         (part-residues p prime symbols residues (sum h (λ i. getD lengths i 0)) (getD lengths h 0))
 
-    pub first-more : b ≡ true → Gathered p (l + 1) (MeetsFirst p l lengths symbols (h + 1)) next true
+    first-more : b ≡ true → Gathered p (l + 1) (MeetsFirst p l lengths symbols (h + 1)) next true
     first-more holds = record {
       echelon = λ e. joined .echelon holds;
       solved = λ e t numbers. (
@@ -143,7 +144,7 @@ module _ (p l : ℕ) (lengths symbols : List ℕ) where
       none = λ e. absurd (let z : _≡_ {A = ℕ} 0 1 = cc in omega arith);
     }
 
-    pub first-fails : b ≡ false → h < length lengths → Gathered p (l + 1) (Meets p l lengths symbols) next false
+    first-fails : b ≡ false → h < length lengths → Gathered p (l + 1) (Meets p l lengths symbols) next false
     first-fails fails inside =
         gathered-none p (l + 1) next (Meets p l lengths symbols)
         (λ t numbers r. joined .none fails t numbers (g .solved refl t numbers .1 (λ i low high. r i low (omega arith)), r h (omega arith) inside))

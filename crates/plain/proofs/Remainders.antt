@@ -1,7 +1,7 @@
 -- Remainders, and that sums and products may be reduced on the way.
-use mathlib.Core.Path.{_≡_, refl, sym, ap, ap₂, _∙_}
+use mathlib.Core.Path.{_≡_, refl, sym, ap, _∙_}
 use Prim.Native.Nat.{ℕ, zero, suc, _+_, _*_, _-_, _%_, _≤_, _<_}
-use native.Mathlib.Nat.{mod-lt, mod-mod, mod-add-mod, add-mod-mod, zero-mod, mul-mod-left, add-mul-mod-self-right}
+use native.Mathlib.Nat.{mod-lt, mod-mod, mod-add-mod, add-mod-mod, zero-mod, add-mul-mod-self-right}
 use native.Mathlib.Omega.{arith}
 use Rattle.field.proofs.Remainders.{mod-mul-mod, mul-mod-mod}
 use Rattle.plain.specs.Plain.{rem}

@@ -1,5 +1,5 @@
 -- `brute::shortest::add_sequence` meets its contract.
-use mathlib.Core.Path.{_≡_, refl, sym, _∙_}
+use mathlib.Core.Path.{_≡_, refl}
 use Prim.Native.Nat.{_-_, _≤_}
 use native.Mathlib.Omega.{arith}
 use lib.ListN.{length}
@@ -82,7 +82,7 @@ same-length-2 c = search needs
 returns-3 : tie.Need-returns-3 Inv-loop μ-loop
 returns-3 c =
     let inv = c .before .loop .inv in
-    so-far-all _ _ _ _ (c .before .loop .j) _ (inv .3) (inv .4) (inv .1) (omega arith) (omega arith)
+    so-far-all _ _ _ _ (c .before .loop .j) _ (inv .3) (inv .4) (omega arith) (omega arith)
 
 pub add-sequence-spec : {M : Type 1} → statement M
 add-sequence-spec =
