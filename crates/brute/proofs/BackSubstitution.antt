@@ -55,7 +55,8 @@ module _ (p n : ℕ) (table : List ℕ) (prime : Prime p) (echelon : Echelon p n
       later k low high leads (no e) = w .solved k (omega arith) high leads
 
   -- a row after m does not have unknown m
-  row-keeps : (t : ℕ → ℕ) (m v k : ℕ) → 1 ≤ m → m < k → k < n → LeadsRow table k → Solves p n (valueAt table k) t → Solves p n (valueAt table k) (replaced t m v)
+  row-keeps : (t : ℕ → ℕ) (m v k : ℕ) → 1 ≤ m → m < k → k < n → LeadsRow table k → Solves p n (valueAt table k) t →
+      Solves p n (valueAt table k) (replaced t m v)
   row-keeps t m v k low after high leads solved =
       equal p (sum-ext n (λ j. valueAt table k j * replaced t m v j) (λ j. valueAt table k j * t j) (λ j h. term j (ℕ-discrete j m))) ∙ solved
     where

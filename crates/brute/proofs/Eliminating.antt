@@ -15,9 +15,7 @@ use Rattle.plain.proofs.Tests.{each-none, each-more}
 use Rattle.plain.specs.Plain.{Each, rem}
 use Rattle.brute.proofs.Cancelling.{cancelling, falls-out, stays-out, constant-left}
 use Rattle.brute.proofs.Places.{places-differ, rows-kept}
-use Rattle.brute.specs.Equations.{
-  Cancelled, Echelon, LeadsRow, Numbers, Posed, Room, Settled, Solves, SolvesAdded, SolvesRows, Stored, placeOf, valueAt,
-}
+use Rattle.brute.specs.Equations.{Cancelled, Echelon, LeadsRow, Numbers, Posed, Room, Settled, Solves, SolvesAdded, SolvesRows, Stored, placeOf, valueAt}
 use Rattle.brute.specs.Prime.{Prime}
 use Rattle.brute.specs.declared.eliminate.Added.the-variants.{Follows, Leads, Contradicts}
 

@@ -1,18 +1,15 @@
 -- Equations gathered in a table one after the other: each is put into row 0 and added, until one contradicts those before it.
-use mathlib.Core.Path.{_≡_, refl, sym, ap, _∙_}
+use mathlib.Core.Path.{_≡_, refl, sym, _∙_}
 use mathlib.Core.Bool.{Bool, true, false}
 use mathlib.Core.List.{List}
 use mathlib.Core.Logic.{_↔_}
-use Prim.Native.Nat.{ℕ, _+_, _≤_, _<_}
+use Prim.Native.Nat.{ℕ, _≤_, _<_}
 use native.Mathlib.Omega.{arith}
-use lib.ListN.{length, getD}
-use Rattle.plain.specs.Plain.{Each}
+use lib.ListN.{getD}
 use Rattle.plain.specs.Written.{Wrote}
 use Rattle.brute.proofs.Eliminating.{solves-ext, same-echelon, same-solved}
 use Rattle.brute.proofs.Places.{rows-kept}
-use Rattle.brute.specs.Equations.{
-  Cleared, Decided, Echelon, LeadsRow, Numbers, Posed, Room, Solves, SolvesAdded, SolvesRows, valueAt,
-}
+use Rattle.brute.specs.Equations.{Cleared, Decided, Echelon, Numbers, Posed, Room, Solves, SolvesAdded, SolvesRows, valueAt}
 use Rattle.brute.specs.Prime.{Prime}
 use Rattle.brute.specs.Registers.{Gathered}
 use Rattle.brute.specs.declared.eliminate.Added.{Added}
@@ -41,7 +38,7 @@ module _ (p n : ℕ) (table posed : List ℕ) (e : ℕ → ℕ) (room : Room n t
   pub rows-posed : (t : ℕ → ℕ) → SolvesRows p n table t → SolvesRows p n posed t
   rows-posed t s = same-solved p n table posed row-kept t s
 
-  pub rows-before : (t : ℕ → ℕ) → SolvesRows p n posed t → SolvesRows p n table t
+  rows-before : (t : ℕ → ℕ) → SolvesRows p n posed t → SolvesRows p n table t
   rows-before t s = same-solved p n posed table row-back t s
 
   pub equation-posed : (t : ℕ → ℕ) → Solves p n e t → SolvesAdded p n posed t

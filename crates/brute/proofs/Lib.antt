@@ -3,13 +3,15 @@ pub mod Cancelling
 pub mod Crossing
 pub mod Eliminating
 pub mod Gathering
+pub mod Locating
 pub mod Marks
+pub mod Naming
 pub mod OneSolution
 pub mod Places
 pub mod Producing
 pub mod Roots
+pub mod Searching
 pub mod Sequences
-pub mod SolvingTaps
 pub mod Storing
 pub mod Tables
 pub mod Taps

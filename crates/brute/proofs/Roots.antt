@@ -1,5 +1,5 @@
 -- The equation of the powers of y, where y is the inverse of 3^i as the power 255 of it: a register solves it exactly where it is 0 at y.
-use mathlib.Core.Path.{_≡_, sym, ap, _∙_}
+use mathlib.Core.Path.{_≡_, sym, _∙_}
 use mathlib.Core.Logic.{_↔_}
 use Prim.Native.Nat.{ℕ, _*_, _%_, _^_, _<_}
 use native.Mathlib.Nat.{mul-comm}

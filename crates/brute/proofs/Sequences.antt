@@ -1,9 +1,10 @@
 -- The conditions of sequences, symbol after symbol and sequence after sequence, gathered in a table.
-use mathlib.Core.Path.{_≡_, refl, sym, ap, subst, _∙_}
+use mathlib.Core.Path.{_≡_, refl, ap, subst, _∙_}
 use mathlib.Core.Bool.{Bool, true, false}
 use mathlib.Core.List.{List}
-use Prim.Native.Nat.{ℕ, _+_, _-_, _≤_, _<_}
+use Prim.Native.Nat.{ℕ, _+_, _-_, _%_, _^_, _≤_, _<_}
 use native.Mathlib.Decide.{decLe, decLt}
+use native.Mathlib.Nat.{mod-eq-of-lt}
 use native.Mathlib.Omega.{arith}
 use lib.ListN.{length, getD, drop, List·getD-eq-default}
 use lib.Seq.{getD-take, getD-drop}
@@ -14,7 +15,7 @@ use Rattle.plain.specs.Written.{Wrote}
 use Rattle.brute.proofs.Gathering.{gathered-more, contradicted, gathered-rows, gathered-as, gathered-none, gathered-cleared}
 use Rattle.brute.specs.Equations.{Cleared, Decided, Echelon, Room, Solves, SolvesRows}
 use Rattle.brute.specs.Prime.{Prime}
-use Rattle.brute.specs.Registers.{Gathered, Meets, MeetsOne, Residues, SequenceAdded}
+use Rattle.brute.specs.Registers.{Gathered, Given, Meets, MeetsOne, Residues, SequenceAdded, Solvable}
 use Rattle.brute.specs.declared.eliminate.Added.{Added}
 use Rattle.brute.specs.declared.eliminate.Added.the-variants.{Contradicts}
 
@@ -26,7 +27,7 @@ module _ (p : ℕ) (prime : Prime p) where
       pick (yes h) = all i (omega arith) h
       pick (no h) = let z : getD s i 0 ≡ 0 = List·getD-eq-default s 0 (omega arith) in let two = prime .two-or-more in omega arith
 
-  pub before-below : (s : List ℕ) → Residues p s → (j k : ℕ) → before s j k < p
+  before-below : (s : List ℕ) → Residues p s → (j k : ℕ) → before s j k < p
   before-below s all j k = pick (decLe k j)
     where
       pick : Dec (k ≤ j) → before s j k < p
@@ -57,8 +58,9 @@ module _ (p l : ℕ) (s old : List ℕ) where
         (λ t numbers. (λ r. (r, each-none (λ i. Solves p (l + 1) (before s i) t) l), λ r. r .0)) (gathered-rows p (l + 1) old echelon);
   }
 
-  pub so-far-all : (j : ℕ) (new : List ℕ) → length new ≡ length old → SoFar p l s old j new → (l ≤ j) → (j ≤ length s) → length s ≤ j → SequenceAdded p l s old new true
-  so-far-all j new size w low le ge = record {
+  pub so-far-all : (j : ℕ) (new : List ℕ) → length new ≡ length old → SoFar p l s old j new → j ≤ length s → length s ≤ j →
+      SequenceAdded p l s old new true
+  so-far-all j new size w le ge = record {
     size = size;
     gathered = λ prime room echelon residues.
         subst (λ (n : ℕ). Gathered p (l + 1) (λ t. SolvesRows p (l + 1) old t × Each l n (λ i. Solves p (l + 1) (before s i) t)) new true)
@@ -104,8 +106,8 @@ module _ (p l : ℕ) (s old : List ℕ) where
       gathered = λ prime room echelon residues.
           gathered-none p (l + 1) next (λ t. SolvesRows p (l + 1) old t × MeetsOne p l s t)
           (λ t numbers r.
-              contradicted p (l + 1) new posed (before s j) (room-still room) wrote prime (omega arith) (λ k h. before-below p prime s residues j k) before-it
-              (w .gathered prime room echelon residues) answer next decided is t numbers (r .0, λ i a b. r .1 i a (omega arith)) (r .1 j low high));
+          contradicted p (l + 1) new posed (before s j) (room-still room) wrote prime (omega arith) (λ k h. before-below p prime s residues j k) before-it
+          (w .gathered prime room echelon residues) answer next decided is t numbers (r .0, λ i a b. r .1 i a (omega arith)) (r .1 j low high));
     }
 
 -- the conditions of the first h sequences
@@ -113,12 +115,12 @@ abbrev pub MeetsFirst : (p l : ℕ) (lengths symbols : List ℕ) (h : ℕ) → (
 MeetsFirst p l lengths symbols h t = Each 0 h (λ g. MeetsOne p l (sequence lengths symbols g) t)
 
 module _ (p l : ℕ) (lengths symbols : List ℕ) where
-  pub first-none : (old table : List ℕ) (n : ℕ) → n ≡ l + 1 → Cleared old table n → Gathered p (l + 1) (MeetsFirst p l lengths symbols 0) table true
+  first-none : (old table : List ℕ) (n : ℕ) → n ≡ l + 1 → Cleared old table n → Gathered p (l + 1) (MeetsFirst p l lengths symbols 0) table true
   first-none old table n e cleared =
       gathered-cleared p (l + 1) table old (subst (λ (m : ℕ). Cleared old table m) e cleared) (MeetsFirst p l lengths symbols 0)
       (λ t. each-none (λ g. MeetsOne p l (sequence lengths symbols g) t) 0)
 
-  pub first-all : (h : ℕ) (table : List ℕ) → h ≤ length lengths → length lengths ≤ h → Gathered p (l + 1) (MeetsFirst p l lengths symbols h) table true →
+  first-all : (h : ℕ) (table : List ℕ) → h ≤ length lengths → length lengths ≤ h → Gathered p (l + 1) (MeetsFirst p l lengths symbols h) table true →
       Gathered p (l + 1) (Meets p l lengths symbols) table true
   first-all h table le ge g =
       subst (λ (n : ℕ). Gathered p (l + 1) (MeetsFirst p l lengths symbols n) table true) (let e : h ≡ length lengths = omega arith in e) g
@@ -131,7 +133,7 @@ module _ (p l : ℕ) (lengths symbols : List ℕ) where
         subst (λ (x : List ℕ). SequenceAdded p l x table next b) this added .gathered prime room (g .echelon refl)
         (part-residues p prime symbols residues (sum h (λ i. getD lengths i 0)) (getD lengths h 0))
 
-    pub first-more : b ≡ true → Gathered p (l + 1) (MeetsFirst p l lengths symbols (h + 1)) next true
+    first-more : b ≡ true → Gathered p (l + 1) (MeetsFirst p l lengths symbols (h + 1)) next true
     first-more holds = record {
       echelon = λ e. joined .echelon holds;
       solved = λ e t numbers. (
@@ -142,7 +144,52 @@ module _ (p l : ℕ) (lengths symbols : List ℕ) where
       none = λ e. absurd (let z : _≡_ {A = ℕ} 0 1 = cc in omega arith);
     }
 
-    pub first-fails : b ≡ false → h < length lengths → Gathered p (l + 1) (Meets p l lengths symbols) next false
+    first-fails : b ≡ false → h < length lengths → Gathered p (l + 1) (Meets p l lengths symbols) next false
     first-fails fails inside =
         gathered-none p (l + 1) next (Meets p l lengths symbols)
         (λ t numbers r. joined .none fails t numbers (g .solved refl t numbers .1 (λ i low high. r i low (omega arith)), r h (omega arith) inside))
+
+-- a length of a register has a successor
+pub next-length : (l n : ℕ) → l ≤ 129 → n ≡ (l + 1) % 2 ^ 64 → n ≡ l + 1
+next-length l n small e = e ∙ mod-eq-of-lt (omega arith)
+
+-- the conditions of the first h sequences, in a table whose leading values were cleared
+pub record FirstGathered (p l : ℕ) (lengths symbols : List ℕ) (h : ℕ) (old table : List ℕ) : Type 0 where
+  pub size : length table ≡ length old
+  pub gathered : Given p symbols old → l ≤ 128 → Gathered p (l + 1) (MeetsFirst p l lengths symbols h) table true
+
+module _ (p l : ℕ) (lengths symbols : List ℕ) where
+  same-given : (old table : List ℕ) → length table ≡ length old → Given p symbols old → Given p symbols table
+  same-given old table size given = record { prime = given .prime; residues = given .residues; places = size ∙ given .places }
+
+  pub all-begin : (old table : List ℕ) (n : ℕ) → n ≡ (l + 1) % 2 ^ 64 → Cleared old table n → FirstGathered p l lengths symbols 0 table table
+  all-begin old table n e cleared =
+      record { size = refl; gathered = λ given small. first-none p l lengths symbols old table n (next-length l n (omega arith) e) cleared }
+
+  module _ (h : ℕ) (s old table next : List ℕ) (b : Bool) (w : FirstGathered p l lengths symbols h old table) (this : s ≡ sequence lengths symbols h)
+      (added : SequenceAdded p l s table next b) where
+    room-left : Given p symbols old → l ≤ 128 → Room (l + 1) table
+    room-left given small = record { most = omega arith; places = w .size ∙ given .places }
+
+    pub all-more : b ≡ true → FirstGathered p l lengths symbols (h + 1) old next
+    all-more holds = record {
+      size = added .size ∙ w .size;
+      gathered = λ given small.
+          first-more p l lengths symbols (given .prime) (given .residues) h s table next b (room-left given small) (w .gathered given small) this added holds;
+    }
+
+    pub all-fails : (entry : List ℕ) → length old ≡ length entry → b ≡ false → h < length lengths → Solvable p l lengths symbols entry next false
+    all-fails entry size fails inside = record {
+      size = added .size ∙ w .size ∙ size;
+      gathered = λ given small.
+          let here = same-given entry old size given in
+          first-fails p l lengths symbols (given .prime) (given .residues) h s table next b (room-left here small) (w .gathered here small) this added
+          fails inside;
+    }
+
+  pub all-done : (h : ℕ) (entry old table : List ℕ) → FirstGathered p l lengths symbols h old table → length old ≡ length entry → h ≤ length lengths →
+      length lengths ≤ h → Solvable p l lengths symbols entry table true
+  all-done h entry old table w size le ge = record {
+    size = w .size ∙ size;
+    gathered = λ given small. first-all p l lengths symbols h table le ge (w .gathered (same-given entry old size given) small);
+  }

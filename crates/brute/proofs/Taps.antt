@@ -2,10 +2,8 @@
 use mathlib.Core.Path.{_≡_, sym, ap, _∙_}
 use mathlib.Core.List.{List}
 use mathlib.Core.Logic.{_↔_}
-use Prim.Native.Nat.{ℕ, _*_, _≤_, _<_}
-use native.Mathlib.Decide.{decLt}
+use Prim.Native.Nat.{ℕ, _*_, _<_}
 use native.Mathlib.Nat.{mul-comm}
-use native.Mathlib.Omega.{arith}
 use lib.ListN.{getD}
 use Rattle.lists.proofs.Tabulated.{getD-tabulate}
 use Rattle.lists.specs.Tabulate.{tabulate}

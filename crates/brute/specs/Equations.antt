@@ -53,7 +53,7 @@ pub record Stored (old new : List ℕ) (k n : ℕ) : Type 0 where
   pub row : Room n old → 1 ≤ k → k < 129 → Each 0 n (λ j. valueAt new k j ≡ getD old j 0)
   pub kept : (m : ℕ) → Each 0 n (λ j. m ≡ placeOf k j → ⊥) → getD new m 0 ≡ getD old m 0
 
--- Numbers for the unknowns, t k for unknown k, and 1 for the constant.
+-- numbers for the unknowns, t k for unknown k, and 1 for the constant
 pub record Numbers (p : ℕ) (t : ℕ → ℕ) : Type 0 where
   pub one : t 0 ≡ 1
   pub below : (k : ℕ) → t k < p
@@ -87,8 +87,8 @@ pub record Posed (p n : ℕ) (table : List ℕ) : Type 0 where
   pub echelon : Echelon p n table
   pub residues : Each 0 n (λ j. getD table j 0 < p)
 
--- What is answered of the equation. It follows where whatever solves the rows solves it, and contradicts them where nothing does; otherwise
--- it becomes the row of an unknown that led none. Just what solved the rows and the equation solves the rows that are left.
+-- What is answered of the equation. It follows from the rows where whatever solves them solves it, and contradicts them where nothing solves
+-- both; otherwise it becomes the row of an unknown that led none. The rows that are left are solved by just what solved the rows and it.
 pub record Settled (p n : ℕ) (answer : Added) (old new : List ℕ) : Type 0 where
   pub echelon : Echelon p n new
   pub follows : answer ≡ Follows → (t : ℕ → ℕ) → Numbers p t → SolvesRows p n old t → SolvesAdded p n old t
@@ -97,6 +97,7 @@ pub record Settled (p n : ℕ) (answer : Added) (old new : List ℕ) : Type 0 wh
   pub solved : (answer ≡ Contradicts → ⊥) → (t : ℕ → ℕ) → Numbers p t → SolvesRows p n new t ↔ (SolvesRows p n old t × SolvesAdded p n old t)
   pub kept : (answer ≡ Leads → ⊥) → (m : ℕ) → n ≤ m → getD new m 0 ≡ getD old m 0
 
+-- the same where an equation is put so; the number of places is kept in any case
 pub record Decided (p n : ℕ) (answer : Added) (old new : List ℕ) : Type 0 where
   pub size : length new ≡ length old
   pub settled : Posed p n old → Settled p n answer old new

@@ -19,6 +19,7 @@ pub record Register (p l : ℕ) (taps : List ℕ) : Type 0 where
 abbrev pub GeneratesOne : (p l : ℕ) (s taps : List ℕ) → Type 0
 GeneratesOne p l s taps = Each l (length s) (λ j. discrepancy p s taps (l + 1) j ≡ 0)
 
+-- so of each sequence
 abbrev pub Generates : (p l : ℕ) (lengths symbols taps : List ℕ) → Type 0
 Generates p l lengths symbols taps = Each 0 (length lengths) (λ h. GeneratesOne p l (sequence lengths symbols h) taps)
 
@@ -43,6 +44,7 @@ Residues p s = Each 0 (length s) (λ i. getD s i 0 < p)
 abbrev pub MeetsOne : (p l : ℕ) (s : List ℕ) (t : ℕ → ℕ) → Type 0
 MeetsOne p l s t = Each l (length s) (λ j. Solves p (l + 1) (before s j) t)
 
+-- so of each sequence
 abbrev pub Meets : (p l : ℕ) (lengths symbols : List ℕ) (t : ℕ → ℕ) → Type 0
 Meets p l lengths symbols t = Each 0 (length lengths) (λ h. MeetsOne p l (sequence lengths symbols h) t)
 
@@ -59,7 +61,7 @@ pub record SequenceAdded (p l : ℕ) (s old new : List ℕ) (b : Bool) : Type 0 
   pub gathered : Prime p → Room (l + 1) old → Echelon p (l + 1) old → Residues p s →
       Gathered p (l + 1) (λ t. SolvesRows p (l + 1) old t × MeetsOne p l s t) new b
 
--- what is asked of: symbols modulo a prime, and a table of all places
+-- what is supposed: symbols modulo a prime, and a table of all places
 pub record Given (p : ℕ) (symbols table : List ℕ) : Type 0 where
   pub prime : Prime p
   pub residues : Residues p symbols
@@ -70,7 +72,7 @@ pub record Solvable (p l : ℕ) (lengths symbols old new : List ℕ) (b : Bool) 
   pub size : length new ≡ length old
   pub gathered : Given p symbols old → l ≤ 128 → Gathered p (l + 1) (Meets p l lengths symbols) new b
 
--- the shortest register, and its conditions in the table that was lent
+-- the shortest register; its conditions are left in the table that was lent, and where it is alone every row leads
 pub record Searched (p : ℕ) (lengths symbols old new : List ℕ) (l : ℕ) (alone : Bool) : Type 0 where
   pub size : length new ≡ length old
   pub bound : l ≤ 129

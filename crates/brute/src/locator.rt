@@ -6,10 +6,9 @@ use plain::frames::size;
 use plain::values::get;
 use plain::values::put;
 use plain::values::times;
-ghost use mathlib.Core.Path.{_≡_};
 ghost use Prim.Native.Nat.{ℕ, _%_, _^_, _<_};
 ghost use lib.ListN.{length, getD};
-ghost use Rattle.brute.specs.Locating.{Located, Marked};
+ghost use Rattle.brute.specs.Locating.{Located, MarkedRoots, Named};
 ghost use Rattle.plain.specs.Plain.{Tells};
 ghost use Rattle.plain.specs.Written.{Wrote};
 
@@ -44,7 +43,7 @@ fn pose_root(table: &mut [u16], y: u16, n: usize)
 
 // The conditions of the one register, which stand in the table, make it 0 at the inverse of 3^i, which is the power 255 of it.
 fn names(table: &mut [u16], i: u16, n: usize) -> bool
-    ensures { λ r. ⌜ length (now (table .exit)) ≡ length (now (table .entry)) ⌝ }
+    ensures { λ r. ⌜ Named n i (now (table .entry)) (now (table .exit)) r ⌝ }
 {
     let y = power(power(3, i as usize), 255);
     pose_root(table, y, n);
@@ -52,7 +51,7 @@ fn names(table: &mut [u16], i: u16, n: usize) -> bool
 }
 
 fn mark(table: &mut [u16], columns: u16, n: usize, named: &mut [u16])
-    ensures { λ r. ⌜ Marked (now (named .entry)) (now (named .exit)) columns ⌝ }
+    ensures { λ r. ⌜ MarkedRoots n (now (table .entry)) (now (named .entry)) (now (named .exit)) columns ⌝ }
 {
     for i in 0..columns {
         let marked = names(table, i, n);
@@ -62,7 +61,9 @@ fn mark(table: &mut [u16], columns: u16, n: usize, named: &mut [u16])
 
 // What locating answers for these check sums; the marks of the named columns are left in the lent array.
 pub fn locate(columns: u16, checks: &[u16], sums: &[u16], named: &mut [u16]) -> Expected
-    ensures { λ r. ⌜ Located columns (now (checks .entry)) (now (named .entry)) (now (named .exit)) (r .number) (r .length) ⌝ }
+    ensures { λ r. ⌜
+        Located columns (now (checks .entry)) (now (sums .entry)) (now (named .entry)) (now (named .exit)) (r .number) (r .length)
+        ⌝ }
 {
     let mut table = eliminate::table();
     let found = shortest(257, checks, sums, &mut table);

@@ -1,7 +1,7 @@
 -- Numbers that leave the same remainder: their sums and products do too, and a term may be cancelled. Modulo a prime a factor that is
 -- not 0 may be cancelled, and b + a·v is 0 for some residue v.
 use mathlib.Core.Path.{_≡_, refl, sym, ap, _∙_}
-use Prim.Native.Nat.{ℕ, zero, suc, _+_, _-_, _*_, _%_, _≤_, _<_}
+use Prim.Native.Nat.{ℕ, zero, suc, _+_, _-_, _*_, _%_, _<_}
 use native.Mathlib.Nat.{add-comm, add-zero, mul-comm, one-mul, zero-mul, mul-mod-left, mod-eq-of-lt}
 use native.Mathlib.Omega.{arith}
 use Rattle.field.proofs.Euclid.{cancel, euclid}

@@ -1,6 +1,6 @@
 -- The state of the generator after one draw more.
 use mathlib.Core.Path.{_≡_, refl, sym, ap, _∙_}
-use Prim.Native.Nat.{ℕ, suc, _+_, _%_}
+use Prim.Native.Nat.{ℕ, suc, _+_}
 use native.Mathlib.Numerals.{add-one}
 use Rattle.plain.specs.Drawn.{advanced, drawnFrom, later}
 

@@ -1,7 +1,7 @@
 -- Remainders, and that sums and products may be reduced on the way.
-use mathlib.Core.Path.{_≡_, refl, sym, ap, ap₂, _∙_}
+use mathlib.Core.Path.{_≡_, refl, sym, ap, _∙_}
 use Prim.Native.Nat.{ℕ, zero, suc, _+_, _*_, _-_, _%_, _≤_, _<_}
-use native.Mathlib.Nat.{mod-lt, mod-mod, mod-add-mod, add-mod-mod, zero-mod, mul-mod-left, add-mul-mod-self-right}
+use native.Mathlib.Nat.{mod-lt, mod-mod, mod-add-mod, add-mod-mod, zero-mod, add-mul-mod-self-right}
 use native.Mathlib.Omega.{arith}
 use Rattle.field.proofs.Remainders.{mod-mul-mod, mul-mod-mod}
 use Rattle.plain.specs.Plain.{rem}
@@ -17,11 +17,6 @@ rem-positive x (suc p) h = refl
 
 pub rem-lt : (x p : ℕ) → 0 < p → rem x p < p
 rem-lt x p h = let e = rem-positive x p h in let l = mod-lt x h in omega arith
-
-pub rem-fits : (x p : ℕ) → p < 65536 → rem x p < 65536
-unfolding rem
-rem-fits x zero h = omega arith
-rem-fits x (suc p) h = let l = mod-lt x {m = suc p} (omega arith) in omega arith
 
 pub rem-rem : (x p : ℕ) → rem (rem x p) p ≡ rem x p
 unfolding rem

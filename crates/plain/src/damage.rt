@@ -9,7 +9,6 @@ use crate::values::product;
 use crate::values::put;
 use crate::values::remainder;
 use crate::values::times;
-ghost use mathlib.Core.Path.{_≡_};
 ghost use mathlib.Core.List.{List};
 ghost use Prim.Native.Nat.{ℕ, _≤_};
 ghost use lib.ListN.{length};

@@ -8,7 +8,7 @@ use crate::values::product;
 use crate::values::put_at;
 use crate::values::times;
 ghost use mathlib.Core.Path.{_≡_};
-ghost use Prim.Native.Nat.{ℕ, suc, _+_, _*_, _-_, _%_, _^_, _<_};
+ghost use Prim.Native.Nat.{suc, _+_, _-_, _%_, _^_, _<_};
 ghost use lib.ListN.{length, getD};
 ghost use Rattle.plain.specs.Frames.{Summed, checkSum, row};
 ghost use Rattle.plain.specs.Plain.{Each, Tells, capped, sum};

@@ -86,9 +86,9 @@ pub fn part(a: &[u16], start: usize, n: usize) -> &[u16]
     &a[0..0]
 }
 
-// The first n values of a, to be written; all of a where it has fewer.
+// The first n values of a, to be written; all of a where it has fewer. They stand where a stands.
 pub fn first(a: &mut [u16], n: usize) -> &mut [u16]
-    ensures { λ r. ⌜ now r ≡ take n (now (a .entry)) ⌝ }
+    ensures { λ r. ⌜ (now r ≡ take n (now (a .entry))) × (r .ptr ≡ a .entry .ptr) ⌝ }
 {
     if n <= a.len() {
         return &mut a[0..n];

@@ -1,5 +1,5 @@
 -- `brute::shortest::add_sequence` meets its contract.
-use mathlib.Core.Path.{_≡_, refl, sym, _∙_}
+use mathlib.Core.Path.{_≡_, refl}
 use Prim.Native.Nat.{_-_, _≤_}
 use native.Mathlib.Omega.{arith}
 use lib.ListN.{length}
@@ -14,11 +14,11 @@ Inv-loop p table₀ s l j₀ j-end table j = (j-end ≡ length s) × (l ≤ j) �
 abbrev μ-loop : tie.MeasureT-loop
 μ-loop p table₀ s l j₀ j-end table j = j-end - j
 
-abbrev posed-of : tie.After-contradicts Inv-loop μ-loop → tie.After-pose Inv-loop μ-loop
-posed-of c = c .before .before .before .before .before .before .before
-
 abbrev added-of : tie.After-contradicts Inv-loop μ-loop → tie.After-add Inv-loop μ-loop
 added-of c = c .before .before .before
+
+abbrev posed-of : tie.After-add Inv-loop μ-loop → tie.After-pose Inv-loop μ-loop
+posed-of c = c .before .before .before .before
 
 abbrev loop-of : tie.After-pose Inv-loop μ-loop → tie.At-loop Inv-loop μ-loop
 loop-of c = c .before .before .before
@@ -49,10 +49,11 @@ same-length c = search needs
 
 returns-2 : tie.Need-returns-2 Inv-loop μ-loop
 returns-2 c =
-    let posed = posed-of (c .before) in
+    let added = added-of (c .before) in
+    let posed = posed-of added in
     let at = loop-of posed in
     let inv = at .loop .inv in
-    so-far-fails _ _ _ _ (at .loop .j) _ _ _ (inv .3) (inv .4) (inv .1) (posed .pose .ensures) _ (added-of (c .before) .add .ensures)
+    so-far-fails _ _ _ _ (at .loop .j) _ _ _ (inv .3) (inv .4) (inv .1) (posed .pose .ensures) _ (added .add .ensures)
     (c .before .contradicts .ensures .yes (c .if2 .taken)) (omega arith)
 
 add-j : tie.Need-add-j Inv-loop μ-loop
@@ -63,15 +64,15 @@ loop-less c = search needs
 
 loop-again : tie.Need-loop-again Inv-loop μ-loop
 loop-again c =
-    let posed = posed-of (c .before) in
+    let added = added-of (c .before) in
+    let posed = posed-of added in
     let at = loop-of posed in
-    let inv = at .loop .inv in
-    let added = added-of (c .before) .add .ensures in (
+    let inv = at .loop .inv in (
       refl,
       omega arith,
       omega arith,
-      size-still _ _ _ _ (at .loop .j) _ _ _ (inv .3) (inv .4) (inv .1) (posed .pose .ensures) _ added,
-      so-far-more _ _ _ _ (at .loop .j) _ _ _ (inv .3) (inv .4) (inv .1) (posed .pose .ensures) _ added
+      size-still _ _ _ _ (at .loop .j) _ _ _ (inv .3) (inv .4) (inv .1) (posed .pose .ensures) _ (added .add .ensures),
+      so-far-more _ _ _ _ (at .loop .j) _ _ _ (inv .3) (inv .4) (inv .1) (posed .pose .ensures) _ (added .add .ensures)
           (c .before .contradicts .ensures .no (c .if2 .left)),
     )
 
@@ -81,7 +82,7 @@ same-length-2 c = search needs
 returns-3 : tie.Need-returns-3 Inv-loop μ-loop
 returns-3 c =
     let inv = c .before .loop .inv in
-    so-far-all _ _ _ _ (c .before .loop .j) _ (inv .3) (inv .4) (inv .1) (omega arith) (omega arith)
+    so-far-all _ _ _ _ (c .before .loop .j) _ (inv .3) (inv .4) (omega arith) (omega arith)
 
 pub add-sequence-spec : {M : Type 1} → statement M
 add-sequence-spec =

@@ -15,6 +15,12 @@ Inv-loop p a₀ from to i₀ a i = (from ≤ i) × (from ≤ to → i ≤ to) ×
 abbrev μ-loop : tie.MeasureT-loop
 μ-loop p a₀ from to i₀ a i = to - i
 
+abbrev added-of : tie.After-put Inv-loop μ-loop → tie.After-plus-product Inv-loop μ-loop
+added-of c = c .before .before
+
+abbrev loop-of : tie.After-plus-product Inv-loop μ-loop → tie.At-loop Inv-loop μ-loop
+loop-of c = c .before .before .before .before
+
 loop-holds : tie.Need-loop-holds Inv-loop μ-loop
 loop-holds c = (omega arith, λ le. le, carried-none _ _ _)
 
@@ -32,13 +38,15 @@ same-length c = search needs
 
 returns : tie.Need-returns Inv-loop μ-loop
 returns c =
-    let at = c .before .before .before .before .before .before .before .before .before in
+    let put = c .before .before .before in
+    let added = added-of put in
+    let at = loop-of added in
     let args = at .before .before .args in
-    let read = c .before .before .before .before .before .before .get .ensures in
-    let risen = c .before .before .before .before .before .plus-product .ensures ∙ ap (λ (x : ℕ). rem (x + 1) (args .p)) read in (
+    let read = added .before .get .ensures in
+    let risen = added .plus-product .ensures ∙ ap (λ (x : ℕ). rem (x + 1) (args .p)) read in (
       λ e. (
         at .loop .i,
-        counted _ _ _ _ _ _ _ (at .loop .inv .2) (at .loop .inv .0) (c .before .before .before .put .ensures) risen _ (omega arith) (c .if1 .taken),
+        counted _ _ _ _ _ _ _ (at .loop .inv .2) (at .loop .inv .0) (put .put .ensures) risen _ (omega arith) (c .if1 .taken),
       ),
       λ le e. absurd (let z : _≡_ {A = ℕ} 0 1 = cc in omega arith),
     )
@@ -51,12 +59,14 @@ loop-less c = search needs
 
 loop-again : tie.Need-loop-again Inv-loop μ-loop
 loop-again c =
-    let at = c .before .before .before .before .before .before .before .before .before in
-    let read = c .before .before .before .before .before .before .get .ensures in
-    let risen = c .before .before .before .before .before .plus-product .ensures ∙ ap (λ (x : ℕ). rem (x + 1) (at .before .before .args .p)) read in (
+    let put = c .before .before .before in
+    let added = added-of put in
+    let at = loop-of added in
+    let read = added .before .get .ensures in
+    let risen = added .plus-product .ensures ∙ ap (λ (x : ℕ). rem (x + 1) (at .before .before .args .p)) read in (
       omega arith,
       λ le. omega arith,
-      carried-more _ _ _ _ _ _ _ (at .loop .inv .2) (at .loop .inv .0) (c .before .before .before .put .ensures) risen (c .if1 .left),
+      carried-more _ _ _ _ _ _ _ (at .loop .inv .2) (at .loop .inv .0) (put .put .ensures) risen (c .if1 .left),
     )
 
 same-length-2 : tie.Need-same-length-2 Inv-loop μ-loop

@@ -10,6 +10,18 @@ use Rattle.plain.proofs.Striking.{damaged-all}
 use Rattle.plain.proofs.damage.damage.Statement.{statement}
 use Rattle.plain.proofs.damage.damage.Tie as tie
 
+abbrev start-of : tie.After-number → tie.Start
+start-of c = c .before .before .before
+
+abbrev number-of : tie.After-mix → tie.After-number
+number-of c = c .before .before .before .before
+
+abbrev mixed-of : tie.After-draw-factors → tie.After-mix
+mixed-of c = c .before .before .before .before .before .before
+
+abbrev cut-of : tie.After-damage-columns → tie.After-part
+cut-of c = c .before .before .before .before .before
+
 slice-aggregate-number : tie.Need-slice-aggregate-number
 slice-aggregate-number c = search needs
 
@@ -51,13 +63,13 @@ same-length c = search needs
 
 returns : tie.Need-returns
 returns c =
-    let cut = c .before .before .before .before .before .before .before in
-    let drawn = cut .before .before .before in
-    let mixed = drawn .before .before .before .before .before .before in
-    let start = mixed .before .before .before .before .before .before .before in
+    let damaged = c .before .before in
+    let cut = cut-of damaged in
+    let mixed = mixed-of (cut .before .before .before) in
+    let start = start-of (number-of mixed) in
     let few = subst (λ (l : List ℕ). length l ≤ start .args .w) (sym (cut .part .ensures)) (part-length-le (mixed .mix .last .1 .0) 0 (start .args .w)) in (
       _,
-      (few, damaged-all _ _ _ _ _ _ (c .before .before .damage-columns .ensures) (omega arith) (c .before .before .before .before .at-most-eight .ensures .0)),
+      (few, damaged-all _ _ _ _ _ _ (damaged .damage-columns .ensures) (omega arith) (damaged .before .before .at-most-eight .ensures .0)),
     )
 
 pub damage-spec : {M : Type 1} → statement M

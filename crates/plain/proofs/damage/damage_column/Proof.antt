@@ -14,6 +14,12 @@ Inv-loop state₀ kind factors columns rows i frame₀ e h₀ state frame h = (h
 abbrev μ-loop : tie.MeasureT-loop
 μ-loop state₀ kind factors columns rows i frame₀ e h₀ state frame h = rows - h
 
+abbrev error-of : tie.After-put Inv-loop μ-loop → tie.After-error Inv-loop μ-loop
+error-of c = c .before .before .before .before .before
+
+abbrev product-of : tie.After-error Inv-loop μ-loop → tie.After-product Inv-loop μ-loop
+product-of c = c .before .before .before
+
 draw-from-requires : tie.Need-draw-from-requires Inv-loop μ-loop
 draw-from-requires c κs = search needs
 
@@ -52,11 +58,12 @@ loop-less c = search needs
 
 loop-again : tie.Need-loop-again Inv-loop μ-loop
 loop-again c =
-    let summed = c .before .before .before .before .before .before .before .before .before .before in
+    let put = c .before .before in
+    let summed = product-of (error-of put) in
     let at = summed .before .before in
     let start = at .before .before .before .before .before in
     let place = ap (λ (x : ℕ). x + start .args .i) (summed .product .ensures .0) in
-    (omega arith, struck-more _ _ _ _ _ (at .loop .inv .1) place (c .before .before .put .ensures))
+    (omega arith, struck-more _ _ _ _ _ (at .loop .inv .1) place (put .put .ensures))
 
 same-length : tie.Need-same-length Inv-loop μ-loop
 same-length c = search needs

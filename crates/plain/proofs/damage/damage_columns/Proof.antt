@@ -15,6 +15,9 @@ Inv-loop state₀ kind factors columns rows order frame₀ k₀ k-end state fram
 abbrev μ-loop : tie.MeasureT-loop
 μ-loop state₀ kind factors columns rows order frame₀ k₀ k-end state frame k = k-end - k
 
+abbrev read-of : tie.After-damage-column Inv-loop μ-loop → tie.After-get Inv-loop μ-loop
+read-of c = c .before .before .before
+
 loop-holds : tie.Need-loop-holds Inv-loop μ-loop
 loop-holds c = (omega arith, refl, damaged-none _ _ _ _)
 
@@ -32,9 +35,10 @@ loop-less c = search needs
 
 loop-again : tie.Need-loop-again Inv-loop μ-loop
 loop-again c =
-    let at = c .before .before .before .before .before .before .before in
-    let named = c .before .before .before .before .before .get .ensures in
-    (omega arith, refl, damaged-more _ _ _ _ _ (at .loop .inv .2) named (c .before .before .damage-column .ensures))
+    let struck = c .before .before in
+    let read = read-of struck in
+    let at = read .before .before in
+    (omega arith, refl, damaged-more _ _ _ _ _ (at .loop .inv .2) (read .get .ensures) (struck .damage-column .ensures))
 
 same-length : tie.Need-same-length Inv-loop μ-loop
 same-length c = search needs

@@ -15,6 +15,12 @@ Inv-loop columns checks frame sums₀ h₀ h-end sums h = (h ≤ h-end) × (h-en
 abbrev μ-loop : tie.MeasureT-loop
 μ-loop columns checks frame sums₀ h₀ h-end sums h = h-end - h
 
+abbrev got-of : tie.After-row-sums Inv-loop μ-loop → tie.After-get Inv-loop μ-loop
+got-of c = c .before .before
+
+abbrev loop-of : tie.After-get Inv-loop μ-loop → tie.At-loop Inv-loop μ-loop
+loop-of c = c .before .before .before .before
+
 loop-holds : tie.Need-loop-holds Inv-loop μ-loop
 loop-holds c = (omega arith, refl, summed-none _ _ _ _)
 
@@ -38,7 +44,7 @@ loop-less c = search needs
 
 loop-again : tie.Need-loop-again Inv-loop μ-loop
 loop-again c =
-    let at = c .before .before .before .before .before .before .before .before in (
+    let at = loop-of (got-of (c .before .before)) in (
       omega arith,
       refl,
       summed-more
@@ -54,9 +60,9 @@ loop-again c =
           _
           (at .loop .inv .2)
           (c .before .before .row-sums .ensures)
-          (c .before .before .before .before .before .before .start .ensures)
-          (c .before .before .before .before .get .ensures)
-          (c .before .before .before .before .before .row .ensures)
+          (got-of (c .before .before) .before .before .start .ensures)
+          (got-of (c .before .before) .get .ensures)
+          (got-of (c .before .before) .before .row .ensures)
           (omega arith),
     )
 

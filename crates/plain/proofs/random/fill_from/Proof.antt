@@ -16,6 +16,9 @@ Inv-loop state₀ least p a₀ n i₀ state a i = (i ≤ n) × (state ≡ later 
 abbrev μ-loop : tie.MeasureT-loop
 μ-loop state₀ least p a₀ n i₀ state a i = n - i
 
+abbrev loop-of : tie.After-draw-from Inv-loop μ-loop → tie.At-loop Inv-loop μ-loop
+loop-of c = c .before .before .before .before
+
 loop-holds : tie.Need-loop-holds Inv-loop μ-loop
 loop-holds c = (omega arith, later-zero _, wrote-none _ 0 _)
 
@@ -33,10 +36,11 @@ loop-less c = search needs
 
 loop-again : tie.Need-loop-again Inv-loop μ-loop
 loop-again c =
-    let at = c .before .before .before .before .before .before .before in
+    let drawn = c .before .before .before in
+    let at = loop-of drawn in
     let args = at .before .before .args in (
       omega arith,
-      later-more _ _ (at .loop .inv .1) (c .before .before .before .draw-from .ensures .0),
+      later-more _ _ (at .loop .inv .1) (drawn .draw-from .ensures .0),
       wrote-put
           0
           (at .loop .i)
@@ -44,7 +48,7 @@ loop-again c =
           (at .loop .inv .2)
           (omega arith)
           (c .before .before .put .ensures)
-          (drawn-more _ _ (args .least) (args .p) (at .loop .inv .1) (c .before .before .before .draw-from .ensures .1)),
+          (drawn-more _ _ (args .least) (args .p) (at .loop .inv .1) (drawn .draw-from .ensures .1)),
     )
 
 same-length : tie.Need-same-length Inv-loop μ-loop
