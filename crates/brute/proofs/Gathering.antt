@@ -8,7 +8,7 @@ use native.Mathlib.Omega.{arith}
 use lib.ListN.{getD}
 use Rattle.plain.specs.Written.{Wrote}
 use Rattle.brute.proofs.SameRows.{solves-ext, same-echelon, same-solved}
-use Rattle.brute.specs.Equations.{Cleared, Decided, Echelon, Numbers, Posed, Room, Solves, SolvesAdded, SolvesRows, valueAt}
+use Rattle.brute.specs.Equations.{Cleared, Decided, Echelon, Numbers, Posed, Room, Solves, SolvesAdded, SolvesRows}
 use Rattle.brute.specs.Prime.{Prime}
 use Rattle.brute.specs.Registers.{Gathered}
 use Rattle.brute.specs.declared.eliminate.Added.{Added}

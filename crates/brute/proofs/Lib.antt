@@ -1,10 +1,13 @@
+pub mod AllSequences
 pub mod BackSubstitution
 pub mod Cancelling
 pub mod Crossing
 pub mod Gathering
+pub mod InRange
 pub mod Locating
 pub mod Marks
 pub mod Naming
+pub mod OneSequence
 pub mod OneSolution
 pub mod Places
 pub mod Primes
@@ -13,7 +16,6 @@ pub mod Reducing
 pub mod Roots
 pub mod SameRows
 pub mod Searching
-pub mod Sequences
 pub mod Settling
 pub mod Storing
 pub mod Tables

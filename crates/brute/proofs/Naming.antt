@@ -3,7 +3,7 @@
 use mathlib.Core.Path.{_≡_, refl, sym, _∙_}
 use mathlib.Core.Bool.{Bool}
 use mathlib.Core.List.{List}
-use Prim.Native.Nat.{ℕ, _%_, _^_, _≤_, _<_}
+use Prim.Native.Nat.{ℕ, _%_, _^_, _≤_}
 use native.Mathlib.Nat.{mod-lt}
 use native.Mathlib.Omega.{arith}
 use lib.ListN.{length, getD}
@@ -14,9 +14,8 @@ use Rattle.brute.proofs.Places.{rows-kept}
 use Rattle.brute.proofs.Primes.{plain-prime-257}
 use Rattle.brute.proofs.Roots.{root-solves}
 use Rattle.brute.proofs.SameRows.{same-leads, same-echelon, same-solved}
-use Rattle.brute.specs.Equations.{Decided, Numbers, Posed, Settled, SolvesRows, valueAt}
+use Rattle.brute.specs.Equations.{Decided, Numbers, Posed, Settled, SolvesRows}
 use Rattle.brute.specs.Locating.{Determined, Named, RootAt}
-use Rattle.brute.specs.Prime.{Prime}
 use Rattle.brute.specs.declared.eliminate.Added.{Added}
 use Rattle.brute.specs.declared.eliminate.Added.the-variants.{Follows, Leads, Contradicts}
 
