@@ -7,9 +7,8 @@ use Prim.Native.Nat.{ℕ, _≤_, _<_}
 use native.Mathlib.Omega.{arith}
 use lib.ListN.{getD}
 use Rattle.plain.specs.Written.{Wrote}
-use Rattle.brute.proofs.Eliminating.{solves-ext, same-echelon, same-solved}
-use Rattle.brute.proofs.Places.{rows-kept}
-use Rattle.brute.specs.Equations.{Cleared, Decided, Echelon, Numbers, Posed, Room, Solves, SolvesAdded, SolvesRows, valueAt}
+use Rattle.brute.proofs.SameRows.{solves-ext, same-echelon, same-solved}
+use Rattle.brute.specs.Equations.{Cleared, Decided, Echelon, Numbers, Posed, Room, Solves, SolvesAdded, SolvesRows}
 use Rattle.brute.specs.Prime.{Prime}
 use Rattle.brute.specs.Registers.{Gathered}
 use Rattle.brute.specs.declared.eliminate.Added.{Added}
@@ -17,12 +16,6 @@ use Rattle.brute.specs.declared.eliminate.Added.the-variants.{Contradict
 
 -- an equation of residues e that is written into row 0
 module _ (p n : ℕ) (table posed : List ℕ) (e : ℕ → ℕ) (room : Room n table) (w : Wrote table posed 0 n e) where
-  row-kept : (k j : ℕ) → 1 ≤ k → k < n → j < n → valueAt posed k j ≡ valueAt table k j
-  row-kept k j low high inside = rows-kept n table posed (room .most) (w .after) k j low
-
-  row-back : (k j : ℕ) → 1 ≤ k → k < n → j < n → valueAt table k j ≡ valueAt posed k j
-  row-back k j low high inside = sym (row-kept k j low high inside)
-
   written : (j : ℕ) → j < n → getD posed j 0 ≡ e j
   written j h = w .within j (omega arith) h (let l = room .places in let m = room .most in omega arith)
 
@@ -31,15 +24,12 @@ module _ (p n : ℕ) (table posed : List ℕ) (e : ℕ → ℕ) (room : Room n t
     prime = prime;
     some = some;
     room = record { most = room .most; places = w .size ∙ room .places };
-    echelon = same-echelon p n table posed row-kept echelon;
+    echelon = same-echelon p n table posed (room .most) (w .after) echelon;
     residues = λ j l h. let q = written j h in let b = below j h in omega arith;
   }
 
-  pub rows-posed : (t : ℕ → ℕ) → SolvesRows p n table t → SolvesRows p n posed t
-  rows-posed t s = same-solved p n table posed row-kept t s
-
-  rows-before : (t : ℕ → ℕ) → SolvesRows p n posed t → SolvesRows p n table t
-  rows-before t s = same-solved p n posed table row-back t s
+  pub rows-posed : (t : ℕ → ℕ) → SolvesRows p n posed t ↔ SolvesRows p n table t
+  rows-posed = same-solved p n table posed (room .most) (w .after)
 
   pub equation-posed : (t : ℕ → ℕ) → Solves p n e t → SolvesAdded p n posed t
   equation-posed t s = solves-ext p n e (λ j. getD posed j 0) t (λ j h. sym (written j h)) s
@@ -57,15 +47,15 @@ module _ (p n : ℕ) (table posed : List ℕ) (e : ℕ → ℕ) (room : Room n t
       echelon = λ holds. decided .settled put .echelon;
       solved = λ holds t numbers.
           let rows = decided .settled put .solved other t numbers in (
-            λ s. let both = rows .0 s in (gathered .solved refl t numbers .0 (rows-before t (both .0)), equation-before t (both .1)),
-            λ s. rows .1 (rows-posed t (gathered .solved refl t numbers .1 (s .0)), equation-posed t (s .1)),
+            λ s. let both = rows .0 s in (gathered .solved refl t numbers .0 (rows-posed t .0 (both .0)), equation-before t (both .1)),
+            λ s. rows .1 (rows-posed t .1 (gathered .solved refl t numbers .1 (s .0)), equation-posed t (s .1)),
           );
       none = λ fails. absurd (let z : _≡_ {A = ℕ} 0 1 = cc in omega arith);
     }
 
     pub contradicted : answer ≡ Contradicts → (t : ℕ → ℕ) → Numbers p t → conditions t → Solves p n e t → ⊥
     contradicted is t numbers c s =
-        decided .settled put .contradicts is t numbers (rows-posed t (gathered .solved refl t numbers .1 c)) (equation-posed t s)
+        decided .settled put .contradicts is t numbers (rows-posed t .1 (gathered .solved refl t numbers .1 c)) (equation-posed t s)
 
 module _ (p n : ℕ) (table : List ℕ) where
   -- what the table holds to begin with

@@ -3,25 +3,21 @@
 use mathlib.Core.Path.{_≡_, refl, sym, _∙_}
 use mathlib.Core.Bool.{Bool}
 use mathlib.Core.List.{List}
-use Prim.Native.Nat.{ℕ, _%_, _^_, _≤_, _<_}
+use Prim.Native.Nat.{ℕ, _%_, _^_, _≤_}
 use native.Mathlib.Nat.{mod-lt}
 use native.Mathlib.Omega.{arith}
 use lib.ListN.{length, getD}
-use Rattle.field.proofs.Prime257.{prime-257}
 use Rattle.plain.specs.Plain.{Tells}
 use Rattle.plain.specs.Written.{Wrote}
-use Rattle.brute.proofs.Eliminating.{same-echelon, same-solved}
 use Rattle.brute.proofs.Gathering.{posing, rows-posed, equation-posed, equation-before}
 use Rattle.brute.proofs.Places.{rows-kept}
+use Rattle.brute.proofs.Primes.{plain-prime-257}
 use Rattle.brute.proofs.Roots.{root-solves}
-use Rattle.brute.specs.Equations.{Decided, Numbers, Posed, Settled, SolvesRows, valueAt}
+use Rattle.brute.proofs.SameRows.{same-leads, same-echelon, same-solved}
+use Rattle.brute.specs.Equations.{Decided, Numbers, Posed, Settled, SolvesRows}
 use Rattle.brute.specs.Locating.{Determined, Named, RootAt}
-use Rattle.brute.specs.Prime.{Prime}
 use Rattle.brute.specs.declared.eliminate.Added.{Added}
 use Rattle.brute.specs.declared.eliminate.Added.the-variants.{Follows, Leads, Contradicts}
-
-pub plain-prime-257 : Prime 257
-plain-prime-257 = record { two-or-more = prime-257 .two-or-more; divisor = prime-257 .divisor }
 
 module _ (n i y : ℕ) (old posed new : List ℕ) (at : y ≡ (3 ^ i % 257) ^ 255 % 257) (wrote : Wrote old posed 0 n (λ k. y ^ k % 257))
     (answer : Added) (decided : Decided 257 n answer posed new) where
@@ -50,7 +46,7 @@ module _ (n i y : ℕ) (old posed new : List ℕ) (at : y ≡ (3 ^ i % 257) ^ 25
 
     root-told : (b : Bool) → Tells b (answer ≡ Follows) → (t : ℕ → ℕ) → Numbers 257 t → SolvesRows 257 n old t → Tells b (RootAt n t i)
     root-told b told t numbers s =
-        let rows = rows-posed 257 n old posed (λ k. y ^ k % 257) (determined .room) wrote t s in
+        let rows = rows-posed 257 n old posed (λ k. y ^ k % 257) (determined .room) wrote t .1 s in
         let root = root-solves n i y (λ k. y ^ k % 257) t at (λ k h. refl) in
         record {
           yes = λ e. root .0 (equation-before 257 n old posed (λ k. y ^ k % 257) (determined .room) wrote t (settled .follows (told .yes e) t numbers rows));
@@ -68,16 +64,13 @@ module _ (n i y : ℕ) (old posed new : List ℕ) (at : y ≡ (3 ^ i % 257) ^ 25
 
 -- a table of which the rows are kept
 module _ (n : ℕ) (old new : List ℕ) (size : length new ≡ length old) (most : n ≤ 129) (kept : (m : ℕ) → n ≤ m → getD new m 0 ≡ getD old m 0) where
-  row : (k j : ℕ) → 1 ≤ k → k < n → j < n → valueAt new k j ≡ valueAt old k j
-  row k j low high inside = rows-kept n old new most kept k j low
-
   pub still-determined : Determined n old → Determined n new
   still-determined d = record {
     some = d .some;
     room = record { most = most; places = size ∙ d .room .places };
-    echelon = same-echelon 257 n old new row (d .echelon);
-    leads = λ k low high z. d .leads k low high (sym (row k k low high high) ∙ z);
+    echelon = same-echelon 257 n old new most kept (d .echelon);
+    leads = λ k low high. same-leads 257 n old new most kept k low .1 (d .leads k low high);
   }
 
   pub still-solved : (t : ℕ → ℕ) → SolvesRows 257 n old t → SolvesRows 257 n new t
-  still-solved t s = same-solved 257 n old new row t s
+  still-solved t = same-solved 257 n old new most kept t .1

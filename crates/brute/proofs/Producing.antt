@@ -14,7 +14,7 @@ use Rattle.lists.specs.Tabulate.{tabulate}
 use Rattle.plain.proofs.Tests.{each-more}
 use Rattle.plain.specs.Plain.{Each, sequence}
 use Rattle.brute.proofs.BackSubstitution.{some-solution, two-solutions}
-use Rattle.brute.proofs.Eliminating.{in-field}
+use Rattle.brute.proofs.Primes.{in-field}
 use Rattle.brute.proofs.OneSolution.{one-solution}
 use Rattle.brute.proofs.Taps.{discrepancy-solves, tabulated-solves}
 use Rattle.brute.specs.Equations.{LeadsRow, Numbers, valueAt}

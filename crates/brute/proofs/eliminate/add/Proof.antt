@@ -4,7 +4,8 @@ use Prim.Native.Nat.{_-_, _≤_}
 use native.Mathlib.Omega.{arith}
 use lib.ListN.{length}
 use borrow.Author.Needs.{needs}
-use Rattle.brute.proofs.Eliminating.{Reduced, reduced-none, reduced-more, leading, following, contradicting}
+use Rattle.brute.proofs.Reducing.{Reduced, reduced-none, reduced-more}
+use Rattle.brute.proofs.Settling.{leading, following, contradicting}
 use Rattle.brute.specs.Equations.{Posed}
 use Rattle.brute.proofs.eliminate.add.Statement.{statement}
 use Rattle.brute.proofs.eliminate.add.Tie as tie

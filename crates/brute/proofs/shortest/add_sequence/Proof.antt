@@ -4,12 +4,12 @@ use Prim.Native.Nat.{_-_, _≤_}
 use native.Mathlib.Omega.{arith}
 use lib.ListN.{length}
 use borrow.Author.Needs.{needs}
-use Rattle.brute.proofs.Sequences.{SoFar, so-far-none, so-far-short, so-far-all, so-far-more, so-far-fails, size-still}
+use Rattle.brute.proofs.OneSequence.{SoFar, so-far-none, so-far-short, so-far-all, so-far-more, so-far-fails}
 use Rattle.brute.proofs.shortest.add_sequence.Statement.{statement}
 use Rattle.brute.proofs.shortest.add_sequence.Tie as tie
 
 abbrev Inv-loop : tie.InvT-loop
-Inv-loop p table₀ s l j₀ j-end table j = (j-end ≡ length s) × (l ≤ j) × (j ≤ j-end) × (length table ≡ length table₀) × SoFar p l s table₀ j table
+Inv-loop p table₀ s l j₀ j-end table j = (j-end ≡ length s) × (l ≤ j) × (j ≤ j-end) × SoFar p l s table₀ j table
 
 abbrev μ-loop : tie.MeasureT-loop
 μ-loop p table₀ s l j₀ j-end table j = j-end - j
@@ -27,7 +27,7 @@ returns : tie.Need-returns Inv-loop μ-loop
 returns c = so-far-short _ _ _ _ (c .if1 .taken)
 
 loop-holds : tie.Need-loop-holds Inv-loop μ-loop
-loop-holds c = (refl, omega arith, omega arith, refl, so-far-none _ _ _ _)
+loop-holds c = (refl, omega arith, omega arith, so-far-none _ _ _ _)
 
 add-pose : tie.Need-add-pose Inv-loop μ-loop
 add-pose c = search needs
@@ -53,7 +53,7 @@ returns-2 c =
     let posed = posed-of added in
     let at = loop-of posed in
     let inv = at .loop .inv in
-    so-far-fails _ _ _ _ (at .loop .j) _ _ _ (inv .3) (inv .4) (inv .1) (posed .pose .ensures) _ (added .add .ensures)
+    so-far-fails _ _ _ _ (at .loop .j) _ _ _ (inv .3) (inv .1) (posed .pose .ensures) _ (added .add .ensures)
     (c .before .contradicts .ensures .yes (c .if2 .taken)) (omega arith)
 
 add-j : tie.Need-add-j Inv-loop μ-loop
@@ -71,8 +71,7 @@ loop-again c =
       refl,
       omega arith,
       omega arith,
-      size-still _ _ _ _ (at .loop .j) _ _ _ (inv .3) (inv .4) (inv .1) (posed .pose .ensures) _ (added .add .ensures),
-      so-far-more _ _ _ _ (at .loop .j) _ _ _ (inv .3) (inv .4) (inv .1) (posed .pose .ensures) _ (added .add .ensures)
+      so-far-more _ _ _ _ (at .loop .j) _ _ _ (inv .3) (inv .1) (posed .pose .ensures) _ (added .add .ensures)
           (c .before .contradicts .ensures .no (c .if2 .left)),
     )
 
@@ -82,7 +81,7 @@ same-length-2 c = search needs
 returns-3 : tie.Need-returns-3 Inv-loop μ-loop
 returns-3 c =
     let inv = c .before .loop .inv in
-    so-far-all _ _ _ _ (c .before .loop .j) _ (inv .3) (inv .4) (omega arith) (omega arith)
+    so-far-all _ _ _ _ (c .before .loop .j) _ (inv .3) (omega arith) (omega arith)
 
 pub add-sequence-spec : {M : Type 1} → statement M
 add-sequence-spec =

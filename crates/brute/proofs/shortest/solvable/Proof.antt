@@ -5,7 +5,7 @@ use native.Mathlib.Omega.{arith}
 use lib.ListN.{length}
 use borrow.Author.Needs.{needs}
 use borrow.Author.Tests.{not-true, not-false}
-use Rattle.brute.proofs.Sequences.{FirstGathered, all-begin, all-more, all-fails, all-done}
+use Rattle.brute.proofs.AllSequences.{FirstGathered, all-begin, all-more, all-fails, all-done}
 use Rattle.brute.proofs.shortest.solvable.Statement.{statement}
 use Rattle.brute.proofs.shortest.solvable.Tie as tie
 
