@@ -33,4 +33,4 @@ examples = refl
 
 pub literals : Literals
 unfolding marked refusals noColumns columnsOf has number listed tabulate late
-literals = record { words = refl; columns = refl; each = refl; none = refl; numbers = refl; shaping = refl }
+literals = record { words = refl; columns = refl; all = refl; each = refl; none = refl; numbers = refl; shaping = refl }

@@ -29,6 +29,7 @@ pub record Literals : Type 0 where
   -- the lowest bits of words 0 and 1 and the highest bit of word 3
   pub words : marked .words ≡ 1 ∷ 1 ∷ 0 ∷ 9223372036854775808 ∷ []
   pub columns : members marked ≡ 0 ∷ 64 ∷ 255 ∷ []
+  pub all : members (columnsOf (λ i. true)) ≡ tabulate 256 (λ i. i)
   -- of each column alone: bit i mod 64 of word i / 64
   pub each : tabulate 256 (λ i. columnsOf (eqb i) .words) ≡ tabulate 256 (λ i. tabulate 4 (λ w. cond (eqb w (i / 64)) (2 ^ (i % 64)) 0))
   pub none : noColumns .words ≡ 0 ∷ 0 ∷ 0 ∷ 0 ∷ []
