@@ -1,13 +1,13 @@
 -- Frames that can be mended row after row: one of a shape in range with the sums that are held of it, and a row alone.
-use mathlib.Core.Path.{_≡_, refl, subst⁻¹, ap, _∙_}
+use mathlib.Core.Path.{refl, subst⁻¹, ap, _∙_}
 use mathlib.Core.List.{List}
-use Prim.Native.Nat.{ℕ, zero, suc, _+_, _*_, _≤_, _<_}
+use Prim.Native.Nat.{ℕ, zero, suc, _+_, _≤_, _<_}
 use native.Mathlib.Omega.{arith}
 use lib.ListN.{length, getD}
 use Rattle.columns.specs.Columns.{members}
 use Rattle.columns.specs.declared.Columns.{Columns}
 use Rattle.lists.proofs.Totals.{total-zero, total-bound}
-use Rattle.frame.specs.Frame.{heldSums, rowSums, sumsBefore}
+use Rattle.frame.specs.Frame.{sumsBefore}
 use Rattle.frame.specs.Shape.{checksOf}
 use Rattle.frame.specs.declared.Shape.{Shape}
 use Rattle.frame.proofs.HeldParts.{partOf}

@@ -9,7 +9,7 @@ use native.Mathlib.Decide.{decLt}
 use native.Mathlib.Omega.{arith}
 use lib.Dec.{leb, ltb, eqb}
 use lib.ListN.{length, getD, List·getD-append}
-use borrow.Author.Tests.{ltb-true, ltb-false, leb-true, eqb-true, eqb-false, lt-ltb, le-ltb, le-leb, eq-eqb}
+use borrow.Author.Tests.{ltb-true, ltb-false, leb-true, eqb-true, eqb-false, lt-ltb, le-ltb, eq-eqb}
 use Rattle.lists.specs.Tabulate.{every}
 use Rattle.lists.proofs.Tabulated.{every-at, every-of, every-witness, every-ext}
 use Rattle.refusal.proofs.Orders.{Pass, no-fail, Says, SayAll, says-not}

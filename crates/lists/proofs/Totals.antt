@@ -1,6 +1,6 @@
 -- Laws of finite sums of numbers: their clauses as equations, equal terms, a bound, sums and multiples, the first term, two parts, remainders, and that
 -- the first terms are at most all.
-use mathlib.Core.Path.{_≡_, refl, sym, ap, ap₂, _∙_}
+use mathlib.Core.Path.{_≡_, refl, sym, ap₂, _∙_}
 use Prim.Native.Nat.{ℕ, zero, suc, _+_, _*_, _%_, _≤_, _<_, zero-le}
 use native.Mathlib.Nat.{add-zero, add-suc, add-assoc, add-mod, suc-mul, le-step, lt-suc-self, add-le-add, mod-mod, zero-add, zero-mul, add-mul}
 use native.Mathlib.Decide.{ℕ-discrete}
