@@ -31,7 +31,7 @@ abbrev start-of : tie.After-long Inv-loop μ-loop → tie.Start Inv-loop μ-loop
 start-of c = c .before .before .before
 
 abbrev in-loop : tie.After-long2 Inv-loop μ-loop → tie.In-loop Inv-loop μ-loop
-in-loop c = c .before .before .before .before .before .before .before
+in-loop c = c .before .before .before
 
 abbrev looked-up-before : tie.In-loop Inv-loop μ-loop → tie.After-long Inv-loop μ-loop
 looked-up-before c = c .before .before
@@ -46,52 +46,20 @@ point c = looked-up c ∙ table-power _ (start-of c .pre .exponent)
 loop-holds : tie.Need-loop-holds Inv-loop μ-loop
 loop-holds c = none _ _
 
-mul-k : tie.Need-mul-k Inv-loop μ-loop
-mul-k c = let t = c .loop-test .taken in omega arith
-
 mul-cubic : tie.Need-mul-cubic Inv-loop μ-loop
 mul-cubic c = let t = c .loop-test .taken in omega arith
 
-shared-slice-read-cubic : tie.Need-shared-slice-read-cubic Inv-loop μ-loop
-shared-slice-read-cubic c = let t = c .before .loop-test .taken in omega arith
-
-add-cubic : tie.Need-add-cubic Inv-loop μ-loop
-add-cubic c = let t = c .before .loop-test .taken in omega arith
-
-mul-cubic-2 : tie.Need-mul-cubic-2 Inv-loop μ-loop
-mul-cubic-2 c = let t = c .before .loop-test .taken in omega arith
-
-shared-slice-read-cubic-2 : tie.Need-shared-slice-read-cubic-2 Inv-loop μ-loop
-shared-slice-read-cubic-2 c = let t = c .before .before .loop-test .taken in omega arith
-
-add-cubic-2 : tie.Need-add-cubic-2 Inv-loop μ-loop
-add-cubic-2 c = let t = c .before .before .loop-test .taken in omega arith
-
-mul-cubic-3 : tie.Need-mul-cubic-3 Inv-loop μ-loop
-mul-cubic-3 c = let t = c .before .before .loop-test .taken in omega arith
-
-shared-slice-read-cubic-3 : tie.Need-shared-slice-read-cubic-3 Inv-loop μ-loop
-shared-slice-read-cubic-3 c = let t = c .before .before .before .loop-test .taken in omega arith
-
-add-cubic-3 : tie.Need-add-cubic-3 Inv-loop μ-loop
-add-cubic-3 c = let t = c .before .before .before .loop-test .taken in omega arith
-
-mul-cubic-4 : tie.Need-mul-cubic-4 Inv-loop μ-loop
-mul-cubic-4 c = let t = c .before .before .before .loop-test .taken in omega arith
-
-shared-slice-read-cubic-4 : tie.Need-shared-slice-read-cubic-4 Inv-loop μ-loop
-shared-slice-read-cubic-4 c = let t = c .before .before .before .before .loop-test .taken in omega arith
-
 cubic-requires : tie.Need-cubic-requires Inv-loop μ-loop
 cubic-requires c κs =
-    let made = c .before .before .before .before .before .before in
-    omega (arith, looked-up made, table-small _ (start-of made .pre .exponent))
+    let made = looked-up-before c in
+    let t = c .loop-test .taken in
+    (omega arith, omega (arith, looked-up made, table-small _ (start-of made .pre .exponent)))
 
 mul-long-2 : tie.Need-mul-long-2 Inv-loop μ-loop
-mul-long-2 c = let p = c .before .before .before .before .before .before .loop .inv .place in omega arith
+mul-long-2 c = let p = c .before .before .loop .inv .place in omega arith
 
 element-copy-out-long-2 : tie.Need-element-copy-out-long-2 Inv-loop μ-loop
-element-copy-out-long-2 c = let p = c .before .before .before .before .before .before .loop .inv .place in omega arith
+element-copy-out-long-2 c = let p = c .before .before .loop .inv .place in omega arith
 
 long-requires-2 : tie.Need-long-requires-2 Inv-loop μ-loop
 long-requires-2 c κs = search needs
@@ -149,18 +117,7 @@ fours-spec =
     element-copy-out-long
     long-requires
     loop-holds
-    mul-k
     mul-cubic
-    shared-slice-read-cubic
-    add-cubic
-    mul-cubic-2
-    shared-slice-read-cubic-2
-    add-cubic-2
-    mul-cubic-3
-    shared-slice-read-cubic-3
-    add-cubic-3
-    mul-cubic-4
-    shared-slice-read-cubic-4
     cubic-requires
     mul-long-2
     element-copy-out-long-2
