@@ -120,8 +120,8 @@ loop-again c =
     let read = read-before c in
     let inside = in-loop read in
     let at = inside .before in
-    mended-more _ _ _ _ _ (at .loop .h) (at .loop .at) (at .loop .frame) (at .loop .inv) (place inside .inside) (read .wide .result) _ (inside .loop-test .taken)
-    (read .wide .ensures .0) (c .before .before .mend-cell .ensures)
+    mended-more _ _ _ _ _ (at .loop .h) (at .loop .at) (at .loop .frame) (at .loop .inv) (place inside .inside) (read .wide .result) _
+    (inside .loop-test .taken) (read .wide .ensures .0) (c .before .before .mend-cell .ensures)
 
 same-length : tie.Need-same-length Inv-loop μ-loop
 same-length c = c .before .loop .inv .rows .size
