@@ -26,6 +26,7 @@ use Rattle.lists.proofs.Tabulated.{length-tabulate, getD-tabulate, every-of}
 use Rattle.lists.proofs.Zeros.{zeros, drop-zeros}
 use Rattle.refusal.specs.Outcome.{outcome, passed, refused}
 use Rattle.refusal.proofs.Orders.{Pass, pass-otherwise}
+use Rattle.refusal.proofs.Ranges.{in-range}
 use Rattle.register.specs.Algorithm4.{found, foundAlone}
 use Rattle.register.specs.Sequences.{largest, longest, ordered, split}
 use Rattle.register.proofs.Bounds.{bounded-rounds}
@@ -100,7 +101,7 @@ module _ (s : Shape) (sums : List ℕ) (shape : isShape s ≡ true) where
           let r = ranges in (
             refl,
             (
-              ap not (ap₂ _&&_ (le-leb 1 (length lengths) (omega arith)) (le-leb (length lengths) 8 (omega arith))),
+              ap not (in-range 1 8 (length lengths) (omega arith) (omega arith)),
               (
                 ap not (ap₂ _&&_ (every-of (length lengths) _ (λ h l. le-leb (getD lengths h 0) 128 (omega (arith, length-most h l)))) (eq-eqb _ _ lent-total)),
                 (

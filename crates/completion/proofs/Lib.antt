@@ -1,4 +1,5 @@
 pub mod ColumnMending
+pub mod MendableFrames
 pub mod MendedFrame
 pub mod MendedRow
 pub mod Reading

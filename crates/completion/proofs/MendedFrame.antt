@@ -1,6 +1,5 @@
 -- The columns of a set mended one after the other in every row of a frame: each row is completed at the set in the end.
 use mathlib.Core.Path.{_≡_, refl, sym, ap, _∙_}
-use mathlib.Core.Bool.{true}
 use mathlib.Core.List.{List}
 use Prim.Native.Nat.{ℕ, _+_, _*_, _≤_, _<_}
 use native.Mathlib.Omega.{arith}
@@ -10,16 +9,15 @@ use Rattle.columns.specs.declared.Columns.{Columns}
 use Rattle.columns.proofs.Walk.{Walk, nextAt, walk-start, walk-next}
 use Rattle.frame.specs.Completion.{completed}
 use Rattle.frame.specs.Encode.{eachRow}
-use Rattle.frame.specs.Frame.{heldSums, row}
-use Rattle.frame.specs.Shape.{checksOf, isShape}
+use Rattle.frame.specs.Frame.{row, rowSums}
+use Rattle.frame.specs.Shape.{checksOf}
 use Rattle.frame.specs.declared.Shape.{Shape}
 use Rattle.frame.proofs.CompletedFrames.{completedFrame, completedFrame-row, length-completedFrame}
 use Rattle.field257.proofs.Members.{Below}
 use Rattle.frame.proofs.Rows.{cell-place, eachRow-row, length-eachRow, length-row, row-cell, row-end, same-frames}
-use Rattle.frame.proofs.Shapes.{shape-ranges}
 use Rattle.completion.specs.Mending.{mendedColumn}
 use Rattle.weights.proofs.ColumnWeights.{coefficientsOf}
-use Rattle.frame.proofs.HeldParts.{partOf, part-sums}
+use Rattle.frame.proofs.HeldParts.{partOf}
 use Rattle.completion.proofs.MendedRow.{mended-completed}
 use Rattle.completion.proofs.RowMending.{length-mendedCell, mendedBefore, mendedRow, mended-none, mended-more, mended-all}
 
@@ -61,17 +59,16 @@ module _ (J : Columns) (s : Shape) (sums f : List ℕ) where
           long : s .rows * n ≤ length l
           long = let q = w .size in omega arith
 
-    module _ (shape : isShape s ≡ true) (small : (k : ℕ) → k < length f → getD f k 0 < 257) (held : sums ≡ heldSums s f)
+    module _ (narrow : n ≤ 256) (small : (k : ℕ) → k < length f → getD f k 0 < 257)
+        (held : (h : ℕ) → h < s .rows → partOf s sums h ≡ rowSums s f h)
         (below : Below n J) (reach : (h : ℕ) → h < s .rows → length (members J) ≤ checksOf s h) where
-      narrow : n ≤ 256
-      narrow = shape-ranges s shape .columns-most
-
       -- row h mended is row h completed
       row-completed : (h : ℕ) → h < s .rows → mendedRow J n (partOf s sums h) (row n f h) ≡ completed n J (row n f h)
+      unfolding rowSums
       row-completed h r =
           mended-completed J n (checksOf s h) (partOf s sums h) (row n f h) narrow (length-row n f h (row-inside h r))
           (λ k l. rw (row-cell n f h k l) (small (h * n + k) (let p = cell-place n (s .rows) h k r l in omega arith)))
-          (part-sums s sums f held h r) below (reach h r)
+          (held h r) below (reach h r)
 
       pub mending-all : (d i : ℕ) (l : List ℕ) → FrameMending d i l → 256 ≤ i → l ≡ eachRow n (λ h. completed n J) (s .rows) f
       mending-all d i l w past =

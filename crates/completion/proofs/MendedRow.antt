@@ -1,42 +1,34 @@
 -- A row mended at a set of columns is completed there: what is added takes its first check sums away, and no other row with the same cells outside the set
 -- has them 0.
-use mathlib.Core.Path.{_≡_, sym, ap, ap₂, _∙_}
+use mathlib.Core.Path.{_≡_, ap, ap₂, _∙_}
 use mathlib.Core.Logic.{_⊎_, inl, inr}
 use mathlib.Core.Bool.{Bool, true, false, cond}
-use mathlib.Core.List.{List, [], _∷_}
-use Prim.Native.Nat.{ℕ, zero, suc, _+_, _-_, _*_, _%_, _≤_, _<_}
-use native.Mathlib.Nat.{mod-lt}
-use native.Mathlib.Decide.{decLt}
+use mathlib.Core.List.{List}
+use Prim.Native.Nat.{ℕ, suc, _+_, _-_, _*_, _%_, _≤_, _<_}
+use native.Mathlib.Nat.{mod-lt, mod-mod}
 use native.Mathlib.Omega.{arith}
 use lib.Dec.{lit<}
-use lib.ListN.{length, getD, List·getD-eq-default}
-use Rattle.algebra.specs.Ring.{CRing}
-use Rattle.algebra.proofs.Solver.{_:+_, _:-_, _:=_, solve}
+use lib.ListN.{length, getD}
 use Rattle.columns.specs.Columns.{has, members}
 use Rattle.columns.specs.declared.Columns.{Columns}
 use Rattle.columns.proofs.Listing.{by-test}
 use Rattle.lists.specs.Total.{total}
-use Rattle.field.proofs.Bridge.{res-add, res-mod}
-use Rattle.field.proofs.Prime257.{prime-257}
 use Rattle.lists.proofs.Totals.{total-ext}
 use Rattle.frame.specs.Completion.{completed}
 use Rattle.frame.specs.Frame.{checkSum, checkSums}
 use Rattle.frame.proofs.CheckSums.{checkSum-below}
-use Rattle.field257.proofs.Field257.{symbols, R257, res257}
 use Rattle.frame.proofs.ClosedForm.{symbolFor}
 use Rattle.frame.proofs.SymbolsPut.{sums-gone}
 use Rattle.frame.proofs.CompletionLaws.{completed-only}
 use Rattle.field257.proofs.Members.{Below}
 use Rattle.lists.proofs.Joined.{tabulate-each}
-use Rattle.lists.proofs.Tabulated.{getD-tabulate, getD-tabulate-past, length-tabulate}
+use Rattle.lists.proofs.Tabulated.{getD-tabulate, length-tabulate}
 use Rattle.completion.specs.Mending.{symbolRead}
 use Rattle.weights.specs.Weights.{coefficient}
 use Rattle.weights.proofs.ColumnWeights.{coefficientsOf}
 use Rattle.weights.proofs.ReadForm.{symbol-form}
 use Rattle.completion.proofs.RowMending.{mendedRow}
-open CRing R257 using (car, zero as 𝟘, add as _⊕_, neg, add-neg)
 
-infixl 60 _⊕_
 pub sums-below : (n N : ℕ) (sums x : List ℕ) → sums ≡ checkSums n N x → (k : ℕ) → getD sums k 0 < 257
 unfolding checkSums
 sums-below n N sums x e k = rw e (tabulate-each (λ v. v < 257) 0 (lit< tt) N _ (λ j. checkSum-below n x (suc j)) k)
@@ -84,21 +76,7 @@ module _ (J : Columns) (n N : ℕ) (sums x : List ℕ) (narrow : n ≤ 256) (who
       pick (inl t) = rw (cell-mended i l ∙ ap (chosen i) t) (mod-lt _ (lit< tt))
       pick (inr t) = rw (mended-kept i l t) (small i l)
 
-  -- ---- in the field
-
-  same-outside : (i : ℕ) → has J i ≡ false → getD y i 0 ≡ getD x i 0
-  same-outside i t = pick (decLt i n)
-    where
-      pick : Dec (i < n) → getD y i 0 ≡ getD x i 0
-      pick (yes l) = mended-kept i l t
-      pick (no l) = getD-tabulate-past n _ i 0 (omega arith) ∙ sym (List·getD-eq-default x 0 {n = i} (omega arith))
-
-  put-inside : (i : ℕ) → has J i ≡ true → symbols y i ⊕ neg (symbols x i) ≡ res257 (symbol i)
-  put-inside i t =
-      ap (λ (c : ℕ). res257 c ⊕ neg (symbols x i)) (cell-mended i (below i t) ∙ ap (chosen i) t)
-      ∙ ap (λ c. c ⊕ neg (symbols x i)) (res-mod 257 prime-257 _ ∙ res-add 257 prime-257 (getD x i 0) (symbol i))
-      ∙ solve R257 (symbols x i ∷ res257 (symbol i) ∷ []) (λ a b. a :+ b :- a := b) tt
-
   pub mended-completed : mendedRow J n sums x ≡ completed n J x
   mended-completed = completed-only n J x narrow below y (length-tabulate n _) mended-below mended-kept
-      (sums-gone n J narrow below x y same-outside put-inside)
+      (sums-gone n J narrow below x y whole (length-tabulate n _) mended-kept
+      (λ i l t. ap (λ (c : ℕ). c % 257) (cell-mended i l ∙ ap (chosen i) t) ∙ mod-mod _ 257))

@@ -10,7 +10,7 @@ use lib.ListN.{length, getD, set}
 use borrow.Author.Tests.{eq-eqb, ne-eqb}
 use Rattle.columns.specs.Columns.{has}
 use Rattle.columns.specs.declared.Columns.{Columns}
-use Rattle.columns.proofs.Walk.{Walk, nextAt, walk-start, walk-next}
+use Rattle.columns.proofs.Walk.{Walk, nextAt}
 use Rattle.lists.specs.Tabulate.{tabulate}
 use Rattle.lists.proofs.Filling.{by-entries, set-tabulate}
 use Rattle.lists.proofs.Tabulated.{getD-tabulate, length-tabulate, tabulate-ext, tabulate-getD}
@@ -75,26 +75,3 @@ module _ (J : Columns) (n : ℕ) (sums x : List ℕ) where
   pub mended-all : (i : ℕ) → n ≤ 256 → 256 ≤ i → mendedBefore i ≡ mendedRow
   mended-all i narrow past =
       tabulate-ext n (λ k. chosen k (passed J i k)) (λ k. chosen k (has J k)) (λ k l. ap (chosen k) (passed-all J i k (omega arith)))
-
-  -- the first d columns of the set are mended, and the walk stands at i
-  pub record Mending (d i : ℕ) (y : List ℕ) : Type 0 where
-    pub walk : Walk J d i
-    pub size : length y ≡ n
-    pub entries : y ≡ mendedBefore i
-
-  pub mending-none : (i : ℕ) → i ≡ nextAt J 0 → length x ≡ n → Mending 0 i x
-  mending-none i e whole = record { walk = walk-start J i e; size = whole; entries = mended-none i e whole }
-
-  module _ (d i : ℕ) (y : List ℕ) (w : Mending d i y) where
-    pub mending-more : (j : ℕ) (coefficients z : List ℕ) → i < 256 → j ≡ nextAt J (i + 1) → coefficients ≡ coefficientsOf J i
-        → z ≡ mendedCell (length y) coefficients sums i y → Mending (d + 1) j z
-    mending-more j coefficients z inside next c e =
-        let cell = e ∙ ap (λ (k : ℕ). mendedCell k coefficients sums i y) (w .size) in
-        record {
-          walk = walk-next J d i (w .walk) j inside next;
-          size = ap length cell ∙ length-mendedCell n coefficients sums i y;
-          entries = cell ∙ mended-more d i (w .walk) j coefficients y inside next c (w .entries);
-        }
-
-    pub mending-all : n ≤ 256 → 256 ≤ i → y ≡ mendedRow
-    mending-all narrow past = w .entries ∙ mended-all i narrow past

@@ -1,6 +1,5 @@
-// Mending a frame at a set of columns: each row is completed there. The rows share the coefficients, column after column.
-use crate::row::mend_cell;
-use crate::row::mend_row;
+// Mending a frame at a set of columns: each row is completed there.
+use crate::cell::mend_cell;
 use columns::Columns;
 use columns::next;
 use columns::size;
@@ -10,7 +9,7 @@ use field257::powers::wide;
 use frame::Shape;
 use weights::weigh;
 ghost use mathlib.Core.Path.{_≡_};
-ghost use Rattle.completion.specs.Mendable.{MendableColumn, MendableFrame};
+ghost use Rattle.completion.specs.Mendable.{MendableColumn, MendableFrame, MendableRows};
 ghost use Rattle.completion.specs.Mending.{mendedColumn};
 ghost use Rattle.frame.specs.Completion.{completed};
 ghost use Rattle.frame.specs.Encode.{eachRow};
@@ -34,16 +33,12 @@ fn mend_column(s: Shape, frame: &mut [u16], i: usize, coefficients: &[u16], sums
     }
 }
 
-// The frame with each row completed at the set, given the check sums that it has. A row alone shares with no other.
-pub fn mend(s: Shape, set: Columns, sums: &[u16], frame: &mut [u16])
-    requires { ⌜ MendableFrame s set (now sums) (now frame) ⌝ }
+// Each row completed at the set, given the check sums that it has. The rows share the coefficients, column after column, so
+// that those of one column alone are kept.
+pub fn mend_rows(s: Shape, set: Columns, sums: &[u16], frame: &mut [u16])
+    requires { ⌜ MendableRows s set (now sums) (now frame) ⌝ }
     ensures { λ r. ⌜ now (frame .exit) ≡ eachRow (s .columns) (λ h. completed (s .columns) set) (s .rows) (now (frame .entry)) ⌝ }
 {
-    if s.rows == 1 {
-        let checks = wide(s.checks[0]) as usize;
-        mend_row(set, &sums[0..checks], frame);
-        return;
-    }
     let powers = powers();
     let m = size(set);
     let f = locator_polynomial(&powers, set);
@@ -54,4 +49,12 @@ pub fn mend(s: Shape, set: Columns, sums: &[u16], frame: &mut [u16])
         mend_column(s, frame, i, &coefficients[0..m], sums);
         i = next(set, i + 1);
     }
+}
+
+// The frame with each row completed at the set, given the check sums that are held of it.
+pub fn mend(s: Shape, set: Columns, sums: &[u16], frame: &mut [u16])
+    requires { ⌜ MendableFrame s set (now sums) (now frame) ⌝ }
+    ensures { λ r. ⌜ now (frame .exit) ≡ eachRow (s .columns) (λ h. completed (s .columns) set) (s .rows) (now (frame .entry)) ⌝ }
+{
+    mend_rows(s, set, sums, frame);
 }

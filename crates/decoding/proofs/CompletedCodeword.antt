@@ -21,7 +21,8 @@ use Rattle.columns.proofs.Marks.{columnsOf-ext}
 use Rattle.columns.proofs.Subset.{Within, within-le, within-same}
 use Rattle.decoding.specs.Locating.{sizeOf, tapsOf, named, namedColumns}
 use Rattle.decoding.proofs.DamageSums.{no-nearer}
-use Rattle.decoding.proofs.FrameRegister.{length-sequences, frame-generator}
+use Rattle.decoding.proofs.SequenceRegister.{generator-of}
+use Rattle.frame.proofs.HeldSums.{length-sequences}
 use Rattle.decoding.proofs.FrameSums.{sums, error, error-sums, same-cell-error, sums-codeword, res-sums, sequence-length, sequence-sums}
 use Rattle.decoding.proofs.NamedColumns.{columns-distinct, columns-nonzero, named-roots, named-past, has-named, size-named}
 use Rattle.decoding.proofs.Recurrence.{powerSum, roots-generate, zeros-go-on}
@@ -51,7 +52,7 @@ module _ (s : Shape) (shape : isShape s ≡ true) (f : List ℕ) where
   σ = tapsOf (sequences s f)
 
   register : Register 257 c σ
-  register = frame-generator s f shape .register
+  register = generator-of (sequences s f) .register
 
   unmarked : (i : ℕ) → i < n → named s σ i ≡ false → has (namedColumns s σ) i ≡ false
   unmarked i below e = let few = shape-ranges s shape .columns-most in has-named s σ i (omega arith) ∙ e
@@ -89,7 +90,7 @@ module _ (s : Shape) (shape : isShape s ≡ true) (f : List ℕ) where
             ∙ sym (conv-add-right R257 (poly257 σ) (sums n e h) (errors h) j)
             ∙ conv-ext R257 (poly257 σ) (poly257 σ) (λ k. sums n e h k ⊕ errors h k) (sums n f h) j (λ _ _. refl) (λ k _. whole h k)
             ∙ generates-products c σ register (getD (sequences s f) h []) (sums n f h) (sequence-sums s f h below)
-            (frame-generator s f shape .generates h (let q = length-sequences s f in omega arith)) j after
+            (generator-of (sequences s f) .generates h (let q = length-sequences s f in omega arith)) j after
             (let q = sequence-length s f h below in omega arith)
 
     differs-named : Within n (differs s e f) (named s σ)

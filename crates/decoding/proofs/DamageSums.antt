@@ -8,7 +8,7 @@ use lib.ListN.{length}
 use Rattle.algebra.specs.Ring.{CRing}
 use Rattle.algebra.proofs.RingLaws.{neg-zero}
 use Rattle.decoding.specs.Locating.{sizeOf}
-use Rattle.decoding.proofs.FrameRegister.{length-sequences}
+use Rattle.frame.proofs.HeldSums.{length-sequences}
 use Rattle.decoding.proofs.FrameSums.{sums, error, error-sums, same-cell-error, codeword-sums, sequence-length, sequence-sums}
 use Rattle.decoding.proofs.PowerSums.{PowerSums, size-at-most}
 use Rattle.decoding.proofs.Recurrence.{powerSum}

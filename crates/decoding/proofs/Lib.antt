@@ -1,7 +1,6 @@
 pub mod ColumnRoots
 pub mod CompletedCodeword
 pub mod DamageSums
-pub mod FrameRegister
 pub mod FrameSums
 pub mod NamedColumns
 pub mod PowerSums

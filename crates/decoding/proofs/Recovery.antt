@@ -8,7 +8,7 @@ use native.Mathlib.Omega.{arith}
 use borrow.Author.Tests.{le-leb}
 use Rattle.decoding.specs.Locating.{sizeOf, tapsOf, aloneOf, rowsReach, namedColumns, namesAll, repaired}
 use Rattle.decoding.proofs.DamageSums.{damage}
-use Rattle.decoding.proofs.FrameRegister.{length-sequences}
+use Rattle.frame.proofs.HeldSums.{length-sequences}
 use Rattle.decoding.proofs.FrameSums.{error, error-same-cell, sequence-length}
 use Rattle.decoding.proofs.PowerSums.{Shows, size-shown, alone-shown}
 use Rattle.decoding.proofs.RepairedFrame.{cell-below}

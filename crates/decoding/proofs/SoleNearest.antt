@@ -13,7 +13,7 @@ use Rattle.columns.specs.declared.Columns.{Columns}
 use Rattle.decoding.specs.Locating.{sizeOf, tapsOf, aloneOf, rowsReach, named, namedColumns, namesAll, repaired}
 use Rattle.decoding.proofs.CompletedCodeword.{completes-codeword, completes-distance, completes-differing}
 use Rattle.decoding.proofs.DamageSums.{damage}
-use Rattle.decoding.proofs.FrameRegister.{frame-generator}
+use Rattle.decoding.proofs.SequenceRegister.{generator-of}
 use Rattle.decoding.proofs.NamedColumns.{names-all, has-named, named-below, size-named}
 use Rattle.decoding.proofs.PowerSums.{names-P, names-enough}
 use Rattle.decoding.proofs.RepairedFrame.{Completes, repaired-completes, repaired-only}
@@ -57,7 +57,7 @@ module _ (s : Shape) (shape : isShape s ≡ true) (f : List ℕ) where
               let few = shape-ranges s shape .columns-most in
               agree s e f i (nearest-differs i inside ∙ sym (has-named s σ i (omega arith)) ∙ out) h below;
           zeros = λ h j below few.
-              let all = names-all s c σ (frame-generator s f shape .register) shape .0 nearest-enough in
+              let all = names-all s c σ (generator-of (sequences s f) .register) shape .0 nearest-enough in
               code h (suc j) below (omega arith) (omega (arith, reach s c reaches h below, size-named s σ shape));
         }
 
@@ -69,7 +69,7 @@ module _ (s : Shape) (shape : isShape s ≡ true) (f : List ℕ) where
 
     module _ (all : namesAll s σ c ≡ true) where
       pub names-count : count (s .columns) (named s σ) ≡ c
-      names-count = names-all s c σ (frame-generator s f shape .register) shape .0 all
+      names-count = names-all s c σ (generator-of (sequences s f) .register) shape .0 all
 
       pub mended-legal : Legal s (repaired s J f)
       mended-legal =

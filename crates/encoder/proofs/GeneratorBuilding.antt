@@ -4,7 +4,7 @@ use mathlib.Core.Path.{_≡_, refl, sym, ap, ap₂, subst, _∙_}
 use mathlib.Core.List.{List, _∷_}
 use Prim.Native.Nat.{ℕ, zero, suc, _+_, _-_, _*_, _%_, _≤_, _<_}
 use native.Mathlib.Decide.{decLt, ℕ-discrete}
-use native.Mathlib.Nat.{mod-lt, mul-zero as n-mul-zero}
+use native.Mathlib.Nat.{mod-lt, one-mul, mul-zero as n-mul-zero}
 use native.Mathlib.Numerals.{add-one}
 use native.Mathlib.Omega.{arith}
 use borrow.Rule.Slice.PartMut.{midOf, putMid}
@@ -31,10 +31,6 @@ open CRing R257 using (zero as 𝟘, add as _⊕_, mul as _⊗_, neg, add-neg)
 
 infixl 60 _⊕_
 infixl 70 _⊗_
--- a coefficient of f times z − x, from the one below it and from itself
-abbrev pub raised : (x below own : ℕ) → ℕ
-raised x below own = (below + (257 - x) * own) % 257
-
 -- j factors are multiplied, the last with the given root
 pub record Building (j root : ℕ) (f : List ℕ) : Type 0 where
   pub size : length f ≡ 65
@@ -83,18 +79,18 @@ module _ (j root : ℕ) (f : List ℕ) (a : Building j root f) (less : j < 64) w
   abbrev part : List ℕ
   part = midOf 0 (j + 2 - 0) f
 
-  module _ (y : List ℕ) (e : y ≡ tabulate (length part) (made (raised next) part)) where
+  module _ (y : List ℕ) (e : y ≡ tabulate (length part) (made 257 1 (257 - next) part)) where
     abbrev after : List ℕ
     after = putMid 0 (j + 2 - 0) f y
 
     room : j + 2 - 0 ≤ length f
     room = let s = a .size in omega arith
 
-    after-entry : (k : ℕ) → k < j + 2 → getD after k 0 ≡ made (raised next) f k
-    after-entry k h = front-made (raised next) (j + 2 - 0) f room y e k (omega arith)
+    after-entry : (k : ℕ) → k < j + 2 → getD after k 0 ≡ made 257 1 (257 - next) f k
+    after-entry k h = front-made 257 1 (257 - next) (j + 2 - 0) f room y e k (omega arith)
 
     after-past : (k : ℕ) → j + 2 ≤ k → getD after k 0 ≡ 0
-    after-past k h = front-rest (raised next) (j + 2 - 0) f room y e k (omega arith) ∙ a .past k (omega arith)
+    after-past k h = front-rest 257 1 (257 - next) (j + 2 - 0) f room y e k (omega arith) ∙ a .past k (omega arith)
 
     after-below : (k : ℕ) → Dec (k < j + 2) → getD after k 0 < 257
     after-below k (yes h) = rw (after-entry k h) (mod-lt _ (lit< tt))
@@ -103,12 +99,13 @@ module _ (j root : ℕ) (f : List ℕ) (a : Building j root f) (less : j < 64) w
     after-leading : getD after (suc j) 0 ≡ 256
     after-leading =
         after-entry (suc j) (omega arith)
-        ∙ ap₂ (raised next) (shifted-suc f j ∙ a .leading) (a .past (suc j) (omega arith))
+        ∙ ap₂ (λ (below own : ℕ). (1 * below + (257 - next) * own) % 257) (shifted-suc f j ∙ a .leading) (a .past (suc j) (omega arith))
         ∙ rw (n-mul-zero (257 - next)) refl
 
     after-symbol : (k : ℕ) → k < suc (suc j) → symbols after k ≡ res257 (shifted 1 f k) ⊕ neg (res257 next) ⊗ symbols f k
     after-symbol k h =
-        ap res257 (after-entry k (omega arith)) ∙ res-mod 257 prime-257 _ ∙ res-add 257 prime-257 (shifted 1 f k) ((257 - next) * getD f k 0)
+        ap res257 (after-entry k (omega arith) ∙ ap (λ (n : ℕ). (n + (257 - next) * getD f k 0) % 257) (one-mul (shifted 1 f k)))
+        ∙ res-mod 257 prime-257 _ ∙ res-add 257 prime-257 (shifted 1 f k) ((257 - next) * getD f k 0)
         ∙ ap (λ z. res257 (shifted 1 f k) ⊕ z)
         (res-mul 257 prime-257 (257 - next) (getD f k 0)
         ∙ ap (λ z. z ⊗ symbols f k) (res-negative next (omega arith)))
@@ -134,7 +131,7 @@ module _ (j root : ℕ) (f : List ℕ) (a : Building j root f) (less : j < 64) w
 
     pub building-more : Building (j + 1) next after
     building-more = subst (λ (i : ℕ). Building i next after) (sym (add-one j)) (record {
-      size = front-length (raised next) (j + 2 - 0) f room y e ∙ a .size;
+      size = front-length 257 1 (257 - next) (j + 2 - 0) f room y e ∙ a .size;
       power = next-power;
       below = λ k. after-below k (decLt k (j + 2));
       leading = after-leading;

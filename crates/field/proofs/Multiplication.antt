@@ -1,9 +1,9 @@
--- The coefficients of a polynomial changed in place, one after the other: each is made from the one below it, as it was, and from itself, as multiplying by a
--- factor of degree 1 does. Where the front of a list is changed so, the whole is where it is 0 past the front.
+-- The coefficients of a polynomial multiplied in place by a·z + b, one after the other: each is made from the one below it, as it was, and from itself. Where
+-- the front of a list is changed so, the whole is where it is 0 past the front.
 use mathlib.Core.Path.{_≡_, refl, sym, ap, ap₂, _∙_}
 use mathlib.Core.Bool.{Bool, cond}
 use mathlib.Core.List.{List}
-use Prim.Native.Nat.{ℕ, zero, suc, _+_, _-_, _*_, _≤_, _<_}
+use Prim.Native.Nat.{ℕ, zero, suc, _+_, _-_, _*_, _%_, _≤_, _<_}
 use native.Mathlib.Nat.{mul-le-mul, zero-add}
 use native.Mathlib.Numerals.{add-one}
 use native.Mathlib.Omega.{arith}
@@ -32,8 +32,11 @@ shifted-suc f k =
 pub product-fits : (c v : ℕ) → c ≤ 257 → Fits w16 v → c * v ≤ 257 * 65535
 product-fits c v le fits = mul-le-mul le (let l : v ≤ 65535 = omega arith in l)
 
-module _ (make : ℕ → ℕ → ℕ) where
+module _ (p a b : ℕ) where
   -- coefficient k, made from the one below it and from itself
+  abbrev make : (below own : ℕ) → ℕ
+  make below own = (a * below + b * own) % p
+
   abbrev pub made : List ℕ → ℕ → ℕ
   made f k = make (shifted 1 f k) (getD f k 0)
 
@@ -47,19 +50,19 @@ module _ (make : ℕ → ℕ → ℕ) where
     pub multiplied-none : Multiplied 0 0 from
     multiplied-none = record { filled = filled-none (made from) from; kept = sym (shifted-zero from); fits = omega arith }
 
-    module _ (k below : ℕ) (f : List ℕ) (a : Multiplied k below f) where
-      pub multiplied-more : (old v : ℕ) → k < length from → old ≡ getD f k 0 → Fits w16 old → v ≡ make below old
+    module _ (k below : ℕ) (f : List ℕ) (m : Multiplied k below f) where
+      pub multiplied-more : (old v : ℕ) → k < length from → old ≡ getD f k 0 → Fits w16 old → v ≡ (a * below + b * old) % p
           → Multiplied (k + 1) old (set f k v)
       multiplied-more old v h e fits is =
-          let same = e ∙ filled-rest (made from) from k f (a .filled) k (omega arith) h in
+          let same = e ∙ filled-rest (made from) from k f (m .filled) k (omega arith) h in
           record {
-            filled = filled-more (made from) from k v f (a .filled) (let s = a .filled .size in omega arith) (is ∙ ap₂ make (a .kept) same);
+            filled = filled-more (made from) from k v f (m .filled) (let s = m .filled .size in omega arith) (is ∙ ap₂ make (m .kept) same);
             kept = same ∙ sym (shifted-suc from k) ∙ ap (shifted 1 from) (sym (add-one k));
             fits = fits;
           }
 
       pub multiplied-all : length from ≤ k → f ≡ tabulate (length from) (made from)
-      multiplied-all h = filled-all (made from) from k f (a .filled) (let s = a .filled .size in omega arith)
+      multiplied-all h = filled-all (made from) from k f (m .filled) (let s = m .filled .size in omega arith)
 
   -- the first n coefficients of f changed
   module _ (n : ℕ) (f : List ℕ) (room : n ≤ length f) where

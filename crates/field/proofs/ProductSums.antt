@@ -1,6 +1,6 @@
--- Sums of up to 129 products of residues modulo p up to 65521 fit 64 bits: each product, one more, all of them.
+-- Sums of up to 129 products of residues modulo p up to 65521 fit 64 bits.
 use mathlib.Core.Path.{_≡_}
-use Prim.Native.Nat.{ℕ, _+_, _*_, _≤_, _<_}
+use Prim.Native.Nat.{ℕ, _*_, _≤_, _<_}
 use native.Mathlib.Nat.{mul-le-mul, mul-le-mul-right}
 use native.Mathlib.Omega.{arith}
 
@@ -13,12 +13,8 @@ square-below small = mul-le-mul small small
 pub product-fits : {p x : ℕ} → p ≤ 65521 → x ≤ p * p → x < 18446744073709551616
 product-fits small le = omega (arith, square-below small)
 
--- i terms, and one more
-pub more-below : (p i : ℕ) {s x : ℕ} → s ≤ i * (p * p) → x ≤ p * p → s + x ≤ (i + 1) * (p * p)
-more-below p i hs hx = omega arith
-
-pub sum-below : (p : ℕ) {i s : ℕ} → i ≤ 129 → s ≤ i * (p * p) → s ≤ 129 * (p * p)
+pub sum-below : (p : ℕ) {n s : ℕ} → n ≤ 129 → s ≤ n * (p * p) → s ≤ 129 * (p * p)
 sum-below p few hs = omega (arith, mul-le-mul-right (p * p) few)
 
-pub sum-fits : {p i s x : ℕ} → p ≤ 65521 → i ≤ 128 → s ≤ i * (p * p) → x ≤ p * p → s + x < 18446744073709551616
-sum-fits {p} small few hs hx = omega (arith, square-below small, mul-le-mul-right (p * p) few)
+pub sum-fits : (p : ℕ) {n s : ℕ} → p ≤ 65521 → n ≤ 129 → s ≤ n * (p * p) → s < 18446744073709551616
+sum-fits p small few hs = omega (arith, square-below small, sum-below p few hs)

@@ -14,6 +14,7 @@ use Rattle.field.specs.Coefficients.{value}
 use Rattle.lists.specs.Total.{total}
 use Rattle.field.proofs.Remainders.{mod-mul-mod, mul-mod-mod}
 use Rattle.lists.proofs.Totals.{total-zero, total-suc}
+use Rattle.field257.specs.Evaluable.{cubicAt}
 use Rattle.field257.specs.Powers.{powerOf3}
 use Rattle.field257.proofs.Locators.{power-mod}
 use Rattle.field257.specs.Table.{table}
@@ -87,8 +88,7 @@ module _ (x : List ℕ) (j : ℕ) where
 
     -- four coefficients more
     more-four : (part r : ℕ) → i + 4 ≤ length x
-        → (let y = powerOf3 j in part ≡ getD x i 0 + y * (getD x (i + 1) 0 + y * (getD x (i + 2) 0 + y * getD x (i + 3) 0)))
-        → part ≤ 4398046511104 → r ≡ part * getD powers e 0 → Accumulated (i + 4) ((e + 4 * j) % 256) (t + r)
+        → part ≡ cubicAt x i (powerOf3 j) → part ≤ 4398046511104 → r ≡ part * getD powers e 0 → Accumulated (i + 4) ((e + 4 * j) % 256) (t + r)
     more-four part r h q small p = record {
       within = omega arith;
       place =
@@ -127,12 +127,12 @@ module _ (x : List ℕ) (j : ℕ) where
 
   -- blocks of four, one after the other
   pub more-block : (b e t : ℕ) → Accumulated (4 * b) e t → (powers : List ℕ) → powers ≡ table → (y part w : ℕ) → b < length x / 4 → y ≡ powerOf3 j
-      → part ≡ getD x (4 * b) 0 + y * (getD x (4 * b + 1) 0 + y * (getD x (4 * b + 2) 0 + y * getD x (4 * b + 3) 0))
+      → part ≡ cubicAt x (4 * b) y
       → part ≤ 4398046511104 → w ≡ getD powers e 0 → Accumulated (4 * (b + 1)) ((e + 4 * j) % 256) (t + part * w)
   more-block b e t a powers is y part w h point q small entry =
       subst (λ (i : ℕ). Accumulated i ((e + 4 * j) % 256) (t + part * w)) (omega arith)
       (more-four (4 * b) e t a powers is part (part * w) (omega arith)
-      (q ∙ ap (λ (z : ℕ). getD x (4 * b) 0 + z * (getD x (4 * b + 1) 0 + z * (getD x (4 * b + 2) 0 + z * getD x (4 * b + 3) 0))) point)
+      (q ∙ ap (cubicAt x (4 * b)) point)
       small (ap (λ (k : ℕ). part * k) entry))
 
   pub blocks-end : (b e t : ℕ) → Accumulated (4 * b) e t → length x / 4 ≤ b

@@ -1,8 +1,8 @@
 -- The locator polynomial of a set, built by one factor for each member in rising order, in a list of 65 coefficients.
 use mathlib.Core.Path.{_≡_, refl, sym, ap, ap₂, fun-ext, _∙_}
 use mathlib.Core.List.{List, [], _∷_, _++_, map}
-use Prim.Native.Nat.{ℕ, zero, suc, _+_, _-_, _%_, _≤_, _<_}
-use native.Mathlib.Nat.{mod-lt, mul-zero}
+use Prim.Native.Nat.{ℕ, zero, suc, _+_, _-_, _*_, _/_, _%_, _^_, _≤_, _<_}
+use native.Mathlib.Nat.{add-mul, add-mul-mod-self-right, div-add-mod', le-of-lt, mod-lt, mul-zero}
 use native.Mathlib.Decide.{decLt}
 use native.Mathlib.Numerals.{add-one}
 use native.Mathlib.Omega.{arith}
@@ -27,7 +27,7 @@ use Rattle.field257.specs.Powers.{locatorOf}
 use Rattle.field257.proofs.Field257.{symbols, R257, res257, res-tells, locatorAt}
 use Rattle.field257.proofs.LocatorPolynomial.{factor-entry, locator-coefficients}
 use Rattle.algebra.proofs.LocatorOrder.{locator-last}
-use Rattle.field.proofs.Multiplication.{made, shifted-suc, length-front, front-length, front-made, front-rest}
+use Rattle.field.proofs.Multiplication.{made, shifted-zero, shifted-suc, front-length, front-made, front-rest}
 
 length-reduced : (l : ℕ) (f : List ℕ) (x : ℕ) → length (reduced 257 l f x 1 f) ≡ suc l
 unfolding reduced
@@ -43,44 +43,40 @@ reduced-below l f x k = pick (decLt k (suc l))
     pick (no h) = rw (List·getD-eq-default (reduced 257 l f x 1 f) 0 {n = k} (let e = length-reduced l f x in omega arith)) (lit< tt)
 
 -- a coefficient of f times 1 − x·z, from the one below it and from itself
-abbrev pub lowered : (x below own : ℕ) → ℕ
-lowered x below own = minus 257 own (times 257 x below)
-
-pub all-lowered : (f : List ℕ) (x : ℕ) (y : List ℕ) → 0 < length f → y ≡ tabulate (length f) (made (lowered x) f)
-    → y ≡ reduced 257 (length f - 1) f x 1 f
-unfolding reduced
-all-lowered f x y some e = e ∙ ap (λ (n : ℕ). tabulate n (made (lowered x) f)) (let q : length f ≡ suc (length f - 1) = omega arith in q)
+lowered : (x below own : ℕ) → x ≤ 257 → ((257 - x) * below + 1 * own) % 257 ≡ minus 257 own (times 257 x below)
+lowered x below own le =
+    let r : ℕ = (x * below) % 257 in
+    let q : ℕ = (x * below) / 257 in
+    let whole = div-add-mod' (x * below) 257 in
+    let less : r < 257 = mod-lt (x * below) (lit< tt) in
+    let parts : (257 - x) * below + x * below ≡ 257 * below = sym (add-mul (257 - x) x below) ∙ ap (λ (n : ℕ). n * below) (omega arith) in
+    sym (add-mul-mod-self-right ((257 - x) * below + 1 * own) (q + 1) 257)
+    ∙ ap (λ (n : ℕ). n % 257) (let e : (257 - x) * below + 1 * own + (q + 1) * 257 ≡ own + (257 - r) + below * 257 = omega arith in e)
+    ∙ add-mul-mod-self-right (own + (257 - r)) below 257
 
 -- where f is 0 from n − 1 on, multiplying its first n coefficients multiplies all of them
-front-multiplied : (l n x : ℕ) (f y : List ℕ) → length f ≡ suc l → 0 < n → n ≤ suc l → ((k : ℕ) → n ≤ suc k → getD f k 0 ≡ 0)
-    → (let front = midOf 0 n f in y ≡ reduced 257 (length front - 1) front x 1 front) → putMid 0 n f y ≡ reduced 257 l f x 1 f
+front-multiplied : (l n x : ℕ) (f y : List ℕ) → length f ≡ suc l → n ≤ suc l → ((k : ℕ) → n ≤ suc k → getD f k 0 ≡ 0) → x ≤ 257
+    → (let front = midOf 0 n f in y ≡ tabulate (length front) (made 257 (257 - x) 1 front)) → putMid 0 n f y ≡ reduced 257 l f x 1 f
 unfolding reduced
-front-multiplied l n x f y size some room past e =
-    by-entries (suc l) (made make f) (putMid 0 n f y) (front-length make n f inside y is ∙ size) (λ k h. at k (decLt k n))
+front-multiplied l n x f y size room past le e =
+    by-entries (suc l) (λ k. minus 257 (getD f k 0) (times 257 x (shifted 1 f k))) (putMid 0 n f y)
+    (front-length 257 a 1 n f inside y e ∙ size) (λ k h. at k (decLt k n) ∙ lowered x (shifted 1 f k) (getD f k 0) le)
   where
-    make : ℕ → ℕ → ℕ
-    make = lowered x
+    a : ℕ
+    a = 257 - x
 
     inside : n ≤ length f
     inside = omega arith
 
-    is : y ≡ tabulate (length (midOf 0 n f)) (made make (midOf 0 n f))
-    is =
-        e ∙ ap (λ (j : ℕ). tabulate j (made make (midOf 0 n f)))
-        (let q = length-front make n f inside in let s : suc (length (midOf 0 n f) - 1) ≡ length (midOf 0 n f) = omega arith in s)
-
-    nothing : make 0 0 ≡ 0
-    nothing = ap (λ (z : ℕ). minus 257 0 (z % 257)) (mul-zero x)
-
     shifted-past : (k : ℕ) → n ≤ k → shifted 1 f k ≡ 0
-    shifted-past zero h = absurd (let z : ⊥ = omega arith in z)
+    shifted-past zero h = shifted-zero f
     shifted-past (suc k) h = shifted-suc f k ∙ past k h
 
-    at : (k : ℕ) → Dec (k < n) → getD (putMid 0 n f y) k 0 ≡ made make f k
-    at k (yes h) = front-made make n f inside y is k h
+    at : (k : ℕ) → Dec (k < n) → getD (putMid 0 n f y) k 0 ≡ made 257 a 1 f k
+    at k (yes h) = front-made 257 a 1 n f inside y e k h
     at k (no h) =
-        front-rest make n f inside y is k (omega arith) ∙ past k (omega arith)
-        ∙ sym (ap₂ make (shifted-past k (omega arith)) (past k (omega arith)) ∙ nothing)
+        front-rest 257 a 1 n f inside y e k (omega arith) ∙ past k (omega arith)
+        ∙ sym (ap₂ (λ (below own : ℕ). (a * below + 1 * own) % 257) (shifted-past k (omega arith)) (past k (omega arith)) ∙ rw (mul-zero a) refl)
 
 pub polynomial-below : (is : List ℕ) (k : ℕ) → getD (locatorPolynomial is) k 0 < 257
 unfolding locatorPolynomial
@@ -145,11 +141,12 @@ module _ (J : Columns) where
 
     -- a factor changes one coefficient more than there are
     pub building-more : (i e : ℕ) (y : List ℕ) → length (members J) ≤ 64 → d < length (members J) → getD (members J) d 0 ≡ i → e ≡ d + 2
-        → (let front = midOf 0 (e - 0) f in y ≡ reduced 257 (length front - 1) front (locatorOf i) 1 front)
+        → (let front = midOf 0 (e - 0) f in y ≡ tabulate (length front) (made 257 (257 - locatorOf i) 1 front))
         → Building (d + 1) (putMid 0 (e - 0) f y)
     building-more i e y le h here q m =
         grown i (putMid 0 (e - 0) f y) le h here
-        (front-multiplied 64 (e - 0) (locatorOf i) f y (b .size) (omega arith) (omega arith) (λ k l. past (omega arith) k (omega arith)) m)
+        (front-multiplied 64 (e - 0) (locatorOf i) f y (b .size) (omega arith) (λ k l. past (omega arith) k (omega arith))
+        (le-of-lt (mod-lt (3 ^ i) (lit< tt))) m)
 
     pub building-all : d ≡ length (members J) → (k : ℕ) → getD f k 0 ≡ getD (locatorPolynomial (members J)) k 0
     building-all e k =

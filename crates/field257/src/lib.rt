@@ -1,4 +1,5 @@
-// The field of 257: powers of 3, inverses, values of polynomials, locator polynomials.
+// The field of 257: powers of 3, inverses, values of polynomials, factors, locator polynomials.
+pub mod factor;
 pub mod inverses;
 pub mod locator;
 pub mod powers;

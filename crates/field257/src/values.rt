@@ -2,7 +2,7 @@
 ghost use mathlib.Core.Path.{_≡_};
 ghost use Prim.Native.Nat.{_+_, _*_, _/_, _%_, _^_, _≤_, _<_};
 ghost use lib.ListN.{length, getD};
-ghost use Rattle.field257.specs.Evaluable.{Evaluable};
+ghost use Rattle.field257.specs.Evaluable.{Evaluable, cubicAt};
 ghost use Rattle.field257.specs.Table.{table};
 ghost use Rattle.field.specs.Coefficients.{value};
 ghost use Rattle.lists.specs.Total.{total};
@@ -30,15 +30,15 @@ fn above(a: u16, y: u64, rest: u64) -> u64
     long(a) + y * rest
 }
 
-// The value at y of a polynomial of four coefficients, not reduced.
-fn cubic(a: u16, b: u16, c: u16, d: u16, y: u64) -> u64
-    requires { ⌜ y ≤ 256 ⌝ }
-    ensures equals { λ r. ⌜ r ≡ a + y * (b + y * (c + y * d)) ⌝ }
+// The value at y of the polynomial of the four coefficients from k on, not reduced.
+fn cubic(f: &[u16], k: usize, y: u64) -> u64
+    requires { ⌜ (k + 4 ≤ length (now f)) × (y ≤ 256) ⌝ }
+    ensures equals { λ r. ⌜ r ≡ cubicAt (now (f .entry)) k y ⌝ }
     ensures bounded { λ r. ⌜ r ≤ 4398046511104 ⌝ }
 {
-    let two = above(c, y, long(d));
-    let three = above(b, y, two);
-    above(a, y, three)
+    let two = above(f[k + 2], y, long(f[k + 3]));
+    let three = above(f[k + 1], y, two);
+    above(f[k], y, three)
 }
 
 // What the coefficients up to the last multiple of four add to the value at 3^step, not reduced: one power of 3 is looked up for
@@ -56,9 +56,7 @@ fn fours(powers: &[u16; 256], f: &[u16], step: usize) -> u64
     let mut place: usize = 0;
     let mut b = 0;
     while b < blocks {
-        let k = 4 * b;
-        let part = cubic(f[k], f[k + 1], f[k + 2], f[k + 3], y);
-        total += part * long(powers[place]);
+        total += cubic(f, 4 * b, y) * long(powers[place]);
         place = (place + 4 * step) % 256;
         b += 1;
     }

@@ -1,15 +1,16 @@
 -- The struct and the arrays before the first round hold the state that Algorithm 4 starts with.
-use mathlib.Core.Path.{_≡_, refl, sym, ap, subst, _∙_}
+use mathlib.Core.Path.{_≡_, refl, sym, ap, _∙_}
 use mathlib.Core.List.{List, [], _∷_}
 use Prim.Native.Nat.{ℕ, zero, suc, _+_, _-_, _*_, _^_, _%_, _≤_, _<_}
-use native.Mathlib.Nat.{not-suc-le-zero, mod-eq-of-lt, pow-zero, pow-suc, mul-one}
+use native.Mathlib.Nat.{mod-eq-of-lt, pow-zero, pow-suc, mul-one}
 use native.Mathlib.Omega.{arith}
-use borrow.Author.Count.{below-more}
 use lib.ListN.{length, getD, take, drop, set, replicate, length-take, length-drop, length-set, length-replicate, getD-replicate}
-use lib.Seq.{getD-set-same, getD-set-other, take-suc}
+use lib.Seq.{getD-set-other, take-suc}
 use Rattle.field.specs.Residue.{inverse}
 use Rattle.lists.proofs.Entries.{getD-part}
+use Rattle.lists.proofs.Filling.{Filled, filled-entry}
 use Rattle.lists.proofs.Joined.{replicate-each}
+use Rattle.lists.proofs.Zeros.{zeros}
 use Rattle.register.specs.Algorithm4.{start}
 use Rattle.sequences.specs.Places.{sequencesAt}
 use Rattle.register_step.specs.Progress.{block, stateOf}
@@ -22,42 +23,23 @@ use Rattle.finder.proofs.Running.{sequence-at}
 
 -- ---- the struct
 
-pub none-set : (N : ℕ) (o : Order)
-    → Started N o 0 (record { length = 0; places = replicate 8 0; sizes = replicate 8 0; discs = replicate 8 1; inverses = replicate 8 1 })
-none-set N o =
-    record {
-      length = refl;
-      place = λ h b. absurd (not-suc-le-zero b);
-      size = λ h b. getD-replicate 8 h 0 0 b;
-      disc = λ h b. getD-replicate 8 h 1 0 b;
-      inverse = λ h b. getD-replicate 8 h 1 0 b;
-    }
+-- the places of h sequences are set
+pub record Placing (N : ℕ) (o : Order) (h : ℕ) (g : Progress) : Type 0 where
+  pub places : Filled (λ k. N - getD (o .lengths) k 0) (zeros 8) h (g .places)
+  pub length : g .length ≡ 0
+  pub sizes : g .sizes ≡ replicate 8 0
+  pub discs : g .discs ≡ replicate 8 1
+  pub inverses : g .inverses ≡ replicate 8 1
 
--- the struct with the place of sequence h set
-abbrev pub placing : (N : ℕ) → Order → ℕ → Progress → Progress
-placing N o h g =
+pub all-placed : (N : ℕ) (o : Order) (h k : ℕ) (g : Progress) → Placing N o h g → k ≤ h → Started N o k g
+all-placed N o h k g a le =
     record {
-      length = g .length;
-      places = set (g .places) h (N - getD (o .lengths) h 0);
-      sizes = g .sizes;
-      discs = g .discs;
-      inverses = g .inverses;
+      length = a .length;
+      place = λ i b. filled-entry _ _ _ _ (a .places) i (omega arith);
+      size = λ i b. rw (a .sizes) (getD-replicate 8 i 0 0 b);
+      disc = λ i b. rw (a .discs) (getD-replicate 8 i 1 0 b);
+      inverse = λ i b. rw (a .inverses) (getD-replicate 8 i 1 0 b);
     }
-
-pub one-set : {N : ℕ} {o : Order} {h : ℕ} {g : Progress} → Started N o h g → length (g .places) ≡ 8 → h < 8 → Started N o (h + 1) (placing N o h g)
-one-set {N} {o} {h} {g} s room b =
-    record {
-      length = s .length;
-      place = below-more _ h
-          (λ k less. getD-set-other (g .places) h k (N - getD (o .lengths) h 0) 0 (λ e. omega (arith, e)) ∙ s .place k less)
-          (getD-set-same (g .places) h (N - getD (o .lengths) h 0) 0 (omega arith));
-      size = s .size;
-      disc = s .disc;
-      inverse = s .inverse;
-    }
-
-pub all-set : (h k : ℕ) {N : ℕ} {o : Order} {g : Progress} → h ≡ k → Started N o h g → Started N o k g
-all-set h k {N} {o} {g} all = subst (λ (m : ℕ). Started N o m g) all
 
 -- ---- the arrays
 

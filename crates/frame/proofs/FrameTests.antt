@@ -86,11 +86,3 @@ pub row-tested : (s : Shape) (f : List ℕ) (h count : ℕ) (r : Bool) → RowPl
 row-tested s f h count r place e t =
     ap (λ (c : ℕ). every (s .columns) (λ i. ltb i c || ltb (cell (s .columns) f h i) 257)) (sym e)
     ∙ row-data (s .columns) f h count (place .inside) (let l = place .checks .below in omega arith) ∙ sym t
-
-pub data-fails : (s : Shape) (f : List ℕ) (h : ℕ) → h < s .rows → rowTest s f h ≡ false → dataBelow s f ≡ false
-unfolding dataBelow
-data-fails s f h l e = every-fails (s .rows) (rowTest s f) h l e
-
-pub data-passes : (s : Shape) (f : List ℕ) → ((h : ℕ) → h < s .rows → rowTest s f h ≡ true) → dataBelow s f ≡ true
-unfolding dataBelow
-data-passes s f e = every-of (s .rows) (rowTest s f) e

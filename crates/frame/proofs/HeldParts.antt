@@ -1,5 +1,4 @@
 -- The check sums of a row among those that are held.
-use mathlib.Core.Path.{_≡_, ap, _∙_}
 use mathlib.Core.List.{List}
 use Prim.Native.Nat.{ℕ, _+_, _≤_, _<_}
 use native.Mathlib.Decide.{decLt}
@@ -7,19 +6,13 @@ use native.Mathlib.Omega.{arith}
 use lib.Dec.{lit<}
 use lib.ListN.{getD, take, drop}
 use borrow.Rule.Slice.PartMut.{midOf}
-use Rattle.frame.specs.Frame.{checkSums, heldSums, row, rowSums, sumsBefore}
+use Rattle.frame.specs.Frame.{sumsBefore}
 use Rattle.frame.specs.Shape.{checksOf}
 use Rattle.frame.specs.declared.Shape.{Shape}
-use Rattle.frame.proofs.HeldSums.{held-row}
 use Rattle.lists.proofs.Entries.{getD-part, getD-take-past}
 
 abbrev pub partOf : Shape → (sums : List ℕ) (h : ℕ) → List ℕ
 partOf s sums h = take (checksOf s h) (drop (sumsBefore s h) sums)
-
-pub part-sums : (s : Shape) (sums f : List ℕ) → sums ≡ heldSums s f → (h : ℕ) → h < s .rows
-    → partOf s sums h ≡ checkSums (s .columns) (checksOf s h) (row (s .columns) f h)
-unfolding rowSums
-part-sums s sums f held h r = ap (λ (z : List ℕ). partOf s z h) held ∙ held-row s f h r
 
 pub part-below : (sums : List ℕ) → ((k : ℕ) → getD sums k 0 < 257) → (a n k : ℕ) → getD (midOf a n sums) k 0 < 257
 part-below sums small a n k = pick (decLt k n)

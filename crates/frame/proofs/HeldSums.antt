@@ -50,6 +50,10 @@ held-below s f k =
 
 -- ---- the sequences of held sums
 
+pub length-sequences : (s : Shape) (f : List ℕ) → length (sequences s f) ≡ s .rows
+unfolding sequences
+length-sequences s f = length-tabulate (s .rows) _
+
 pub sums-before : (s : Shape) (f : List ℕ) (h : ℕ) → length (joined (tabulate h (rowSums s f))) ≡ sumsBefore s h
 sums-before s f zero = ap length (joined-zero (rowSums s f)) ∙ sym (total-zero (checksOf s))
 sums-before s f (suc h) =

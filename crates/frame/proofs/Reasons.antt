@@ -9,7 +9,7 @@ use native.Mathlib.Decide.{decLt}
 use native.Mathlib.Omega.{arith}
 use lib.Dec.{leb, ltb, eqb}
 use lib.ListN.{length, getD, List·getD-append}
-use borrow.Author.Tests.{ltb-true, ltb-false, leb-true, eqb-true, eqb-false, lt-ltb, le-ltb, le-leb, eq-eqb}
+use borrow.Author.Tests.{ltb-true, ltb-false, leb-true, eqb-true, eqb-false, lt-ltb, le-ltb, eq-eqb}
 use Rattle.lists.specs.Tabulate.{every}
 use Rattle.lists.proofs.Tabulated.{every-at, every-of, every-witness, every-ext}
 use Rattle.refusal.proofs.Orders.{Pass, no-fail, Says, SayAll, says-not}
@@ -19,14 +19,10 @@ use Rattle.frame.specs.Encode.{encodeTests, dataBelow}
 use Rattle.frame.specs.Frame.{cell, WellFormed, frameTests}
 use Rattle.frame.specs.Shape.{checksOf, shapeOf, shapeTests, isShape, rowsInRange, columnsInRange, checksInRange}
 use Rattle.frame.specs.declared.Shape.{Shape}
+use Rattle.frame.proofs.ShapeTests.{countTest, count-taken}
 
--- a check count k is in range for n columns
-inRange : (n k : ℕ) → Bool
-inRange n k = leb 1 k && (leb k 64 && ltb k n)
-
-in-range : (n k : ℕ) → inRange n k ≡ true → BadChecks n k → ⊥
-unfolding inRange
-in-range n k e = off (leb-true 1 k (a .0)) (leb-true k 64 (b .0)) (ltb-true k n (b .1))
+good-count : (n k : ℕ) → countTest n k ≡ true → BadChecks n k → ⊥
+good-count n k e = off (leb-true 1 k (a .0)) (leb-true k 64 (b .0)) (ltb-true k n (b .1))
   where
     a : (leb 1 k ≡ true) × ((leb k 64 && ltb k n) ≡ true)
     a = and-eq-true-iff (leb 1 k) (leb k 64 && ltb k n) .0 e
@@ -39,28 +35,27 @@ in-range n k e = off (leb-true 1 k (a .0)) (leb-true k 64 (b .0)) (ltb-true k n 
     off l m h (inr (inl x)) = omega arith
     off l m h (inr (inr x)) = omega arith
 
-out-of-range : (n k : ℕ) → inRange n k ≡ false → BadChecks n k
-unfolding inRange
-out-of-range n k e = pick (decLt k 1) (decLt 64 k) (decLt k n)
+bad-count : (n k : ℕ) → countTest n k ≡ false → BadChecks n k
+bad-count n k e = pick (decLt k 1) (decLt 64 k) (decLt k n)
   where
     pick : Dec (k < 1) → Dec (64 < k) → Dec (k < n) → BadChecks n k
     pick (yes a) b c = inl a
     pick (no a) (yes b) c = inr (inl b)
     pick (no a) (no b) (no c) = inr (inr (omega arith))
     pick (no a) (no b) (yes c) =
-        absurd (false≢true (sym e ∙ ap₂ _&&_ (le-leb 1 k (omega arith)) (ap₂ _&&_ (le-leb k 64 (omega arith)) (lt-ltb k n c))))
+        absurd (false≢true (sym e ∙ count-taken n k (omega arith) (omega arith) c))
 
 pub shape-says : (n : ℕ) (checks : List ℕ) → SayAll (shapeTests n checks) (shapeReasons n checks)
-unfolding shapeTests rowsInRange columnsInRange checksInRange inRange
+unfolding shapeTests rowsInRange columnsInRange checksInRange
 shape-says n checks = (
   outside-says 2 1 8 (length checks),
   (
     outside-says 5 2 256 n,
     (
-      says-not 6 (every (length checks) (λ h. inRange n (getD checks h 0)))
+      says-not 6 (every (length checks) (λ h. countTest n (getD checks h 0)))
           ((h : ℕ) × (h < length checks) × BadChecks n (getD checks h 0))
-          (λ e (h, l, b). in-range n (getD checks h 0) (every-at (length checks) _ e h l) b)
-          (λ e. let (h, l, b) = every-witness (length checks) _ e in (h, l, out-of-range n (getD checks h 0) b)),
+          (λ e (h, l, b). good-count n (getD checks h 0) (every-at (length checks) _ e h l) b)
+          (λ e. let (h, l, b) = every-witness (length checks) _ e in (h, l, bad-count n (getD checks h 0) b)),
       tt,
     ),
   ),
@@ -113,11 +108,11 @@ frame-says s f = (
 -- ---- where the tests pass
 
 pub shape-passes : (n : ℕ) (checks : List ℕ) → Pass (shapeTests n checks) → isShape (shapeOf n checks) ≡ true
-unfolding shapeTests isShape shapeOf checksInRange inRange
+unfolding shapeTests isShape shapeOf checksInRange
 shape-passes n checks (r, (c, (k, u))) =
     ap₂ _&&_ (no-fail (rowsInRange (length checks)) r)
     (ap₂ _&&_ (no-fail (columnsInRange n) c)
-    (every-ext (length checks) _ (λ h. inRange n (getD checks h 0)) (λ h l. ap (inRange n) (List·getD-append checks _ 0 h l)) ∙ no-fail _ k))
+    (every-ext (length checks) _ (λ h. countTest n (getD checks h 0)) (λ h l. ap (countTest n) (List·getD-append checks _ 0 h l)) ∙ no-fail _ k))
 
 pub frame-passes : (s : Shape) (f : List ℕ) → Pass (frameTests s f) → WellFormed s f
 unfolding frameTests

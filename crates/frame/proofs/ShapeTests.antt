@@ -1,60 +1,16 @@
 -- The tests of a shape as the code makes them, one comparison after the other.
 use mathlib.Core.Path.{_≡_, sym, ap, ap₂, _∙_}
-use mathlib.Core.Bool.{Bool, true, false, not, cond, _&&_, and-eq-true-iff, and-false}
-use mathlib.Core.List.{List, _++_}
-use Prim.Native.Nat.{ℕ, _+_, _-_, _≤_, _<_}
-use native.Mathlib.Omega.{arith}
+use mathlib.Core.Bool.{Bool, true, false, not, cond, _&&_, and-false}
+use mathlib.Core.List.{List}
+use Prim.Native.Nat.{ℕ, _-_, _≤_, _<_}
 use lib.Dec.{leb, ltb}
-use lib.ListN.{length, getD, drop}
-use lib.Seq.{take-length}
-use borrow.Author.Tests.{le-leb, lt-leb, lt-ltb, le-ltb, leb-true}
+use lib.ListN.{length, getD}
+use borrow.Author.Tests.{le-leb, lt-leb, lt-ltb, le-ltb}
 use Rattle.frame.specs.Shape.{checksInRange, columnsInRange, isShape, rowsInRange, shapeOf, shapeTests}
 use Rattle.frame.specs.declared.Shape.{Shape}
-use Rattle.lists.proofs.Copy.{copied}
-use Rattle.lists.proofs.Zeros.{zeros, drop-zeros}
-use Rattle.lists.proofs.Tabulated.{every-of, every-fails}
+use Rattle.lists.proofs.Filling.{by-entries}
+use Rattle.lists.proofs.Padded.{padded-entry, padded-length}
 use Rattle.refusal.specs.Outcome.{Outcome, passed, refused, outcome}
-
--- ---- rows and columns
-
-module _ (lo hi k : ℕ) where
-  below-range : k < lo → (leb lo k && leb k hi) ≡ false
-  below-range h = ap (λ (b : Bool). b && leb k hi) (lt-leb lo k h)
-
-  above-range : hi < k → (leb lo k && leb k hi) ≡ false
-  above-range h = ap (λ (b : Bool). leb lo k && b) (lt-leb k hi h) ∙ and-false (leb lo k)
-
-  in-range : lo ≤ k → k ≤ hi → (leb lo k && leb k hi) ≡ true
-  in-range a b = ap₂ _&&_ (le-leb lo k a) (le-leb k hi b)
-
-module _ (k : ℕ) where
-  pub no-row : k < 1 → rowsInRange k ≡ false
-  unfolding rowsInRange
-  no-row = below-range 1 8 k
-
-  pub many-rows : 8 < k → rowsInRange k ≡ false
-  unfolding rowsInRange
-  many-rows = above-range 1 8 k
-
-  pub rows-taken : 1 ≤ k → k ≤ 8 → rowsInRange k ≡ true
-  unfolding rowsInRange
-  rows-taken = in-range 1 8 k
-
-  pub few-rows : rowsInRange k ≡ true → k ≤ 8
-  unfolding rowsInRange
-  few-rows e = leb-true k 8 (and-eq-true-iff (leb 1 k) (leb k 8) .0 e .1)
-
-  pub few-columns : k < 2 → columnsInRange k ≡ false
-  unfolding columnsInRange
-  few-columns = below-range 2 256 k
-
-  pub many-columns : 256 < k → columnsInRange k ≡ false
-  unfolding columnsInRange
-  many-columns = above-range 2 256 k
-
-  pub columns-taken : 2 ≤ k → k ≤ 256 → columnsInRange k ≡ true
-  unfolding columnsInRange
-  columns-taken = in-range 2 256 k
 
 -- ---- check counts
 
@@ -76,24 +32,12 @@ module _ (n k : ℕ) where
   pub count-taken : 1 ≤ k → k ≤ 64 → k < n → countTest n k ≡ true
   count-taken a b c = ap₂ _&&_ (le-leb 1 k a) (ap₂ _&&_ (le-leb k 64 b) (lt-ltb k n c))
 
-module _ (n rows : ℕ) (checks : List ℕ) where
-  pub checks-fail : (h : ℕ) → h < rows → countTest n (getD checks h 0) ≡ false → checksInRange n rows checks ≡ false
-  unfolding checksInRange
-  checks-fail h l e = every-fails rows (λ h. countTest n (getD checks h 0)) h l e
-
-  pub checks-pass : ((h : ℕ) → h < rows → countTest n (getD checks h 0) ≡ true) → checksInRange n rows checks ≡ true
-  unfolding checksInRange
-  checks-pass e = every-of rows (λ h. countTest n (getD checks h 0)) e
-
-pub shape-held : (n : ℕ) (checks held : List ℕ) → length checks ≤ 8 → held ≡ copied (zeros 8) checks (length checks)
+pub shape-held : (n : ℕ) (checks held : List ℕ) → length checks ≤ 8 → ((k : ℕ) → getD held k 0 ≡ getD checks k 0) → length held ≡ 8
     → _≡_ {A = Shape} (record { rows = length checks; columns = n; checks = held }) (shapeOf n checks)
 unfolding shapeOf
-shape-held n checks held few e =
+shape-held n checks held few e size =
     let shape : List ℕ → Shape = λ l. record { rows = length checks; columns = n; checks = l } in
-    ap shape
-    (e ∙ ap₂ _++_ (take-length checks)
-    (ap (λ (m : ℕ). drop (length checks) (zeros m)) (let q : 8 ≡ length checks + (8 - length checks) = omega arith in q)
-    ∙ drop-zeros (length checks) (8 - length checks)))
+    ap shape (by-entries 8 _ held size (λ k l. e k) ∙ sym (by-entries 8 _ _ (padded-length checks 8 few) (λ k l. padded-entry checks (8 - length checks) k)))
 
 -- ---- the outcome
 

@@ -8,7 +8,7 @@ use Prim.Native.Nat.{ℕ, _≤_, _<_}
 use native.Mathlib.Omega.{arith}
 use borrow.Author.Tests.{le-leb}
 use Rattle.decoding.specs.Locating.{sizeOf, tapsOf, aloneOf, rowsReach, namesAll, namedColumns, repaired}
-use Rattle.decoding.proofs.FrameRegister.{register-of-frame, frame-taps, same-size, alone-marked}
+use Rattle.decoding.proofs.SequenceRegister.{register-of, length-taps, same-size, alone-marked}
 use Rattle.decoding.proofs.SoleNearest.{legal-at-size, mended-legal, mended-distance, mended-differing}
 use Rattle.frame.specs.Frame.{WellFormed, sequences, heldSums, heldSequences, frameTests}
 use Rattle.frame.specs.Shape.{isShape, checksOf}
@@ -72,15 +72,15 @@ module _ (j : Job) (f : List ℕ) (not-empty : isEmpty j ≡ false) where
       → ((h : ℕ) → h < s .rows → c ≤ checksOf s h) → IsRefused (step j (locate f)) ↔ (LegalAt s f c → ⊥)
   unfolding rowsReach
   exact-at c σ w shortest alone checks =
-      let q : c ≡ sizeOf (sequences s f) = same-size s f t c σ shortest in
+      let q : c ≡ sizeOf (sequences s f) = same-size (sequences s f) c σ shortest in
       subst (λ (l : ℕ). IsRefused (step j (locate f)) ↔ (LegalAt s f l → ⊥)) (sym q)
-      (exact-at-size w (alone-marked s f t c σ shortest alone)
+      (exact-at-size w (alone-marked (sequences s f) c σ shortest alone)
       (every-of (s .rows) _ (λ h l. le-leb (sizeOf (sequences s f)) (checksOf s h) (omega (arith, checks h l)))))
 
   -- what is found
   located-found : Locates s f → Found s f (sizeOf (sequences s f)) (locatesFrame s (j .arrays) f)
   located-found l =
-      let r = register-of-frame s f t in
+      let r = register-of (sequences s f) in
       record {
         taps = tapsOf (sequences s f);
         shortest = r .shortest;
@@ -98,7 +98,7 @@ module _ (j : Job) (f : List ℕ) (not-empty : isEmpty j ≡ false) where
           shape = refl;
           columns = refl;
           sums = sums-held s f t;
-          taps = taps-held s (sizeOf (sequences s f)) (tapsOf (sequences s f)) t (l .reach) (frame-taps s f t);
+          taps = taps-held s (sizeOf (sequences s f)) (tapsOf (sequences s f)) t (l .reach) (length-taps (sequences s f));
         };
       }
 

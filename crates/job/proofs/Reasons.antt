@@ -9,7 +9,7 @@ use native.Mathlib.Omega.{arith}
 use lib.Dec.{leb}
 use borrow.Author.Tests.{leb-true, leb-false, eqb-true, eqb-false}
 use Rattle.decoding.specs.Locating.{sizeOf, tapsOf, aloneOf, rowsReach, namesAll}
-use Rattle.decoding.proofs.FrameRegister.{register-of-frame, same-size, not-alone}
+use Rattle.decoding.proofs.SequenceRegister.{register-of, same-size, not-alone}
 use Rattle.decoding.proofs.SoleNearest.{legal-at-size}
 use Rattle.frame.specs.Demands.{frameReasons}
 use Rattle.frame.specs.Frame.{WellFormed, sequences, heldSums, frameTests}
@@ -55,7 +55,7 @@ sums-say j f =
 
 module _ (s : Shape) (f : List ℕ) (t : isShape s ≡ true) where
   register : IsShortest 257 (sizeOf (sequences s f)) (sequences s f) (tapsOf (sequences s f)) (aloneOf (sequences s f))
-  register = register-of-frame s f t
+  register = register-of (sequences s f)
 
   -- where it is alone, a register of the shortest length is the one found
   the-one : aloneOf (sequences s f) ≡ true → (c : ℕ) (τ : List ℕ) → c ≡ sizeOf (sequences s f) → Generator 257 c (sequences s f) τ → τ ≡ tapsOf (sequences s f)
@@ -64,8 +64,8 @@ module _ (s : Shape) (f : List ℕ) (t : isShape s ≡ true) where
   not-alone-says : Says (record { number = 24; fails = not (aloneOf (sequences s f)) }) (notAloneReason s f)
   not-alone-says =
       says-not 24 (aloneOf (sequences s f)) _
-      (λ e (c, σ, τ, h, g, n). let q = same-size s f t c σ h in n (the-one e c τ q g ∙ sym (the-one e c σ q (h .generator))))
-      (λ e. let (τ, g, n) = not-alone s f t .0 e in (sizeOf (sequences s f), tapsOf (sequences s f), τ, register .shortest, g, n))
+      (λ e (c, σ, τ, h, g, n). let q = same-size (sequences s f) c σ h in n (the-one e c τ q g ∙ sym (the-one e c σ q (h .generator))))
+      (λ e. let (τ, g, n) = not-alone (sequences s f) .0 e in (sizeOf (sequences s f), tapsOf (sequences s f), τ, register .shortest, g, n))
 
   short-row-says : aloneOf (sequences s f) ≡ true
       → Says (record { number = 25; fails = not (rowsReach s (sizeOf (sequences s f))) }) (shortRowReason s f)
@@ -73,7 +73,7 @@ module _ (s : Shape) (f : List ℕ) (t : isShape s ≡ true) where
   short-row-says e =
       says-not 25 (rowsReach s (sizeOf (sequences s f))) _
       (λ r (c, σ, h, m, a, b, l).
-      let q = same-size s f t c σ m in
+      let q = same-size (sequences s f) c σ m in
       let d : sizeOf (sequences s f) ≤ checksOf s h = leb-true _ _ (every-at (s .rows) _ r h b) in
       omega (arith, l))
       (λ r.
@@ -85,7 +85,7 @@ module _ (s : Shape) (f : List ℕ) (t : isShape s ≡ true) where
   no-frame-says w e =
       let exact = legal-at-size s t f w e in
       says-not 26 (namesAll s (tapsOf (sequences s f)) (sizeOf (sequences s f))) _
-      (λ a (c, σ, m, n). n (subst (LegalAt s f) (sym (same-size s f t c σ m)) (exact .0 a)))
+      (λ a (c, σ, m, n). n (subst (LegalAt s f) (sym (same-size (sequences s f) c σ m)) (exact .0 a)))
       (λ a. (sizeOf (sequences s f), tapsOf (sequences s f), register .shortest, λ l. false≢true (sym a ∙ exact .1 l)))
 
   -- each where the reasons before it do not hold

@@ -1,15 +1,16 @@
--- Lists by index, changed one entry after the other: setting an entry, and filling a list from its front.
+-- Lists by index, changed one entry after the other: setting an entry, and filling a list, from its front or from a later place.
 use mathlib.Core.Path.{_≡_, refl, sym, ap, _∙_}
 use mathlib.Core.Logic.{_≢_}
-use mathlib.Core.Bool.{Bool, cond}
+use mathlib.Core.Bool.{Bool, true, false, cond}
 use mathlib.Core.List.{List}
-use Prim.Native.Nat.{ℕ, _+_, _≤_, _<_}
+use Prim.Native.Nat.{ℕ, _+_, _≤_, _<_, zero-le}
 use native.Mathlib.Decide.{decLt, ℕ-discrete}
 use native.Mathlib.Omega.{arith}
 use borrow.Author.Tests.{lt-ltb, le-ltb}
 use lib.Dec.{ltb}
-use lib.ListN.{length, getD, set, take, length-set}
+use lib.ListN.{length, getD, set, take, length-set, List·getD-eq-default}
 use lib.Seq.{length-take-le, getD-take, getD-set-same, getD-set-other}
+use Rattle.lists.proofs.Zeros.{zeros, zeros-entry}
 use Rattle.lists.proofs.Tabulated.{length-tabulate, getD-tabulate, tabulate-ext, tabulate-getD}
 use Rattle.lists.specs.Tabulate.{tabulate}
 
@@ -56,13 +57,20 @@ module _ (f : ℕ → ℕ) (from : List ℕ) where
   abbrev chosen : ℕ → Bool → ℕ
   chosen k b = cond b (f k) (getD from k 0)
 
-  pub filled-none : Filled f from 0 from
-  filled-none = record {
-    within = omega arith;
+  -- filling may begin where the entries before are f's already
+  pub filled-from : (j : ℕ) → j ≤ length from → ((k : ℕ) → k < j → f k ≡ getD from k 0) → Filled f from j from
+  filled-from j le before = record {
+    within = le;
     size = refl;
-    entries =
-        by-entries (length from) (λ k. chosen k (ltb k 0)) from refl (λ k h. ap (chosen k) (sym (le-ltb k 0 (omega arith))));
+    entries = by-entries (length from) (λ k. chosen k (ltb k j)) from refl (λ k h. at k (decLt k j));
   }
+    where
+      at : (k : ℕ) → Dec (k < j) → getD from k 0 ≡ chosen k (ltb k j)
+      at k (yes l) = sym (before k l) ∙ ap (chosen k) (sym (lt-ltb k j l))
+      at k (no l) = ap (chosen k) (sym (le-ltb k j (omega arith)))
+
+  pub filled-none : Filled f from 0 from
+  filled-none = filled-from 0 zero-le (λ k l. absurd (let z : ⊥ = omega arith in z))
 
   pub filled-more : (j v : ℕ) (l : List ℕ) → Filled f from j l → j < length l → v ≡ f j → Filled f from (j + 1) (set l j v)
   filled-more j v l a less e = record {
@@ -74,14 +82,26 @@ module _ (f : ℕ → ℕ) (from : List ℕ) where
         (e ∙ ap (chosen j) (sym (lt-ltb j (j + 1) (omega arith)))) (λ k h q. ap (chosen k) (ltb-next k j q));
   }
 
-  -- what filling has not come to is as it was
-  pub filled-rest : (j : ℕ) (l : List ℕ) → Filled f from j l → (k : ℕ) → j ≤ k → k < length from → getD l k 0 ≡ getD from k 0
-  filled-rest j l a k le less =
-      ap (λ (m : List ℕ). getD m k 0) (a .entries) ∙ getD-tabulate (length from) (λ k. chosen k (ltb k j)) k 0 less
-      ∙ ap (chosen k) (le-ltb k j le)
+  module _ (j : ℕ) (l : List ℕ) (a : Filled f from j l) where
+    entry : (k : ℕ) → k < length from → (b : Bool) → ltb k j ≡ b → getD l k 0 ≡ chosen k b
+    entry k less b t =
+        ap (λ (m : List ℕ). getD m k 0) (a .entries) ∙ getD-tabulate (length from) (λ k. chosen k (ltb k j)) k 0 less ∙ ap (chosen k) t
 
-  pub filled-all : (j : ℕ) (l : List ℕ) → Filled f from j l → length l ≤ j → l ≡ tabulate (length from) f
-  filled-all j l a le =
-      a .entries
-      ∙ tabulate-ext (length from) (λ k. chosen k (ltb k j)) f
-      (λ k h. ap (chosen k) (lt-ltb k j (let s = a .size in omega arith)))
+    pub filled-entry : (k : ℕ) → k < j → getD l k 0 ≡ f k
+    filled-entry k less = entry k (let w = a .within in omega arith) true (lt-ltb k j less)
+
+    -- what filling has not come to is as it was
+    pub filled-rest : (k : ℕ) → j ≤ k → k < length from → getD l k 0 ≡ getD from k 0
+    filled-rest k le less = entry k less false (le-ltb k j le)
+
+    pub filled-all : length l ≤ j → l ≡ tabulate (length from) f
+    filled-all le = by-entries (length from) f l (a .size) (λ k h. filled-entry k (let s = a .size in omega arith))
+
+-- zeros that are filled up to where f is 0 from there on hold what f says, past the end too
+pub filled-zeros : (f : ℕ → ℕ) (n j : ℕ) (l : List ℕ) → Filled f (zeros n) j l → ((k : ℕ) → j ≤ k → f k ≡ 0) → (k : ℕ) → getD l k 0 ≡ f k
+filled-zeros f n j l a past k = pick (decLt k j) (decLt k (length (zeros n)))
+  where
+    pick : Dec (k < j) → Dec (k < length (zeros n)) → getD l k 0 ≡ f k
+    pick (yes h) d = filled-entry f (zeros n) j l a k h
+    pick (no h) (yes d) = filled-rest f (zeros n) j l a k (omega arith) d ∙ zeros-entry n k ∙ sym (past k (omega arith))
+    pick (no h) (no d) = List·getD-eq-default l 0 (let s = a .size in omega arith) ∙ sym (past k (omega arith))

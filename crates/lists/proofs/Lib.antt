@@ -1,13 +1,12 @@
 pub mod BlockSums
-pub mod Copy
 pub mod DataCells
 pub mod Entries
 pub mod Filling
 pub mod Joined
 pub mod Moving
 pub mod Padded
-pub mod Padding
 pub mod Parts
+pub mod Summing
 pub mod Tabulated
 pub mod Testing
 pub mod Totals

@@ -2,10 +2,9 @@
 use mathlib.Core.Path.{_≡_, refl, sym, ap, ap₂, subst, _∙_}
 use mathlib.Core.Bool.{Bool, true, false, _&&_, and-eq-true-iff, false≢true}
 use mathlib.Core.List.{List, [], _∷_, _++_}
-use Prim.Native.Nat.{ℕ, zero, suc, _+_, _≤_, _<_}
+use Prim.Native.Nat.{ℕ, zero, suc, _≤_, _<_}
 use native.Mathlib.Decide.{decLt}
 use native.Mathlib.Nat.{le-of-suc-le-suc, le-step, lt-suc-self, not-suc-le-zero}
-use native.Mathlib.Numerals.{add-one}
 use native.Mathlib.Omega.{arith}
 use lib.ListN.{length, getD, List·getD-eq-default}
 use Rattle.lists.specs.Tabulate.{tabulate, every}
@@ -73,14 +72,6 @@ pub every-of : (n : ℕ) (f : ℕ → Bool) → ((k : ℕ) → k < n → f k ≡
 every-of zero f h = every-zero f
 every-of (suc n) f h =
     every-suc n f ∙ and-eq-true-iff (every n f) (f n) .1 (every-of n f (λ k b. h k (le-step b)), h n (lt-suc-self n))
-
--- one more number that passes, as a loop counts it
-pub every-more : (n : ℕ) (f : ℕ → Bool) → every n f ≡ true → f n ≡ true → every (n + 1) f ≡ true
-every-more n f e t = ap (λ (m : ℕ). every m f) (add-one n) ∙ every-suc n f ∙ ap₂ _&&_ e t
-
--- the test at all numbers, once the loop has come to the end
-pub every-all : {n m : ℕ} (f : ℕ → Bool) → every n f ≡ true → n ≡ m → true ≡ every m f
-every-all f e h = sym e ∙ rw h
 
 -- a number below n at which it fails decides it
 pub every-fails : (n : ℕ) (f : ℕ → Bool) (k : ℕ) → k < n → f k ≡ false → every n f ≡ false

@@ -1,4 +1,5 @@
--- A test of all of n entries, entry after entry, with no way out at the first that fails: whether those tested so far have passed.
+-- A test of all of n entries, entry after entry: whether those tested so far have passed. A loop that is left at the first that fails has tested so far with
+-- the answer true.
 use mathlib.Core.Path.{_≡_, sym, ap, _∙_}
 use mathlib.Core.Bool.{Bool, true, false, _&&_, and-true, and-false}
 use Prim.Native.Nat.{ℕ, _+_, _≤_, _<_, zero-le}
@@ -6,7 +7,7 @@ use native.Mathlib.Nat.{le-antisymm}
 use native.Mathlib.Numerals.{add-one}
 use native.Mathlib.Omega.{arith}
 use Rattle.lists.specs.Tabulate.{every}
-use Rattle.lists.proofs.Tabulated.{every-zero, every-suc}
+use Rattle.lists.proofs.Tabulated.{every-zero, every-suc, every-fails}
 
 module _ (n : ℕ) (test : ℕ → Bool) where
   pub record Tested (k : ℕ) (all : Bool) : Type 0 where
@@ -15,6 +16,10 @@ module _ (n : ℕ) (test : ℕ → Bool) where
 
   pub tested-none : Tested 0 true
   tested-none = record { within = zero-le; so-far = sym (every-zero test) }
+
+  -- one that fails decides it
+  pub tested-out : (k : ℕ) → k < n → test k ≡ false → false ≡ every n test
+  tested-out k h t = sym (every-fails n test k h t)
 
   module _ (k : ℕ) (before : Bool) (a : Tested k before) (h : k < n) where
     one-more : every (k + 1) test ≡ (every k test && test k)

@@ -1,9 +1,8 @@
 -- Laws of finite sums of numbers: their clauses as equations, equal terms, a bound, sums and multiples, the first term, two parts, remainders, and that
 -- the first terms are at most all.
-use mathlib.Core.Path.{_≡_, refl, sym, ap, ap₂, _∙_}
+use mathlib.Core.Path.{_≡_, refl, sym, ap₂, _∙_}
 use Prim.Native.Nat.{ℕ, zero, suc, _+_, _*_, _%_, _≤_, _<_, zero-le}
 use native.Mathlib.Nat.{add-zero, add-suc, add-assoc, add-mod, suc-mul, le-step, lt-suc-self, add-le-add, mod-mod, zero-add, zero-mul, add-mul}
-use native.Mathlib.Numerals.{add-one}
 use native.Mathlib.Decide.{ℕ-discrete}
 use native.Mathlib.Omega.{arith}
 use Rattle.lists.specs.Total.{total}
@@ -15,14 +14,6 @@ total-zero f = refl
 pub total-suc : (n : ℕ) (f : ℕ → ℕ) → total (suc n) f ≡ total n f + f n
 unfolding total
 total-suc n f = refl
-
--- one more term, as a loop adds it
-pub total-more : (n : ℕ) (f : ℕ → ℕ) {s x : ℕ} → s ≡ total n f → x ≡ f n → s + x ≡ total (n + 1) f
-total-more n f e h = ap₂ _+_ e h ∙ sym (total-suc n f) ∙ ap (λ (m : ℕ). total m f) (sym (add-one n))
-
--- all of the terms, once the loop has come to the end
-pub total-all : (f : ℕ → ℕ) {n m s : ℕ} → s ≡ total n f → n ≡ m → s ≡ total m f
-total-all f e h = e ∙ rw h
 
 pub total-ext : (n : ℕ) (f g : ℕ → ℕ) → ((k : ℕ) → k < n → f k ≡ g k) → total n f ≡ total n g
 total-ext zero f g e = total-zero f ∙ sym (total-zero g)

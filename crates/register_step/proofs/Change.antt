@@ -17,7 +17,7 @@ use Rattle.lists.proofs.Entries.{getD-take-past}
 use Rattle.lists.proofs.Parts.{replaced as in-place}
 use Rattle.register.proofs.Cases.{changed-cases, grown, stayed}
 use Rattle.register.specs.Algorithm4.{Saved, State, changed, replaced}
-use Rattle.register_step.specs.Progress.{block, stateOf, Ended, Changeable, Reducible, Stepped, savedAfter}
+use Rattle.register_step.specs.Progress.{block, stateOf, Ended, Changeable, Reducible, Stepped, savedAfter, saving}
 use Rattle.register_step.specs.declared.Progress.{Progress}
 use Rattle.register_step.proofs.Blocks.{block-replaced, block-other, replaced-whole}
 use Rattle.register_step.proofs.Reduction.{minus-zero, shifted-past}
@@ -87,17 +87,6 @@ replaced-other saved h v k ne = rw (ne-eqb k h ne)
 
 abbrev pub Lengths : Progress → Type 0
 Lengths g = (length (g .places) ≡ 8) × (length (g .sizes) ≡ 8) × (length (g .discs) ≡ 8) × (length (g .inverses) ≡ 8)
-
--- the struct once the register of length g .length is saved for h, i being the inverse of d
-abbrev pub saving : (n h d i : ℕ) → Progress → Progress
-saving n h d i g =
-    record {
-      length = n + getD (g .sizes) h 0 - getD (g .places) h 0;
-      places = set (g .places) h n;
-      sizes = set (g .sizes) h (g .length);
-      discs = set (g .discs) h d;
-      inverses = set (g .inverses) h i;
-    }
 
 module _ {p n h d : ℕ} {g : Progress} {taps saved : List ℕ}
     (c : Changeable p n h d (stateOf g taps saved)) (z : Ended p g taps saved) where

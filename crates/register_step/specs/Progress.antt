@@ -5,7 +5,7 @@ use mathlib.Core.Bool.{cond}
 use mathlib.Core.List.{List, _++_}
 use Prim.Native.Nat.{ℕ, suc, _+_, _-_, _*_, _/_, _≤_, _<_, max}
 use lib.Dec.{ltb}
-use lib.ListN.{length, getD, take, drop}
+use lib.ListN.{length, getD, set, take, drop}
 use Rattle.field.specs.Residue.{inverse}
 use Rattle.register_step.specs.declared.Progress.{Progress}
 use Rattle.register.specs.Algorithm4.{State}
@@ -109,6 +109,27 @@ pub record Reducible (p : ℕ) (taps : List ℕ) (q e m : ℕ) (saved : List ℕ
 unfoldable pub savedAfter : (n h : ℕ) → Progress → (taps saved : List ℕ) → List ℕ
 savedAfter n h g taps saved =
     cond (ltb (getD (g .places) h 0 + g .length) (n + getD (g .sizes) h 0)) (take (h * 129) saved ++ (taps ++ drop 129 (drop (h * 129) saved))) saved
+
+-- the struct once the register of length g .length is saved for h, i being the inverse of d
+abbrev pub saving : (n h d i : ℕ) → Progress → Progress
+saving n h d i g =
+    record {
+      length = n + getD (g .sizes) h 0 - getD (g .places) h 0;
+      places = set (g .places) h n;
+      sizes = set (g .sizes) h (g .length);
+      discs = set (g .discs) h d;
+      inverses = set (g .inverses) h i;
+    }
+
+-- the numbers of sequence h can be set: they fit 16 bits
+pub record Savable (n h d i : ℕ) (g : Progress) : Type 0 where
+  pub sequence : h < 8
+  pub round : n ≤ 128
+  pub size : g .length ≤ 128
+  pub discrepancy : d < 65536
+  pub inverse : i < 65536
+  pub place : getD (g .places) h 0 ≤ n
+  pub saved-size : getD (g .sizes) h 0 ≤ getD (g .places) h 0
 
 -- what one step leaves: the state of the definition, and arrays as they were
 pub record Stepped (p : ℕ) (st : State) (g : Progress) (taps saved : List ℕ) : Type 0 where

@@ -6,7 +6,7 @@ use crate::reduce::keep;
 use crate::reduce::reduce;
 ghost use mathlib.Core.Path.{_≡_};
 ghost use Rattle.register.specs.Algorithm4.{changed};
-ghost use Rattle.register_step.specs.Progress.{stateOf, dueAt, Summable, InReach, Ended, Changeable, Stepped, savedAfter};
+ghost use Rattle.register_step.specs.Progress.{stateOf, dueAt, Summable, InReach, Ended, Changeable, Savable, Stepped, savedAfter, saving};
 
 // The discrepancy at (n, h) of a register of length l, s being sequence h, or 0 where nothing is asked for.
 pub fn due(p: u32, m: u64, longest: usize, l: usize, taps: &[u16; 129], s: &[u16], n: usize) -> u32
@@ -19,6 +19,23 @@ pub fn due(p: u32, m: u64, longest: usize, l: usize, taps: &[u16; 129], s: &[u16
         return 0;
     }
     discrepancy_at(p, m, l, taps, s, n - gap)
+}
+
+// The numbers that go with a register that grows at (n, h), i being the inverse of the discrepancy d.
+fn numbers_saved(n: usize, h: usize, d: u32, i: u32, g: Progress) -> Progress
+    requires { ⌜ Savable n h d i g ⌝ }
+    ensures { λ r. ⌜ r ≡ saving n h d i g ⌝ }
+{
+    let l = g.length;
+    let place = g.places[h] as usize;
+    let size = g.sizes[h] as usize;
+    let mut next = g;
+    next.length = n + size - place;
+    next.places[h] = n as u16;
+    next.sizes[h] = l as u16;
+    next.discs[h] = d as u16;
+    next.inverses[h] = i as u16;
+    next
 }
 
 // The change by a discrepancy d at (n, h). It divides by the saved discrepancy with the inverse kept beside it; an inverse is worked out only when a
@@ -49,11 +66,5 @@ pub fn change(
     let old = *taps;
     reduce(p, taps, q, e, size, saved, h);
     keep(saved, h, &old);
-    let mut next = g;
-    next.length = n + size - place;
-    next.places[h] = n as u16;
-    next.sizes[h] = l as u16;
-    next.discs[h] = d as u16;
-    next.inverses[h] = field::residue::inverse(d, p) as u16;
-    next
+    numbers_saved(n, h, d, field::residue::inverse(d, p), g)
 }

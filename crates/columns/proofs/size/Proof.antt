@@ -38,8 +38,15 @@ ones-requires-4 c κs = search needs
 add-result-3 : tie.Need-add-result-3
 add-result-3 c = search needs
 
+-- the ways back
+abbrev start-of : tie.After-ones2 → tie.Start
+start-of c = c .before .before .before .before
+
+abbrev half-counted : tie.After-ones4 → tie.After-ones2
+half-counted c = c .before .before .before .before
+
 returns : tie.Need-returns
-returns c = omega (arith, counted (c .before .before .before .before .before .before .before .before .args .t1))
+returns c = omega (arith, counted (start-of (half-counted c) .args .t1))
 
 pub size-spec : {M : Type 1} → statement M
 size-spec =

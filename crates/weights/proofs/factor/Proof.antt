@@ -38,9 +38,13 @@ inverse-requires c κs = search needs
 difference-requires : tie.Need-difference-requires
 difference-requires c κs = search needs
 
+-- the way back
+abbrev start-of : tie.After-difference → tie.Start
+start-of c = c .before .before .before .before .before .before .before
+
 returns : tie.Need-returns
 returns c =
-    let start = c .before .before .before .before .before .before .before in
+    let start = start-of c in
     let wide = c .before .before .before in (
       factor-is (length (start .args .others .now)) (start .args .i) _ (wide .before .before .value-at .result) (wide .before .entry .result)
           (c .before .before .product .result)

@@ -1,16 +1,15 @@
 -- `calls::from_sums::sum_count` meets its contract: the checks of the rows passed are added.
-use mathlib.Core.Path.{_≡_, refl, sym}
-use Prim.Native.Nat.{_-_, _*_, _≤_}
+use mathlib.Core.Path.{refl}
+use Prim.Native.Nat.{_-_, _≤_}
 use native.Mathlib.Omega.{arith}
-use Rattle.lists.specs.Total.{total}
-use Rattle.lists.proofs.Totals.{total-zero, total-more, total-all}
+use Rattle.lists.proofs.Summing.{Summed, summed-none, summed-more, summed-all}
 use Rattle.frame.specs.Shape.{checksOf}
 use Rattle.frame.proofs.Shapes.{shape-ranges}
 use Rattle.calls.proofs.from_sums.sum_count.Statement.{statement}
 use Rattle.calls.proofs.from_sums.sum_count.Tie as tie
 
 abbrev Inv-loop : tie.InvT-loop
-Inv-loop s rows all₀ h₀ all h = (h ≤ rows) × (all ≡ total h (checksOf s)) × (all ≤ h * 64)
+Inv-loop s rows all₀ h₀ all h = Summed rows 64 (checksOf s) h all
 
 abbrev μ-loop : tie.MeasureT-loop
 μ-loop s rows all₀ h₀ all h = rows - h
@@ -20,7 +19,7 @@ most : (c : tie.After-all Inv-loop μ-loop) → checksOf (c .before .before .bef
 most c = shape-ranges _ (c .before .before .before .pre) .checks (c .before .before .loop .h) (c .before .loop-test .taken) .most
 
 loop-holds : tie.Need-loop-holds Inv-loop μ-loop
-loop-holds c = (omega arith, sym (total-zero _), omega arith)
+loop-holds c = summed-none _ _ _
 
 mul-all : tie.Need-mul-all Inv-loop μ-loop
 mul-all c = let r = shape-ranges _ (c .before .before .pre) in omega arith
@@ -42,11 +41,11 @@ loop-less c = omega arith
 
 loop-again : tie.Need-loop-again Inv-loop μ-loop
 loop-again c =
-    let m = c .before .before .loop in
-    (omega arith, total-more (m .h) _ (m .inv .1) refl, let q = most c in omega arith)
+    let at = c .before .before .loop in
+    summed-more _ _ _ (at .h) (at .all) (at .inv) _ (c .before .loop-test .taken) refl (most c)
 
 returns : tie.Need-returns Inv-loop μ-loop
-returns c = total-all _ (c .before .loop .inv .1) (omega arith)
+returns c = summed-all _ _ _ _ _ (c .before .loop .inv) (c .loop-test .left)
 
 pub sum-count-spec : {M : Type 1} → statement M
 sum-count-spec =

@@ -1,26 +1,25 @@
 -- `calls::sound::rows_reach` meets its contract: the rows passed have at least c checks.
-use mathlib.Core.Path.{_≡_, sym}
+use mathlib.Core.Path.{refl}
 use mathlib.Core.Bool.{true}
-use Prim.Native.Nat.{ℕ, _-_, _≤_, _<_}
+use Prim.Native.Nat.{_-_}
 use native.Mathlib.Omega.{arith}
 use lib.Dec.{leb}
-use borrow.Author.Count.{below-none, below-more}
 use borrow.Author.Tests.{le-leb, lt-leb}
 use Rattle.decoding.specs.Locating.{rowsReach}
 use Rattle.frame.specs.Shape.{checksOf}
 use Rattle.frame.proofs.Shapes.{shape-ranges}
-use Rattle.lists.proofs.Tabulated.{every-of, every-fails}
+use Rattle.lists.proofs.Testing.{Tested, tested-none, tested-out, tested-pass, tested-all}
 use Rattle.calls.proofs.sound.rows_reach.Statement.{statement}
 use Rattle.calls.proofs.sound.rows_reach.Tie as tie
 
 abbrev Inv-loop : tie.InvT-loop
-Inv-loop c s rows h₀ h = (h ≤ rows) × ((k : ℕ) → k < h → leb c (checksOf s k) ≡ true)
+Inv-loop c s rows h₀ h = Tested rows (λ k. leb c (checksOf s k)) h true
 
 abbrev μ-loop : tie.MeasureT-loop
 μ-loop c s rows h₀ h = rows - h
 
 loop-holds : tie.Need-loop-holds Inv-loop μ-loop
-loop-holds c = (omega arith, below-none _)
+loop-holds c = tested-none _ _
 
 mul-if1 : tie.Need-mul-if1 Inv-loop μ-loop
 mul-if1 c = let r = shape-ranges _ (c .before .before .pre) in omega arith
@@ -34,7 +33,7 @@ cast-if1 c =
 
 returns : tie.Need-returns Inv-loop μ-loop
 unfolding rowsReach
-returns c = sym (every-fails _ _ (c .before .before .before .loop .h) (c .before .before .loop-test .taken) (lt-leb _ _ (c .if1 .taken)))
+returns c = tested-out _ _ (c .before .before .before .loop .h) (c .before .before .loop-test .taken) (lt-leb _ _ (c .if1 .taken))
 
 add-h : tie.Need-add-h Inv-loop μ-loop
 add-h c = omega arith
@@ -43,11 +42,13 @@ loop-less : tie.Need-loop-less Inv-loop μ-loop
 loop-less c = omega arith
 
 loop-again : tie.Need-loop-again Inv-loop μ-loop
-loop-again c = (omega arith, below-more _ _ (c .before .before .before .loop .inv .1) (le-leb _ _ (c .if1 .left)))
+loop-again c =
+    let at = c .before .before .before .loop in
+    tested-pass _ _ (at .h) true (at .inv) (c .before .before .loop-test .taken) true refl (le-leb _ _ (c .if1 .left))
 
 returns-2 : tie.Need-returns-2 Inv-loop μ-loop
 unfolding rowsReach
-returns-2 c = sym (every-of _ _ (λ k l. c .before .loop .inv .1 k (omega arith)))
+returns-2 c = tested-all _ _ _ _ (c .before .loop .inv) (c .loop-test .left)
 
 pub rows-reach-spec : {M : Type 1} → statement M
 rows-reach-spec =

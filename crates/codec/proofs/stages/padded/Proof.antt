@@ -1,22 +1,21 @@
 -- `codec::stages::padded` meets its contract.
-use mathlib.Core.Path.{_≡_, refl}
-use Prim.Native.Nat.{_-_, _≤_}
+use mathlib.Core.Path.{refl}
+use Prim.Native.Nat.{_-_}
 use native.Mathlib.Omega.{arith}
-use lib.ListN.{length}
-use Rattle.lists.proofs.Copy.{copied, copied-more}
+use lib.ListN.{length, getD, List·getD-eq-default}
+use Rattle.lists.proofs.Filling.{Filled, filled-none, filled-more, filled-zeros}
 use Rattle.lists.proofs.Zeros.{zeros}
-use Rattle.lists.proofs.Padding.{padded-entries}
 use Rattle.codec.proofs.stages.padded.Statement.{statement}
 use Rattle.codec.proofs.stages.padded.Tie as tie
 
 abbrev Inv-loop : tie.InvT-loop
-Inv-loop x y₀ i₀ y i = (i ≤ length x) × (y ≡ copied (zeros 256) x i)
+Inv-loop x y₀ i₀ y i = Filled (λ k. getD x k 0) (zeros 256) i y
 
 abbrev μ-loop : tie.MeasureT-loop
 μ-loop x y₀ i₀ y i = length x - i
 
 loop-holds : tie.Need-loop-holds Inv-loop μ-loop
-loop-holds c = (omega arith, refl)
+loop-holds c = filled-none _ _
 
 mul-y : tie.Need-mul-y Inv-loop μ-loop
 mul-y c = omega arith
@@ -38,11 +37,13 @@ loop-less c = omega arith
 
 loop-again : tie.Need-loop-again Inv-loop μ-loop
 loop-again c =
-    let at = c .before .before in
-    (omega arith, copied-more (zeros 256) _ (at .loop .i) 0 (at .loop .inv .1) (omega arith) (omega arith))
+    let at = c .before .before .loop in
+    filled-more _ _ (at .i) _ (at .y) (at .inv) (let s = at .inv .size in omega arith) refl
 
 returns : tie.Need-returns Inv-loop μ-loop
-returns c = padded-entries 256 _ _ _ (c .before .loop .inv .1) (c .loop-test .left)
+returns c =
+    let x = c .before .before .args .x .now in
+    filled-zeros _ 256 _ _ (c .before .loop .inv) (λ k h. List·getD-eq-default x 0 (omega arith))
 
 pub padded-spec : {M : Type 1} → statement M
 padded-spec =

@@ -3,8 +3,7 @@ use Prim.Native.Nat.{ℕ, _+_, _-_, _*_, _≤_}
 use native.Mathlib.Omega.{arith}
 use lib.ListN.{length}
 use borrow.Rule.Slice.PartMut.{mid-len}
-use Rattle.frame.proofs.RowPlace.{RowPlace, row-place}
-use Rattle.completion.proofs.ColumnMending.{Mended, mended-none, mended-more, mended-all}
+use Rattle.completion.proofs.ColumnMending.{RowLent, row-lent, Mended, mended-none, mended-more, mended-all}
 use Rattle.frame.proofs.HeldParts.{part-below}
 use borrow.Author.Needs.{needs}
 use Rattle.completion.proofs.mend.mend_column.Statement.{statement}
@@ -16,20 +15,26 @@ Inv-loop frame₀ i coefficients sums s rows columns at₀ h₀ frame at h = Men
 abbrev μ-loop : tie.MeasureT-loop
 μ-loop frame₀ i coefficients sums s rows columns at₀ h₀ frame at h = rows - h
 
-place : (c : tie.In-loop Inv-loop μ-loop) →
-    let args = c .before .before .before .before .before .args in
-    RowPlace (args .t1) (length (args .frame .now)) (c .before .loop .h)
-place c =
-    let start = c .before .before .before .before .before in
-    row-place _ _ _ (start .pre .shape) (start .pre .whole) (c .loop-test .taken)
+-- the ways back
+abbrev start-of : tie.In-loop Inv-loop μ-loop → tie.Start Inv-loop μ-loop
+start-of c = c .before .before .before .before .before
 
--- the sums of the row end within those that are held
-ends : (c : tie.After-wide Inv-loop μ-loop) → c .before .before .before .loop .at + c .wide .result ≤ 512
+abbrev in-loop : tie.After-wide Inv-loop μ-loop → tie.In-loop Inv-loop μ-loop
+in-loop c = c .before .before
+
+abbrev read-before : tie.After-slice-known2 Inv-loop μ-loop → tie.After-wide Inv-loop μ-loop
+read-before c = c .before .before .before .before .before
+
+place : (c : tie.In-loop Inv-loop μ-loop) →
+    let args = start-of c .args in
+    RowLent (args .t1) (args .sums .now) (args .frame .now) (c .before .loop .h)
+place c = row-lent _ _ _ _ (start-of c .pre .lent) (c .loop-test .taken)
+
+-- the sums of the row end within those that are lent
+ends : (c : tie.After-wide Inv-loop μ-loop) → in-loop c .before .loop .at + c .wide .result ≤ length (start-of (in-loop c) .args .sums .now)
 ends c =
-    let p = place (c .before .before) in
-    let most = p .checks .most in
-    let number = p .row-number in
-    let begins = c .before .before .before .loop .inv .room in
+    let room = place (in-loop c) .sums-room in
+    let begins = in-loop c .before .loop .inv .place in
     let count = c .wide .ensures .0 in
     omega arith
 
@@ -52,22 +57,22 @@ add-to : tie.Need-add-to Inv-loop μ-loop
 add-to c = omega (arith, ends c)
 
 mul-a : tie.Need-mul-a Inv-loop μ-loop
-mul-a c = let p = place (c .before .before) in omega arith
+mul-a c = let p = place (in-loop c) in omega arith
 
 add-e : tie.Need-add-e Inv-loop μ-loop
-add-e c = let p = place (c .before .before) in omega arith
+add-e c = let p = place (in-loop c) in omega arith
 
 mul-mend-cell : tie.Need-mul-mend-cell Inv-loop μ-loop
-mul-mend-cell c = let p = place (c .before .before) in omega arith
+mul-mend-cell c = let p = place (in-loop c) in omega arith
 
 sub-mend-cell : tie.Need-sub-mend-cell Inv-loop μ-loop
 sub-mend-cell c = omega arith
 
 part-mend-cell-start : tie.Need-part-mend-cell-start Inv-loop μ-loop
-part-mend-cell-start c = let p = place (c .before .before) in omega arith
+part-mend-cell-start c = let p = place (in-loop c) in omega arith
 
 part-mend-cell-end : tie.Need-part-mend-cell-end Inv-loop μ-loop
-part-mend-cell-end c = let p = place (c .before .before) in let s = c .before .before .before .loop .inv .rows .size in omega arith
+part-mend-cell-end c = let p = place (in-loop c) in let s = in-loop c .before .loop .inv .rows .size in omega arith
 
 mul-mend-cell-2 : tie.Need-mul-mend-cell-2 Inv-loop μ-loop
 mul-mend-cell-2 c = omega (arith, ends (c .before))
@@ -76,50 +81,47 @@ sub-mend-cell-2 : tie.Need-sub-mend-cell-2 Inv-loop μ-loop
 sub-mend-cell-2 c = omega arith
 
 part-mend-cell-start-2 : tie.Need-part-mend-cell-start-2 Inv-loop μ-loop
-part-mend-cell-start-2 c = let e = ends (c .before) in let s = c .before .before .before .before .before .before .before .before .pre .sums-room in omega arith
+part-mend-cell-start-2 c = omega (arith, ends (c .before))
 
 part-mend-cell-end-2 : tie.Need-part-mend-cell-end-2 Inv-loop μ-loop
-part-mend-cell-end-2 c = let e = ends (c .before) in let s = c .before .before .before .before .before .before .before .before .pre .sums-room in omega arith
+part-mend-cell-end-2 c = omega (arith, ends (c .before))
 
 mend-cell-requires : tie.Need-mend-cell-requires Inv-loop μ-loop
 mend-cell-requires c κs =
     let read = c .before .before in
-    let inside = read .before .before in
+    let inside = in-loop read in
     let at = inside .before in
-    let start = at .before .before .before .before in
+    let start = start-of inside in
     let n = start .args .t1 .columns in
     let p = place inside in
-    let within = p .inside in
-    let most = p .checks .most in
     let s = at .loop .inv .rows .size in
     let i = start .pre .inside in
     let enough = start .pre .reach (at .loop .h) (inside .loop-test .taken) in
     let count = read .wide .ensures .0 in
-    let held = start .pre .sums-room in
     let e = ends read in
-    let size = mid-len (at .loop .h * n) (at .loop .h * n + n) (at .loop .frame) (omega arith) in
+    let size = mid-len (at .loop .h * n) (at .loop .h * n + n) (at .loop .frame) (let w = p .inside in omega arith) in
     let end : ℕ = at .loop .at + read .wide .result in
     let sums = mid-len (at .loop .at) end (start .args .sums .now) (omega arith) in
     record {
       inside = omega arith;
       few = omega arith;
       reach = omega arith;
-      sums-small = part-below (start .args .sums .now) (start .pre .sums-small) (at .loop .at) (end - at .loop .at);
+      sums-small = part-below (start .args .sums .now) (start .pre .lent .sums-small) (at .loop .at) (end - at .loop .at);
     }
 
 add-h : tie.Need-add-h Inv-loop μ-loop
-add-h c = let p = place (c .before .before .before .before .before .before .before) in omega arith
+add-h c = let p = place (in-loop (read-before c)) in omega arith
 
 loop-less : tie.Need-loop-less Inv-loop μ-loop
-loop-less c = let t = c .before .before .before .before .before .before .before .loop-test .taken in omega arith
+loop-less c = let t = in-loop (read-before c) .loop-test .taken in omega arith
 
 loop-again : tie.Need-loop-again Inv-loop μ-loop
 loop-again c =
-    let read = c .before .before .before .before .before in
-    let inside = read .before .before in
+    let read = read-before c in
+    let inside = in-loop read in
     let at = inside .before in
-    mended-more _ _ _ _ _ (at .loop .h) (at .loop .at) (at .loop .frame) (at .loop .inv) (place inside) (read .wide .result) _ (inside .loop-test .taken)
-    (read .wide .ensures .0) (c .before .before .mend-cell .ensures)
+    mended-more _ _ _ _ _ (at .loop .h) (at .loop .at) (at .loop .frame) (at .loop .inv) (place inside .inside) (read .wide .result) _
+    (inside .loop-test .taken) (read .wide .ensures .0) (c .before .before .mend-cell .ensures)
 
 same-length : tie.Need-same-length Inv-loop μ-loop
 same-length c = c .before .loop .inv .rows .size

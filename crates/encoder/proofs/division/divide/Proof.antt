@@ -49,11 +49,18 @@ part-add-multiple-start-2 c = omega arith
 part-add-multiple-end-2 : tie.Need-part-add-multiple-end-2 Inv-loop μ-loop
 part-add-multiple-end-2 c = omega arith
 
+-- the ways back
+abbrev in-loop : tie.After-add-multiple-arg2 Inv-loop μ-loop → tie.In-loop Inv-loop μ-loop
+in-loop c = c .before .before .before
+
+abbrev start-of : tie.At-loop Inv-loop μ-loop → tie.Start Inv-loop μ-loop
+start-of c = c .before .before .before
+
 add-multiple-requires : tie.Need-add-multiple-requires Inv-loop μ-loop
 add-multiple-requires c κs =
-    let at = c .before .before .before .before in
-    let start = at .before .before .before in
-    let less = c .before .before .before .loop-test .taken in (
+    let at = in-loop c .before in
+    let start = start-of at in
+    let less = in-loop c .loop-test .taken in (
       same-size _ _ _ (start .pre .divisor) (at .loop .i) _ (at .loop .inv) less,
       added-fits _ _ _ (start .pre .divisor) (at .loop .i) _ (at .loop .inv) less (start .pre .narrow),
     )
@@ -63,9 +70,9 @@ loop-less c = omega arith
 
 loop-again : tie.Need-loop-again Inv-loop μ-loop
 loop-again c =
-    let at = c .before .before .before .before .before .before .before in
-    let start = at .before .before .before in
-    divided-more _ _ _ (start .pre .divisor) (at .loop .i) _ (at .loop .inv) (c .before .before .before .before .before .before .loop-test .taken) _
+    let inside = in-loop (c .before .before .before) in
+    let at = inside .before in
+    divided-more _ _ _ (start-of at .pre .divisor) (at .loop .i) _ (at .loop .inv) (inside .loop-test .taken) _
     (c .before .before .add-multiple .ensures)
 
 same-length : tie.Need-same-length Inv-loop μ-loop

@@ -19,6 +19,16 @@ returns c =
     let size = ne-eqb _ _ (c .if1 .taken) in
     (by-encode-tests refused passed _ frame false _ size refl, by-encode-tests (λ k. frame) _ _ frame false _ size refl)
 
+-- the ways back
+abbrev start-of : tie.Else1 → tie.Start
+start-of c = c .before .before .before
+
+abbrev whole-before : tie.Else2 → tie.Else1
+whole-before c = c .before .before .before
+
+abbrev tested : tie.After-slice-known2 → tie.Else2
+tested c = c .before .before .before .before
+
 data-below-requires : tie.Need-data-below-requires
 data-below-requires c κs = search needs
 
@@ -27,16 +37,17 @@ same-length c = search needs
 
 returns-2 : tie.Need-returns-2
 returns-2 c =
-    let frame = c .before .before .before .before .before .before .args .frame .now in
-    let size = eq-eqb _ _ (c .before .before .before .if1 .left) in
+    let whole = c .before .before .before in
+    let frame = start-of whole .args .frame .now in
+    let size = eq-eqb _ _ (whole .if1 .left) in
     let symbols = sym (c .before .data-below .ensures) ∙ not-true _ (c .if2 .taken) in
     (by-encode-tests refused passed _ frame true false size symbols, by-encode-tests (λ k. frame) _ _ frame true false size symbols)
 
 fill-checks-requires : tie.Need-fill-checks-requires
 fill-checks-requires c κs =
     record {
-      shape = c .before .before .before .before .before .before .before .pre;
-      whole = c .before .before .before .before .if1 .left;
+      shape = start-of (whole-before (c .before)) .pre;
+      whole = whole-before (c .before) .if1 .left;
       small = sym (c .before .before .data-below .ensures) ∙ not-false _ (c .before .if2 .left);
     }
 
@@ -45,9 +56,10 @@ same-length-2 c = search needs
 
 returns-3 : tie.Need-returns-3
 returns-3 c =
-    let frame = c .before .before .before .before .before .before .before .before .before .before .args .frame .now in
-    let size = eq-eqb _ _ (c .before .before .before .before .before .before .before .if1 .left) in
-    let symbols = sym (c .before .before .before .before .before .data-below .ensures) ∙ not-false _ (c .before .before .before .before .if2 .left) in (
+    let whole = whole-before (tested c) in
+    let frame = start-of whole .args .frame .now in
+    let size = eq-eqb _ _ (whole .if1 .left) in
+    let symbols = sym (tested c .before .data-below .ensures) ∙ not-false _ (tested c .if2 .left) in (
       by-encode-tests refused passed _ frame true true size symbols,
       c .before .before .fill-checks .ensures ∙ by-encode-tests (λ k. frame) _ _ frame true true size symbols,
     )

@@ -23,11 +23,21 @@ Inv-loop frame₀ s rows columns count₀ held₀ h₀ frame count held h =
 abbrev μ-loop : tie.MeasureT-loop
 μ-loop frame₀ s rows columns count₀ held₀ h₀ frame count held h = rows - h
 
+-- the ways back
+abbrev start-of : tie.In-loop Inv-loop μ-loop → tie.Start Inv-loop μ-loop
+start-of c = c .before .before .before .before .before .before
+
+abbrev in-loop : tie.After-generator-for Inv-loop μ-loop → tie.In-loop Inv-loop μ-loop
+in-loop c = c .before .before .before
+
+abbrev with-generator : tie.After-slice-known2 Inv-loop μ-loop → tie.After-generator-for Inv-loop μ-loop
+with-generator c = c .before .before .before .before .before
+
 place : (c : tie.In-loop Inv-loop μ-loop) →
-    let args = c .before .before .before .before .before .before .args in
+    let args = start-of c .args in
     RowPlace (args .t1) (length (args .frame .now)) (c .before .loop .h)
 place c =
-    let start = c .before .before .before .before .before .before in
+    let start = start-of c in
     row-place (start .args .t1) (length (start .args .frame .now)) (c .before .loop .h) (start .pre .shape) (start .pre .whole) (c .loop-test .taken)
 
 element-copy-out-wide : tie.Need-element-copy-out-wide Inv-loop μ-loop
@@ -66,32 +76,32 @@ generator-for-requires c κs =
     (c .before .before .before .loop .inv .1, omega (arith, c .wide2 .ensures .0))
 
 mul-a : tie.Need-mul-a Inv-loop μ-loop
-mul-a c = let p = place (c .before .before .before) in omega arith
+mul-a c = let p = place (in-loop c) in omega arith
 
 add-e : tie.Need-add-e Inv-loop μ-loop
-add-e c = let p = place (c .before .before .before) in omega arith
+add-e c = let p = place (in-loop c) in omega arith
 
 slice-aggregate-encode-row : tie.Need-slice-aggregate-encode-row Inv-loop μ-loop
 slice-aggregate-encode-row c = omega arith
 
 mul-encode-row : tie.Need-mul-encode-row Inv-loop μ-loop
-mul-encode-row c = let p = place (c .before .before .before .before) in omega arith
+mul-encode-row c = let p = place (in-loop (c .before)) in omega arith
 
 sub-encode-row : tie.Need-sub-encode-row Inv-loop μ-loop
 sub-encode-row c = omega arith
 
 part-encode-row-start : tie.Need-part-encode-row-start Inv-loop μ-loop
-part-encode-row-start c = let p = place (c .before .before .before .before) in omega arith
+part-encode-row-start c = let p = place (in-loop (c .before)) in omega arith
 
 part-encode-row-end : tie.Need-part-encode-row-end Inv-loop μ-loop
 part-encode-row-end c =
-    let p = place (c .before .before .before .before) in let q = c .before .before .before .before .before .loop .inv .0 .size in omega arith
+    let inside = in-loop (c .before) in let p = place inside in let q = inside .before .loop .inv .0 .size in omega arith
 
 encode-row-requires : tie.Need-encode-row-requires Inv-loop μ-loop
 encode-row-requires c κs =
-    let inside = c .before .before .before .before .before in
+    let inside = in-loop (c .before .before) in
     let at = inside .before in
-    let start = at .before .before .before .before .before in
+    let start = start-of inside in
     let p = place inside in
     let size = length-part _ _ _ _ _ _ (at .loop .inv .0) (p .inside) in
     let count = c .before .before .before .wide2 .ensures .0 in
@@ -104,18 +114,19 @@ encode-row-requires c κs =
     }
 
 add-h : tie.Need-add-h Inv-loop μ-loop
-add-h c = let p = place (c .before .before .before .before .before .before .before .before) in omega arith
+add-h c = let p = place (in-loop (with-generator c)) in omega arith
 
 loop-less : tie.Need-loop-less Inv-loop μ-loop
-loop-less c = let t = c .before .before .before .before .before .before .before .before .loop-test .taken in omega arith
+loop-less c = let t = in-loop (with-generator c) .loop-test .taken in omega arith
 
 loop-again : tie.Need-loop-again Inv-loop μ-loop
 loop-again c =
-    let inside = c .before .before .before .before .before .before .before .before in
+    let made = with-generator c in
+    let inside = in-loop made in
     let at = inside .before in (
       completed-more _ _ _ _ _ _ (at .loop .inv .0) (place inside .inside) _ _ (inside .loop-test .taken)
-          (ap firstColumns (c .before .before .before .before .before .before .wide2 .ensures .0)) (c .before .before .encode-row .ensures),
-      c .before .before .before .before .before .generator-for .ensures,
+          (ap firstColumns (made .before .wide2 .ensures .0)) (c .before .before .encode-row .ensures),
+      made .generator-for .ensures,
     )
 
 same-length : tie.Need-same-length Inv-loop μ-loop

@@ -32,8 +32,11 @@ part-f-start c = omega arith
 part-f-end : tie.Need-part-f-end Inv-loop μ-loop
 part-f-end c = let s = c .before .loop .inv .1 .size in omega arith
 
+sub-multiply-2 : tie.Need-sub-multiply-2 Inv-loop μ-loop
+sub-multiply-2 c = omega arith
+
 multiply-requires : tie.Need-multiply-requires Inv-loop μ-loop
-multiply-requires c κs = omega arith
+multiply-requires c κs = (omega arith, omega arith)
 
 add-j : tie.Need-add-j Inv-loop μ-loop
 add-j c = omega arith
@@ -62,6 +65,7 @@ generator-spec =
     sub-multiply
     part-f-start
     part-f-end
+    sub-multiply-2
     multiply-requires
     add-j
     loop-less

@@ -1,12 +1,12 @@
 -- `field257::locator::locator_polynomial` meets its contract.
 use mathlib.Core.Path.{_≡_, ap, _∙_}
-use mathlib.Core.List.{List}
 use Prim.Native.Nat.{ℕ, _+_, _-_, _≤_}
 use native.Mathlib.Omega.{arith}
 use lib.ListN.{length}
-use borrow.Rule.Slice.PartMut.{midOf, mid-len}
+use borrow.Rule.Slice.PartMut.{midOf}
 use Rattle.columns.proofs.Walk.{Walk, walk-start, walk-next, walk-member, walk-end, walk-rises}
-use Rattle.field.specs.Coefficients.{reduced}
+use Rattle.field.proofs.Multiplication.{made}
+use Rattle.lists.specs.Tabulate.{tabulate}
 use Rattle.field257.proofs.LocatorBuilding.{Building, building-none, building-more, building-all}
 use borrow.Author.Needs.{needs}
 use Rattle.field257.proofs.locator.locator_polynomial.Statement.{statement}
@@ -50,13 +50,11 @@ part-f-end c = let r = room c in omega arith
 entry-requires : tie.Need-entry-requires Inv-loop μ-loop
 entry-requires c κs = (c .before .before .before .before .pre .0, c .before .loop-test .taken)
 
+sub-multiply-2 : tie.Need-sub-multiply-2 Inv-loop μ-loop
+sub-multiply-2 c = omega (arith, c .entry .ensures)
+
 multiply-requires : tie.Need-multiply-requires Inv-loop μ-loop
-multiply-requires c κs =
-    let inside = c .before .before in
-    let at = inside .before in
-    let r = room inside in
-    let n = mid-len 0 (at .loop .e + 1) (at .loop .f) (let s = at .loop .inv .3 .size in omega arith) in
-    omega arith
+multiply-requires c κs = (omega arith, omega arith)
 
 add-next : tie.Need-add-next Inv-loop μ-loop
 add-next c = omega arith
@@ -77,7 +75,7 @@ loop-again c =
     let inside = entered .before .before in
     let at = inside .before in
     let set = at .before .before .args .set in
-    let front : List ℕ = midOf 0 (at .loop .e + 1 - 0) (at .loop .f) in
+    let front = midOf 0 (at .loop .e + 1 - 0) (at .loop .f) in
     let (d, e, walk, building) = at .loop .inv in
     let taken = inside .loop-test .taken in
     let (less, here) = walk-member set d (at .loop .i) walk taken in (
@@ -86,7 +84,7 @@ loop-again c =
       walk-next set d (at .loop .i) walk (c .next2 .result) taken (c .next2 .ensures),
       building-more set d (at .loop .f) building (at .loop .i) (at .loop .e + 1) (c .before .before .multiply .last .0)
           (at .before .before .pre .1) less here (omega arith)
-          (c .before .before .multiply .ensures ∙ ap (λ (x : ℕ). reduced 257 (length front - 1) front x 1 front) (entered .entry .ensures)),
+          (c .before .before .multiply .ensures ∙ ap (λ (x : ℕ). tabulate (length front) (made 257 (257 - x) 1 front)) (entered .entry .ensures)),
     )
 
 returns : tie.Need-returns Inv-loop μ-loop
@@ -108,6 +106,7 @@ locator-polynomial-spec =
     part-f-start
     part-f-end
     entry-requires
+    sub-multiply-2
     multiply-requires
     add-next
     next-requires-2

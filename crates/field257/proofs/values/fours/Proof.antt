@@ -26,79 +26,55 @@ element-copy-out-long c = let s = c .before .pre .exponent in omega arith
 long-requires : tie.Need-long-requires Inv-loop μ-loop
 long-requires c κs = search needs
 
--- the point
-looked-up : (c : tie.After-long Inv-loop μ-loop) → c .long .result ≡ getD table (c .before .before .before .args .step) 0
-looked-up c =
-    let start = c .before .before .before in
-    c .long .ensures ∙ ap (λ l. getD l (start .args .step) 0) (start .pre .powers-known)
+-- the ways back
+abbrev start-of : tie.After-long Inv-loop μ-loop → tie.Start Inv-loop μ-loop
+start-of c = c .before .before .before
 
-point : (c : tie.After-long Inv-loop μ-loop) → c .long .result ≡ powerOf3 (c .before .before .before .args .step)
-point c = looked-up c ∙ table-power _ (c .before .before .before .pre .exponent)
+abbrev in-loop : tie.After-long2 Inv-loop μ-loop → tie.In-loop Inv-loop μ-loop
+in-loop c = c .before .before .before
+
+abbrev looked-up-before : tie.In-loop Inv-loop μ-loop → tie.After-long Inv-loop μ-loop
+looked-up-before c = c .before .before
+
+-- the point
+looked-up : (c : tie.After-long Inv-loop μ-loop) → c .long .result ≡ getD table (start-of c .args .step) 0
+looked-up c = c .long .ensures ∙ ap (λ l. getD l (start-of c .args .step) 0) (start-of c .pre .powers-known)
+
+point : (c : tie.After-long Inv-loop μ-loop) → c .long .result ≡ powerOf3 (start-of c .args .step)
+point c = looked-up c ∙ table-power _ (start-of c .pre .exponent)
 
 loop-holds : tie.Need-loop-holds Inv-loop μ-loop
 loop-holds c = none _ _
 
-mul-k : tie.Need-mul-k Inv-loop μ-loop
-mul-k c = let t = c .loop-test .taken in omega arith
-
 mul-cubic : tie.Need-mul-cubic Inv-loop μ-loop
 mul-cubic c = let t = c .loop-test .taken in omega arith
 
-shared-slice-read-cubic : tie.Need-shared-slice-read-cubic Inv-loop μ-loop
-shared-slice-read-cubic c = let t = c .before .loop-test .taken in omega arith
-
-add-cubic : tie.Need-add-cubic Inv-loop μ-loop
-add-cubic c = let t = c .before .loop-test .taken in omega arith
-
-mul-cubic-2 : tie.Need-mul-cubic-2 Inv-loop μ-loop
-mul-cubic-2 c = let t = c .before .loop-test .taken in omega arith
-
-shared-slice-read-cubic-2 : tie.Need-shared-slice-read-cubic-2 Inv-loop μ-loop
-shared-slice-read-cubic-2 c = let t = c .before .before .loop-test .taken in omega arith
-
-add-cubic-2 : tie.Need-add-cubic-2 Inv-loop μ-loop
-add-cubic-2 c = let t = c .before .before .loop-test .taken in omega arith
-
-mul-cubic-3 : tie.Need-mul-cubic-3 Inv-loop μ-loop
-mul-cubic-3 c = let t = c .before .before .loop-test .taken in omega arith
-
-shared-slice-read-cubic-3 : tie.Need-shared-slice-read-cubic-3 Inv-loop μ-loop
-shared-slice-read-cubic-3 c = let t = c .before .before .before .loop-test .taken in omega arith
-
-add-cubic-3 : tie.Need-add-cubic-3 Inv-loop μ-loop
-add-cubic-3 c = let t = c .before .before .before .loop-test .taken in omega arith
-
-mul-cubic-4 : tie.Need-mul-cubic-4 Inv-loop μ-loop
-mul-cubic-4 c = let t = c .before .before .before .loop-test .taken in omega arith
-
-shared-slice-read-cubic-4 : tie.Need-shared-slice-read-cubic-4 Inv-loop μ-loop
-shared-slice-read-cubic-4 c = let t = c .before .before .before .before .loop-test .taken in omega arith
-
 cubic-requires : tie.Need-cubic-requires Inv-loop μ-loop
 cubic-requires c κs =
-    let made = c .before .before .before .before .before .before in
-    omega (arith, looked-up made, table-small _ (made .before .before .before .pre .exponent))
+    let made = looked-up-before c in
+    let t = c .loop-test .taken in
+    (omega arith, omega (arith, looked-up made, table-small _ (start-of made .pre .exponent)))
 
 mul-long-2 : tie.Need-mul-long-2 Inv-loop μ-loop
-mul-long-2 c = let p = c .before .before .before .before .before .before .loop .inv .place in omega arith
+mul-long-2 c = let p = c .before .before .loop .inv .place in omega arith
 
 element-copy-out-long-2 : tie.Need-element-copy-out-long-2 Inv-loop μ-loop
-element-copy-out-long-2 c = let p = c .before .before .before .before .before .before .loop .inv .place in omega arith
+element-copy-out-long-2 c = let p = c .before .before .loop .inv .place in omega arith
 
 long-requires-2 : tie.Need-long-requires-2 Inv-loop μ-loop
 long-requires-2 c κs = search needs
 
 -- one block more
 grown : (c : tie.After-long2 Inv-loop μ-loop) →
-    let loop = c .before .before .before .before .before .before .before .before .loop in
-    let args = c .before .before .before .before .before .before .before .before .before .before .before .before .args in
+    let loop = in-loop c .before .loop in
+    let args = start-of (looked-up-before (in-loop c)) .args in
     Accumulated (args .f .now) (args .step) (4 * (loop .b + 1)) ((loop .place + 4 * args .step) % 256)
     (loop .total + c .before .before .cubic .result * c .long2 .result)
 grown c =
-    let inside = c .before .before .before .before .before .before .before in
+    let inside = in-loop c in
     let at = inside .before in
-    let made = at .before in
-    let start = made .before .before .before in
+    let made = looked-up-before inside in
+    let start = start-of made in
     let part = c .before .before .cubic in
     more-block (start .args .f .now) (start .args .step) (at .loop .b) (at .loop .place) (at .loop .total) (at .loop .inv)
     (start .args .powers .now) (start .pre .powers-known)
@@ -107,14 +83,11 @@ grown c =
 -- the part of the block times the power looked up
 mul-total : tie.Need-mul-total Inv-loop μ-loop
 mul-total c =
-    let start = c .before .before .before .before .before .before .before .before .before .before .before .before in
-    let g = fits _ _ _ _ _ (grown c) (start .pre .few) in
+    let g = fits _ _ _ _ _ (grown c) (start-of (looked-up-before (in-loop c)) .pre .few) in
     record { fits = omega arith }
 
 add-total : tie.Need-add-total Inv-loop μ-loop
-add-total c =
-    let start = c .before .before .before .before .before .before .before .before .before .before .before .before in
-    fits _ _ _ _ _ (grown c) (start .pre .few)
+add-total c = fits _ _ _ _ _ (grown c) (start-of (looked-up-before (in-loop c)) .pre .few)
 
 mul-place : tie.Need-mul-place Inv-loop μ-loop
 mul-place c = omega arith
@@ -126,7 +99,7 @@ add-b : tie.Need-add-b Inv-loop μ-loop
 add-b c = omega arith
 
 loop-less : tie.Need-loop-less Inv-loop μ-loop
-loop-less c = let t = c .before .before .before .before .before .before .before .loop-test .taken in omega arith
+loop-less c = let t = in-loop c .loop-test .taken in omega arith
 
 loop-again : tie.Need-loop-again Inv-loop μ-loop
 loop-again c = grown c
@@ -144,18 +117,7 @@ fours-spec =
     element-copy-out-long
     long-requires
     loop-holds
-    mul-k
     mul-cubic
-    shared-slice-read-cubic
-    add-cubic
-    mul-cubic-2
-    shared-slice-read-cubic-2
-    add-cubic-2
-    mul-cubic-3
-    shared-slice-read-cubic-3
-    add-cubic-3
-    mul-cubic-4
-    shared-slice-read-cubic-4
     cubic-requires
     mul-long-2
     element-copy-out-long-2

@@ -46,15 +46,22 @@ element-copy-out-times c = let p = c .before .before .loop .inv .place in omega 
 times-requires : tie.Need-times-requires Inv-loop μ-loop
 times-requires c κs = search needs
 
+-- the ways back
+abbrev looped : tie.After-times Inv-loop μ-loop → tie.At-loop Inv-loop μ-loop
+looped c = c .before .before .before .before
+
+abbrev start-of : tie.At-loop Inv-loop μ-loop → tie.Start Inv-loop μ-loop
+start-of c = c .before .before .before
+
 -- one coefficient more
 grown : (c : tie.After-times Inv-loop μ-loop) →
-    let loop = c .before .before .before .before .loop in
-    let args = c .before .before .before .before .before .before .before .args in
+    let loop = looped c .loop in
+    let args = start-of (looped c) .args in
     Accumulated (args .f .now) (args .e) (loop .k + 1) ((loop .place + args .e % 256) % 256) (loop .total + c .times .result)
 grown c =
-    let at = c .before .before .before .before in
+    let at = looped c in
     let known = at .before .before in
-    let start = known .before in
+    let start = start-of at in
     more (start .args .f .now) (start .args .e) (at .loop .k) (at .loop .place) (at .loop .total) (at .loop .inv) (start .args .powers .now) (start .pre .0)
     (c .times .result) (c .before .before .before .loop-test .taken) (known .shared-slice-known .given (at .loop .k)) (c .times .ensures)
 
@@ -62,9 +69,7 @@ cast-total : tie.Need-cast-total Inv-loop μ-loop
 cast-total c = omega arith
 
 add-total : tie.Need-add-total Inv-loop μ-loop
-add-total c =
-    let start = c .before .before .before .before .before .before .before in
-    fits _ _ _ _ _ (grown c) (start .pre .1)
+add-total c = fits _ _ _ _ _ (grown c) (start-of (looped c) .pre .1)
 
 add-place : tie.Need-add-place Inv-loop μ-loop
 add-place c = omega arith
@@ -83,7 +88,7 @@ cast-result c = omega arith
 
 returns : tie.Need-returns Inv-loop μ-loop
 returns c =
-    let start = c .before .before .before .before in
+    let start = start-of (c .before) in
     (finished (start .args .f .now) (start .args .e) _ _ _ (c .before .loop .inv) (c .loop-test .left), mod-lt _ (omega arith))
 
 pub value-at-spec : {M : Type 1} → statement M

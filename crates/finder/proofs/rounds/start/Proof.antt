@@ -1,22 +1,21 @@
 -- `start` sets the places of the struct. The invariant: those of the sequences passed are set.
-use mathlib.Core.Path.{_≡_, refl, _∙_}
+use mathlib.Core.Path.{refl}
 use Prim.Native.Nat.{_-_, _≤_}
 use native.Mathlib.Omega.{arith}
 use borrow.Author.Needs.{needs}
-use lib.ListN.{length, length-set}
-use Rattle.finder.specs.Rounds.{Started}
-use Rattle.finder.proofs.Starting.{none-set, one-set, all-set}
+use Rattle.lists.proofs.Filling.{filled-none, filled-more}
+use Rattle.finder.proofs.Starting.{Placing, all-placed}
 use Rattle.finder.proofs.rounds.start.Statement.{statement}
 use Rattle.finder.proofs.rounds.start.Tie as tie
 
 abbrev Inv-loop : tie.InvT-loop
-Inv-loop longest count order g₀ h₀ g h = (h ≤ count) × (length (g .places) ≡ 8) × Started longest order h g
+Inv-loop longest count order g₀ h₀ g h = (h ≤ count) × Placing longest order h g
 
 abbrev μ-loop : tie.MeasureT-loop
 μ-loop longest count order g₀ h₀ g h = count - h
 
 loop-holds : tie.Need-loop-holds Inv-loop μ-loop
-loop-holds c = (search needs, refl, none-set _ _)
+loop-holds c = (search needs, record { places = filled-none _ _; length = refl; sizes = refl; discs = refl; inverses = refl })
 
 cast-g : tie.Need-cast-g Inv-loop μ-loop
 cast-g c = search needs
@@ -45,10 +44,19 @@ loop-less c = search needs
 loop-again : tie.Need-loop-again Inv-loop μ-loop
 loop-again c =
     let at = c .before .before .loop in
-    (search needs, length-set (at .g .places) (at .h) _ ∙ at .inv .1, one-set (at .inv .2) (at .inv .1) (search needs))
+    let a = at .inv .1 in (
+      search needs,
+      record {
+        places = filled-more _ _ (at .h) _ (at .g .places) (a .places) (let s = a .places .size in omega arith) refl;
+        length = a .length;
+        sizes = a .sizes;
+        discs = a .discs;
+        inverses = a .inverses;
+      },
+    )
 
 returns : tie.Need-returns Inv-loop μ-loop
-returns c = all-set _ _ (omega arith) (c .before .loop .inv .2)
+returns c = all-placed _ _ _ _ _ (c .before .loop .inv .1) (omega arith)
 
 pub start-spec : {M : Type 1} → statement M
 start-spec =

@@ -1,21 +1,23 @@
 -- `copy` leaves what it copied. The invariant: the entries passed are those of the other slice.
-use mathlib.Core.Path.{_≡_}
-use Prim.Native.Nat.{_-_, _≤_}
+use mathlib.Core.Path.{refl, ap, _∙_}
+use Prim.Native.Nat.{ℕ, _-_}
 use native.Mathlib.Omega.{arith}
 use borrow.Author.Needs.{needs}
-use lib.ListN.{length}
-use Rattle.lists.proofs.Copy.{copied, copied-more, length-copied, copied-whole}
+use lib.ListN.{length, getD}
+use Rattle.lists.specs.Tabulate.{tabulate}
+use Rattle.lists.proofs.Filling.{Filled, filled-none, filled-more, filled-all}
+use Rattle.lists.proofs.Tabulated.{tabulate-getD}
 use Rattle.register_step.proofs.copy.copy.Statement.{statement}
 use Rattle.register_step.proofs.copy.copy.Tie as tie
 
 abbrev Inv-loop : tie.InvT-loop
-Inv-loop to₀ from i₀ to i = (i ≤ length from) × (to ≡ copied to₀ from i)
+Inv-loop to₀ from i₀ to i = Filled (λ k. getD from k 0) to₀ i to
 
 abbrev μ-loop : tie.MeasureT-loop
 μ-loop to₀ from i₀ to i = length from - i
 
 loop-holds : tie.Need-loop-holds Inv-loop μ-loop
-loop-holds c = search needs
+loop-holds c = filled-none _ _
 
 mul-to : tie.Need-mul-to Inv-loop μ-loop
 mul-to c = search needs
@@ -27,9 +29,7 @@ mul-to-2 : tie.Need-mul-to-2 Inv-loop μ-loop
 mul-to-2 c = search needs
 
 slice-write-to : tie.Need-slice-write-to Inv-loop μ-loop
-slice-write-to c =
-    let at = c .before .before .loop in
-    omega (arith, length-copied _ _ (at .i) (at .inv .1) (omega arith) (omega arith))
+slice-write-to c = let s = c .before .before .loop .inv .size in omega arith
 
 add-i : tie.Need-add-i Inv-loop μ-loop
 add-i c = search needs
@@ -38,17 +38,19 @@ loop-less : tie.Need-loop-less Inv-loop μ-loop
 loop-less c = search needs
 
 loop-again : tie.Need-loop-again Inv-loop μ-loop
-loop-again c = (search needs, copied-more _ _ _ 0 (c .before .before .loop .inv .1) (omega arith) (omega arith))
+loop-again c =
+    let at = c .before .before .loop in
+    filled-more _ _ (at .i) _ (at .to) (at .inv) (let s = at .inv .size in omega arith) refl
 
 same-length : tie.Need-same-length Inv-loop μ-loop
-same-length c =
-    let args = c .before .before .args in
-    length-copied (args .to .now) (args .from .now) (c .before .loop .i) (c .before .loop .inv .1) (omega arith) (omega arith)
+same-length c = c .before .loop .inv .size
 
 returns : tie.Need-returns Inv-loop μ-loop
 returns c =
-    let args = c .before .before .args in
-    copied-whole (args .to .now) (args .from .now) (c .before .loop .i) (c .before .loop .inv .1) (omega arith) (omega arith)
+    let start = c .before .before in
+    let from = start .args .from .now in
+    filled-all _ _ _ _ (c .before .loop .inv) (let s = c .before .loop .inv .size in omega arith)
+    ∙ ap (λ (n : ℕ). tabulate n (λ k. getD from k 0)) (start .pre) ∙ tabulate-getD from 0
 
 pub copy-spec : {M : Type 1} → statement M
 copy-spec =

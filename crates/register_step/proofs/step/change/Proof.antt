@@ -99,65 +99,34 @@ keep-requires : tie.Need-keep-requires
 unfolding stateOf
 keep-requires c κs = search needs
 
-add-next : tie.Need-add-next
-unfolding stateOf
-add-next c = search needs
-
-sub-next : tie.Need-sub-next
-unfolding stateOf
-sub-next c = search needs
-
-cast-next : tie.Need-cast-next
-unfolding stateOf
-cast-next c = search needs
-
-mul-next : tie.Need-mul-next
-mul-next c = search needs
-
-element-write-next : tie.Need-element-write-next
-element-write-next c = search needs
-
-cast-next-2 : tie.Need-cast-next-2
-unfolding stateOf
-cast-next-2 c = search needs
-
-mul-next-2 : tie.Need-mul-next-2
-mul-next-2 c = search needs
-
-element-write-next-2 : tie.Need-element-write-next-2
-element-write-next-2 c = search needs
-
-cast-next-3 : tie.Need-cast-next-3
-unfolding stateOf
-cast-next-3 c = search needs
-
-mul-next-3 : tie.Need-mul-next-3
-mul-next-3 c = search needs
-
-element-write-next-3 : tie.Need-element-write-next-3
-element-write-next-3 c = search needs
-
 inverse-requires : tie.Need-inverse-requires
 inverse-requires c κs = search needs
 
-cast-next-4 : tie.Need-cast-next-4
-cast-next-4 c = search needs
-
-mul-next-4 : tie.Need-mul-next-4
-mul-next-4 c = search needs
-
-element-write-next-4 : tie.Need-element-write-next-4
-element-write-next-4 c = search needs
+numbers-saved-requires : tie.Need-numbers-saved-requires
+unfolding stateOf
+numbers-saved-requires c κs =
+    let asked = start-of (divided (grew (reduced-before c))) .pre .0 in
+    record {
+      sequence = asked .sequence;
+      round = asked .round;
+      size = search needs;
+      discrepancy = search needs;
+      inverse = search needs;
+      place = asked .place;
+      saved-size = asked .saved-size;
+    }
 
 returns-2 : tie.Need-returns-2
 unfolding stateOf
 returns-2 c =
-    let product = divided (grew (reduced-before c)) in
+    let made = c .before in
+    let product = divided (grew (reduced-before made)) in
     let at = start-of product in
-    let long = grew (reduced-before c) .if1 .left in (
-      grows (at .pre .0) (at .pre .1) (is-quotient (at .pre .0) (at .pre .1) (product .product .ensures .0)) (reduced-before c .reduce2 .ensures) (lengths at)
-          (c .inverse .ensures .0) (c .before .keep .ensures) long,
-      saved-grows (at .pre .0) (at .pre .1) (c .before .keep .ensures) long,
+    let long = grew (reduced-before made) .if1 .left in (
+      rw (c .numbers-saved .ensures)
+          (grows (at .pre .0) (at .pre .1) (is-quotient (at .pre .0) (at .pre .1) (product .product .ensures .0)) (reduced-before made .reduce2 .ensures)
+          (lengths at) (made .inverse .ensures .0) (made .before .keep .ensures) long),
+      saved-grows (at .pre .0) (at .pre .1) (made .before .keep .ensures) long,
     )
 
 pub change-spec : {M : Type 1} → statement M
@@ -182,19 +151,6 @@ change-spec =
     reduce-requires-2
     slice-aggregate-keep
     keep-requires
-    add-next
-    sub-next
-    cast-next
-    mul-next
-    element-write-next
-    cast-next-2
-    mul-next-2
-    element-write-next-2
-    cast-next-3
-    mul-next-3
-    element-write-next-3
     inverse-requires
-    cast-next-4
-    mul-next-4
-    element-write-next-4
+    numbers-saved-requires
     returns-2)

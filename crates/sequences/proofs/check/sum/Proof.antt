@@ -1,22 +1,21 @@
 -- `sum` answers the sum of the lengths. The invariant: it is that of the lengths passed.
-use mathlib.Core.Path.{_≡_, refl, sym}
-use Prim.Native.Nat.{_-_, _*_, _≤_}
+use mathlib.Core.Path.{refl}
+use Prim.Native.Nat.{_-_}
 use native.Mathlib.Omega.{arith}
 use borrow.Author.Needs.{needs}
 use lib.ListN.{length, getD}
-use Rattle.lists.proofs.Totals.{total-zero, total-more, total-all}
-use Rattle.lists.specs.Total.{total}
+use Rattle.lists.proofs.Summing.{Summed, summed-none, summed-more, summed-all}
 use Rattle.sequences.proofs.check.sum.Statement.{statement}
 use Rattle.sequences.proofs.check.sum.Tie as tie
 
 abbrev Inv-loop : tie.InvT-loop
-Inv-loop lengths all₀ h₀ all h = (h ≤ length lengths) × (all ≤ h * 65535) × (all ≡ total h (λ k. getD lengths k 0))
+Inv-loop lengths all₀ h₀ all h = Summed (length lengths) 65535 (λ k. getD lengths k 0) h all
 
 abbrev μ-loop : tie.MeasureT-loop
 μ-loop lengths all₀ h₀ all h = length lengths - h
 
 loop-holds : tie.Need-loop-holds Inv-loop μ-loop
-loop-holds c = (search needs, search needs, sym (total-zero _))
+loop-holds c = summed-none _ _ _
 
 mul-all : tie.Need-mul-all Inv-loop μ-loop
 mul-all c = search needs
@@ -37,10 +36,12 @@ loop-less : tie.Need-loop-less Inv-loop μ-loop
 loop-less c = search needs
 
 loop-again : tie.Need-loop-again Inv-loop μ-loop
-loop-again c = (search needs, omega (arith, c .shared-slice-known .given (c .before .before .loop .h)), total-more _ _ (c .before .before .loop .inv .2) refl)
+loop-again c =
+    let at = c .before .before .loop in
+    summed-more _ _ _ (at .h) (at .all) (at .inv) _ (search needs) refl (omega (arith, c .shared-slice-known .given (at .h)))
 
 returns : tie.Need-returns Inv-loop μ-loop
-returns c = total-all _ (c .before .loop .inv .2) (omega arith)
+returns c = summed-all _ _ _ _ _ (c .before .loop .inv) (c .loop-test .left)
 
 pub sum-spec : {M : Type 1} → statement M
 sum-spec =

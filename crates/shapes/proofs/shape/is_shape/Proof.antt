@@ -3,7 +3,9 @@ use mathlib.Core.Path.{refl, sym, _∙_}
 use mathlib.Core.Bool.{true, false}
 use native.Mathlib.Omega.{arith}
 use borrow.Author.Tests.{not-true, not-false}
-use Rattle.frame.proofs.ShapeTests.{few-rows, is-shape-by}
+use Rattle.frame.proofs.ShapeTests.{is-shape-by}
+use Rattle.frame.specs.Shape.{rowsInRange}
+use Rattle.refusal.proofs.Ranges.{range-most}
 use borrow.Author.Needs.{needs}
 use Rattle.shapes.proofs.shape.is_shape.Statement.{statement}
 use Rattle.shapes.proofs.shape.is_shape.Tie as tie
@@ -24,9 +26,10 @@ returns-2 c =
     (sym (c .before .columns-in-range .ensures) ∙ not-true _ (c .if2 .taken)) refl
 
 checks-in-range-requires : tie.Need-checks-in-range-requires
+unfolding rowsInRange
 checks-in-range-requires c κs =
     let tested = c .before .before .before .before .before in
-    let few = few-rows _ (sym (tested .before .rows-in-range .ensures) ∙ not-false _ (tested .if1 .left)) in
+    let few = range-most 1 8 (tested .before .before .args .t1 .rows) (sym (tested .before .rows-in-range .ensures) ∙ not-false _ (tested .if1 .left)) in
     omega arith
 
 returns-3 : tie.Need-returns-3

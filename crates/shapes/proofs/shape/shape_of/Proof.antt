@@ -1,22 +1,22 @@
 -- `shapes::shape::shape_of` meets its contract.
-use mathlib.Core.Path.{_≡_, refl, ap, _∙_}
-use Prim.Native.Nat.{_-_, _≤_}
+use mathlib.Core.Path.{refl}
+use Prim.Native.Nat.{_-_}
 use native.Mathlib.Omega.{arith}
-use lib.ListN.{length}
-use Rattle.lists.proofs.Copy.{copied, copied-more}
+use lib.ListN.{getD, List·getD-eq-default}
+use Rattle.lists.proofs.Filling.{Filled, filled-none, filled-more, filled-zeros}
 use Rattle.lists.proofs.Zeros.{zeros}
 use Rattle.frame.proofs.ShapeTests.{shape-held}
 use Rattle.shapes.proofs.shape.shape_of.Statement.{statement}
 use Rattle.shapes.proofs.shape.shape_of.Tie as tie
 
 abbrev Inv-loop : tie.InvT-loop
-Inv-loop columns checks rows held₀ h₀ held h = (h ≤ rows) × (held ≡ copied held₀ checks h)
+Inv-loop columns checks rows held₀ h₀ held h = Filled (λ k. getD checks k 0) (zeros 8) h held
 
 abbrev μ-loop : tie.MeasureT-loop
 μ-loop columns checks rows held₀ h₀ held h = rows - h
 
 loop-holds : tie.Need-loop-holds Inv-loop μ-loop
-loop-holds c = (omega arith, refl)
+loop-holds c = filled-none _ _
 
 mul-held : tie.Need-mul-held Inv-loop μ-loop
 mul-held c = omega arith
@@ -38,15 +38,15 @@ loop-less c = omega arith
 
 loop-again : tie.Need-loop-again Inv-loop μ-loop
 loop-again c =
-    let at = c .before .before in
-    (omega arith, copied-more (zeros 8) (at .before .args .checks .now) (at .loop .h) 0 (at .loop .inv .1) (omega arith) (omega arith))
+    let at = c .before .before .loop in
+    filled-more _ _ (at .h) _ (at .held) (at .inv) (let s = at .inv .size in omega arith) refl
 
 returns : tie.Need-returns Inv-loop μ-loop
 returns c =
     let start = c .before .before in
-    let at = c .before .loop in
-    shape-held (start .args .columns) (start .args .checks .now) (at .held) (start .pre)
-    (at .inv .1 ∙ ap (copied (zeros 8) (start .args .checks .now)) (let q : at .h ≡ length (start .args .checks .now) = omega arith in q))
+    let a = c .before .loop .inv in
+    shape-held _ (start .args .checks .now) _ (start .pre)
+    (filled-zeros _ 8 _ _ a (λ k h. List·getD-eq-default (start .args .checks .now) 0 (omega arith))) (a .size)
 
 pub shape-of-spec : {M : Type 1} → statement M
 shape-of-spec =

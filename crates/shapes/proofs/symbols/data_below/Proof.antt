@@ -1,19 +1,20 @@
 -- `shapes::symbols::data_below` meets its contract.
-use mathlib.Core.Path.{_≡_, sym, _∙_}
+use mathlib.Core.Path.{_≡_, refl, _∙_}
 use mathlib.Core.Bool.{true}
-use Prim.Native.Nat.{ℕ, _-_, _≤_, _<_}
+use Prim.Native.Nat.{_-_}
 use native.Mathlib.Omega.{arith}
 use lib.ListN.{length}
-use borrow.Author.Count.{below-none, below-more}
 use borrow.Author.Tests.{not-true, not-false}
-use Rattle.frame.proofs.FrameTests.{rowTest, row-tested, data-fails, data-passes}
+use Rattle.frame.specs.Encode.{dataBelow}
+use Rattle.frame.proofs.FrameTests.{rowTest, row-tested}
+use Rattle.lists.proofs.Testing.{Tested, tested-none, tested-out, tested-pass, tested-all}
 use Rattle.frame.proofs.RowPlace.{RowPlace, row-place}
 use borrow.Author.Needs.{needs}
 use Rattle.shapes.proofs.symbols.data_below.Statement.{statement}
 use Rattle.shapes.proofs.symbols.data_below.Tie as tie
 
 abbrev Inv-loop : tie.InvT-loop
-Inv-loop frame s rows columns h₀ h = (h ≤ rows) × ((k : ℕ) → k < h → rowTest s frame k ≡ true)
+Inv-loop frame s rows columns h₀ h = Tested rows (rowTest s frame) h true
 
 abbrev μ-loop : tie.MeasureT-loop
 μ-loop frame s rows columns h₀ h = rows - h
@@ -34,7 +35,7 @@ tested c =
     row-tested _ _ _ (read .wide .result) _ (place (read .before .before)) (read .wide .ensures .0) (c .all-below .ensures)
 
 loop-holds : tie.Need-loop-holds Inv-loop μ-loop
-loop-holds c = (omega arith, below-none _)
+loop-holds c = tested-none _ _
 
 mul-from : tie.Need-mul-from Inv-loop μ-loop
 mul-from c = let p = place c in omega arith
@@ -76,9 +77,10 @@ all-below-requires : tie.Need-all-below-requires Inv-loop μ-loop
 all-below-requires c κs = search needs
 
 returns : tie.Need-returns Inv-loop μ-loop
+unfolding dataBelow
 returns c =
     let inside = c .before .before .before .before .before in
-    sym (data-fails _ _ (inside .before .loop .h) (inside .loop-test .taken) (tested (c .before) ∙ not-true _ (c .if1 .taken)))
+    tested-out _ _ (inside .before .loop .h) (inside .loop-test .taken) (tested (c .before) ∙ not-true _ (c .if1 .taken))
 
 add-h : tie.Need-add-h Inv-loop μ-loop
 add-h c = omega arith
@@ -88,15 +90,13 @@ loop-less c = omega arith
 
 loop-again : tie.Need-loop-again Inv-loop μ-loop
 loop-again c =
-    let at = c .before .before .before .before .before .before in
-    let start = at .before .before in (
-      omega arith,
-      below-more (λ k. rowTest (start .args .t1) (start .args .frame .now) k ≡ true) (at .loop .h) (at .loop .inv .1)
-          (tested (c .before) ∙ not-false _ (c .if1 .left)),
-    )
+    let inside = c .before .before .before .before .before in
+    let at = inside .before .loop in
+    tested-pass _ _ (at .h) true (at .inv) (inside .loop-test .taken) true refl (tested (c .before) ∙ not-false _ (c .if1 .left))
 
 returns-2 : tie.Need-returns-2 Inv-loop μ-loop
-returns-2 c = sym (data-passes _ _ (λ k l. c .before .loop .inv .1 k (omega arith)))
+unfolding dataBelow
+returns-2 c = tested-all _ _ _ _ (c .before .loop .inv) (c .loop-test .left)
 
 pub data-below-spec : {M : Type 1} → statement M
 data-below-spec =

@@ -1,10 +1,11 @@
--- `completion::row::read_off` meets its contract.
+-- `completion::cell::read_off` meets its contract.
 use Prim.Native.Nat.{_+_, _-_}
 use native.Mathlib.Omega.{arith}
-use Rattle.completion.proofs.Reading.{Read, read-none, read-more, read-fits, read-all}
+use Rattle.completion.proofs.Reading.{Read, read-more, read-fits, read-all}
+use Rattle.lists.proofs.Summing.{summed-none}
 use borrow.Author.Needs.{needs}
-use Rattle.completion.proofs.row.read_off.Statement.{statement}
-use Rattle.completion.proofs.row.read_off.Tie as tie
+use Rattle.completion.proofs.cell.read_off.Statement.{statement}
+use Rattle.completion.proofs.cell.read_off.Tie as tie
 
 abbrev Inv-loop : tie.InvT-loop
 Inv-loop coefficients sums m total₀ k₀ total k = Read coefficients sums k total
@@ -13,7 +14,7 @@ abbrev μ-loop : tie.MeasureT-loop
 μ-loop coefficients sums m total₀ k₀ total k = m - k
 
 loop-holds : tie.Need-loop-holds Inv-loop μ-loop
-loop-holds c = read-none _ _
+loop-holds c = summed-none _ _ _
 
 mul-times : tie.Need-mul-times Inv-loop μ-loop
 mul-times c = omega arith
@@ -36,19 +37,28 @@ shared-slice-read-times-2 c = omega arith
 times-requires : tie.Need-times-requires Inv-loop μ-loop
 times-requires c κs = search needs
 
+-- the ways back
+abbrev looped : tie.After-times Inv-loop μ-loop → tie.At-loop Inv-loop μ-loop
+looped c = c .before .before .before .before
+
+abbrev start-of : tie.At-loop Inv-loop μ-loop → tie.Start Inv-loop μ-loop
+start-of c = c .before .before .before
+
 -- one coefficient more
 grown : (c : tie.After-times Inv-loop μ-loop) →
-    let loop = c .before .before .before .before .loop in
-    let args = c .before .before .before .before .before .before .before .args in
+    let loop = looped c .loop in
+    let args = start-of (looped c) .args in
     Read (args .coefficients .now) (args .sums .now) (loop .k + 1) (loop .total + c .times .result)
 grown c =
-    let at = c .before .before .before .before in
-    read-more _ _ (at .loop .k) (at .loop .total) (at .loop .inv) (c .times .result) (c .before .before .before .loop-test .taken) (c .times .ensures)
+    let at = looped c in
+    let start = start-of at in
+    read-more (start .args .coefficients .now) (start .args .sums .now) (at .loop .k) (at .loop .total) (at .loop .inv) (c .times .result)
+    (c .before .before .before .loop-test .taken) (c .times .ensures) (at .before .before .shared-slice-known .given (at .loop .k)) (start .pre .sums-small _)
 
 add-total : tie.Need-add-total Inv-loop μ-loop
 add-total c =
-    let entered = c .before .before .before .before .before .before in
-    read-fits _ _ _ _ (grown c) (entered .before .pre .few) (entered .shared-slice-known .given) (entered .before .pre .sums-small)
+    let start = start-of (looped c) in
+    read-fits (start .args .coefficients .now) (start .args .sums .now) _ _ (grown c) (start .pre .few)
 
 add-k : tie.Need-add-k Inv-loop μ-loop
 add-k c = omega arith
@@ -63,7 +73,9 @@ cast-result : tie.Need-cast-result Inv-loop μ-loop
 cast-result c = omega arith
 
 returns : tie.Need-returns Inv-loop μ-loop
-returns c = read-all _ _ _ _ (c .before .loop .inv) (c .loop-test .left)
+returns c =
+    let args = start-of (c .before) .args in
+    read-all (args .coefficients .now) (args .sums .now) _ _ (c .before .loop .inv) (c .loop-test .left)
 
 pub read-off-spec : {M : Type 1} → statement M
 read-off-spec =

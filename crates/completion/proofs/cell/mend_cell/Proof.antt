@@ -1,8 +1,8 @@
--- `completion::row::mend_cell` meets its contract.
+-- `completion::cell::mend_cell` meets its contract.
 use borrow.Author.Needs.{needs}
 use Rattle.completion.proofs.RowMending.{cell-written}
-use Rattle.completion.proofs.row.mend_cell.Statement.{statement}
-use Rattle.completion.proofs.row.mend_cell.Tie as tie
+use Rattle.completion.proofs.cell.mend_cell.Statement.{statement}
+use Rattle.completion.proofs.cell.mend_cell.Tie as tie
 
 read-off-requires : tie.Need-read-off-requires
 read-off-requires c κs = search needs

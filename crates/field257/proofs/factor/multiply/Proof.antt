@@ -1,25 +1,21 @@
--- `encoder::generator::multiply` meets its contract.
+-- `field257::factor::multiply` meets its contract.
 use mathlib.Core.Path.{refl}
-use Prim.Native.Nat.{_-_}
+use Prim.Native.Nat.{_-_, _*_, _≤_}
 use native.Mathlib.Omega.{arith}
 use lib.ListN.{length}
 use Rattle.field.proofs.Multiplication.{Multiplied, multiplied-none, multiplied-more, multiplied-all, product-fits}
-use Rattle.encoder.proofs.GeneratorBuilding.{raised}
 use borrow.Author.Needs.{needs}
-use Rattle.encoder.proofs.generator.multiply.Statement.{statement}
-use Rattle.encoder.proofs.generator.multiply.Tie as tie
+use Rattle.field257.proofs.factor.multiply.Statement.{statement}
+use Rattle.field257.proofs.factor.multiply.Tie as tie
 
 abbrev Inv-loop : tie.InvT-loop
-Inv-loop f₀ x minus below₀ k₀ f below k = Multiplied (raised x) f₀ k below f
+Inv-loop f₀ a b below₀ k₀ f below k = Multiplied 257 a b f₀ k below f
 
 abbrev μ-loop : tie.MeasureT-loop
-μ-loop f₀ x minus below₀ k₀ f below k = length f₀ - k
-
-sub-minus : tie.Need-sub-minus Inv-loop μ-loop
-sub-minus c = omega arith
+μ-loop f₀ a b below₀ k₀ f below k = length f₀ - k
 
 loop-holds : tie.Need-loop-holds Inv-loop μ-loop
-loop-holds c = multiplied-none (raised (c .before .args .x)) _
+loop-holds c = multiplied-none _ _ _ _
 
 mul-wide : tie.Need-mul-wide Inv-loop μ-loop
 mul-wide c = omega arith
@@ -30,17 +26,28 @@ slice-read-wide c = omega arith
 wide-requires : tie.Need-wide-requires Inv-loop μ-loop
 wide-requires c κs = search needs
 
+-- the two products
+below-fits : (c : tie.After-wide Inv-loop μ-loop) →
+    let at = c .before .before .before in at .before .before .args .a * at .loop .below ≤ 257 * 65535
+below-fits c = let at = c .before .before .before in product-fits _ _ (at .before .before .pre .0) (at .loop .inv .fits)
+
+own-fits : (c : tie.After-wide Inv-loop μ-loop) → c .before .before .before .before .before .args .b * c .wide .result ≤ 257 * 65535
+own-fits c = product-fits _ _ (c .before .before .before .before .before .pre .1) (omega arith)
+
 mul-f : tie.Need-mul-f Inv-loop μ-loop
-mul-f c = omega (arith, product-fits (257 - c .before .before .before .before .before .args .x) (c .wide .result) (omega arith) (omega arith))
+mul-f c = omega (arith, below-fits c)
+
+mul-f-2 : tie.Need-mul-f-2 Inv-loop μ-loop
+mul-f-2 c = omega (arith, own-fits c)
 
 add-f : tie.Need-add-f Inv-loop μ-loop
-add-f c = omega (arith, product-fits (257 - c .before .before .before .before .before .args .x) (c .wide .result) (omega arith) (omega arith))
+add-f c = omega (arith, below-fits c, own-fits c)
 
 cast-f : tie.Need-cast-f Inv-loop μ-loop
 cast-f c = omega arith
 
-mul-f-2 : tie.Need-mul-f-2 Inv-loop μ-loop
-mul-f-2 c = omega arith
+mul-f-3 : tie.Need-mul-f-3 Inv-loop μ-loop
+mul-f-3 c = omega arith
 
 slice-write-f : tie.Need-slice-write-f Inv-loop μ-loop
 slice-write-f c = let s = c .before .before .before .loop .inv .filled .size in omega arith
@@ -55,14 +62,14 @@ loop-again : tie.Need-loop-again Inv-loop μ-loop
 loop-again c =
     let at = c .before .before .before in
     let start = at .before .before in
-    multiplied-more (raised (start .args .x)) (start .args .f .now) (at .loop .k) (at .loop .below) (at .loop .f) (at .loop .inv)
+    multiplied-more 257 (start .args .a) (start .args .b) (start .args .f .now) (at .loop .k) (at .loop .below) (at .loop .f) (at .loop .inv)
     (c .wide .result) _ (omega arith) (c .wide .ensures .0) (omega arith) refl
 
 same-length : tie.Need-same-length Inv-loop μ-loop
 same-length c = omega arith
 
 returns : tie.Need-returns Inv-loop μ-loop
-returns c = multiplied-all (raised (c .before .before .before .args .x)) _ _ _ _ (c .before .loop .inv) (omega arith)
+returns c = multiplied-all _ _ _ _ _ _ _ (c .before .loop .inv) (omega arith)
 
 pub multiply-spec : {M : Type 1} → statement M
 multiply-spec =
@@ -70,15 +77,15 @@ multiply-spec =
     (tie.spec
     Inv-loop
     μ-loop
-    sub-minus
     loop-holds
     mul-wide
     slice-read-wide
     wide-requires
     mul-f
+    mul-f-2
     add-f
     cast-f
-    mul-f-2
+    mul-f-3
     slice-write-f
     add-k
     loop-less

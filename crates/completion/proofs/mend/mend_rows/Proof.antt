@@ -1,0 +1,165 @@
+-- `completion::mend::mend_rows` meets its contract.
+use mathlib.Core.Path.{_≡_}
+use Prim.Native.Nat.{ℕ, _+_, _-_, _≤_}
+use native.Mathlib.Omega.{arith}
+use lib.ListN.{length}
+use borrow.Rule.Slice.PartMut.{mid-len}
+use Rattle.columns.proofs.Walk.{walk-rises}
+use Rattle.weights.proofs.ColumnWeights.{Weighed, weighed-column}
+use Rattle.completion.proofs.ColumnMending.{still-lent}
+use Rattle.completion.proofs.MendedFrame.{FrameMending, mending-none, mending-more, mending-all}
+use borrow.Author.Needs.{needs}
+use Rattle.completion.proofs.mend.mend_rows.Statement.{statement}
+use Rattle.completion.proofs.mend.mend_rows.Tie as tie
+
+abbrev Inv-loop : tie.InvT-loop
+Inv-loop s set sums frame₀ powers m f coefficients₀ i₀ frame coefficients i = (d : ℕ) × (length coefficients ≡ 64) × FrameMending set s sums frame₀ d i frame
+
+abbrev μ-loop : tie.MeasureT-loop
+μ-loop s set sums frame₀ powers m f coefficients₀ i₀ frame coefficients i = 256 - i
+
+-- the ways back
+abbrev start-of : tie.After-size Inv-loop μ-loop → tie.Start Inv-loop μ-loop
+start-of c = c .before .before .before .before
+
+abbrev sized : tie.At-loop Inv-loop μ-loop → tie.After-size Inv-loop μ-loop
+sized c = c .before .before .before .before
+
+abbrev in-loop : tie.After-weigh Inv-loop μ-loop → tie.In-loop Inv-loop μ-loop
+in-loop c = c .before .before .before .before
+
+abbrev weighed-before : tie.After-mend-column-arg2 Inv-loop μ-loop → tie.After-weigh Inv-loop μ-loop
+weighed-before c = c .before .before .before .before
+
+few : (c : tie.After-size Inv-loop μ-loop) → c .size .result ≤ 64
+few c = omega (arith, c .size .ensures, start-of c .pre .few)
+
+powers-requires : tie.Need-powers-requires Inv-loop μ-loop
+powers-requires c κs = search needs
+
+size-requires : tie.Need-size-requires Inv-loop μ-loop
+size-requires c κs = search needs
+
+locator-polynomial-requires : tie.Need-locator-polynomial-requires Inv-loop μ-loop
+locator-polynomial-requires c κs = (c .before .before .powers .ensures, omega (arith, few (c .before), c .before .size .ensures))
+
+next-requires : tie.Need-next-requires Inv-loop μ-loop
+next-requires c κs = search needs
+
+loop-holds : tie.Need-loop-holds Inv-loop μ-loop
+loop-holds c = (0, omega arith, mending-none _ _ _ _ (start-of (c .before .before .before) .pre .lent .whole) _ (c .next .ensures))
+
+sub-weigh : tie.Need-sub-weigh Inv-loop μ-loop
+sub-weigh c = omega arith
+
+part-coefficients-start : tie.Need-part-coefficients-start Inv-loop μ-loop
+part-coefficients-start c = omega arith
+
+part-coefficients-end : tie.Need-part-coefficients-end Inv-loop μ-loop
+part-coefficients-end c = omega (arith, few (sized (c .before .before .before)))
+
+weigh-requires : tie.Need-weigh-requires Inv-loop μ-loop
+weigh-requires c κs =
+    let inside = c .before .before .before in
+    let at = inside .before in
+    let small = few (sized at) in
+    let part = mid-len 0 (sized at .size .result) (at .loop .coefficients) (let s = at .loop .inv .1 in omega arith) in
+    record { powers-known = sized at .before .powers .ensures; column = inside .loop-test .taken; few = omega arith }
+
+-- the coefficients that are lent on
+weighed : (c : tie.After-weigh Inv-loop μ-loop) →
+    let at = in-loop c .before in
+    Weighed (start-of (sized at) .args .set) (at .loop .i) (sized at .size .result) (at .loop .coefficients) (c .weigh .last .1 .1 .1 .0)
+weighed c =
+    let at = in-loop c .before in
+    let named = at .before .before .locator-polynomial in
+    let (d, size, mending) = at .loop .inv in
+    weighed-column _ d (at .loop .i) (mending .walk) (in-loop c .loop-test .taken) (named .result) (named .ensures) (sized at .size .result)
+    (at .loop .coefficients) _ (sized at .size .ensures) (few (sized at)) size (c .weigh .ensures)
+
+sub-mend-column : tie.Need-sub-mend-column Inv-loop μ-loop
+sub-mend-column c = omega arith
+
+part-mend-column-start : tie.Need-part-mend-column-start Inv-loop μ-loop
+part-mend-column-start c = omega arith
+
+part-mend-column-end : tie.Need-part-mend-column-end Inv-loop μ-loop
+part-mend-column-end c =
+    let written = c .before .before .before in
+    let l = weighed written .long in
+    omega (arith, few (sized (in-loop written .before)))
+
+mend-column-requires : tie.Need-mend-column-requires Inv-loop μ-loop
+mend-column-requires c κs =
+    let written = weighed-before c in
+    let at = in-loop written .before in
+    let asked = start-of (sized at) .pre in
+    let mending = at .loop .inv .2 in
+    let m = weighed written .count in
+    record {
+      lent = still-lent _ _ _ _ (asked .lent) (mending .size);
+      inside = asked .below (at .loop .i) (mending .walk .marked (in-loop written .loop-test .taken));
+      reach = λ h l. let e = asked .reach h l in omega arith;
+    }
+
+add-next : tie.Need-add-next Inv-loop μ-loop
+add-next c = let t = in-loop (weighed-before (c .before .before .before)) .loop-test .taken in omega arith
+
+next-requires-2 : tie.Need-next-requires-2 Inv-loop μ-loop
+next-requires-2 c κs = search needs
+
+loop-less : tie.Need-loop-less Inv-loop μ-loop
+loop-less c =
+    let inside = in-loop (weighed-before (c .before .before .before .before)) in
+    let t = inside .loop-test .taken in
+    let r = walk-rises _ _ _ (inside .before .loop .inv .2 .walk) _ t (c .next2 .ensures) in
+    omega arith
+
+loop-again : tie.Need-loop-again Inv-loop μ-loop
+loop-again c =
+    let mended = c .before .before .before in
+    let written = weighed-before (mended .before) in
+    let at = in-loop written .before in
+    let (d, size, mending) = at .loop .inv in
+    let w = weighed written in (
+      d + 1,
+      w .long,
+      mending-more _ _ _ _ (start-of (sized at) .pre .lent .whole) d (at .loop .i) (at .loop .frame) mending (c .next2 .result) _ _
+          (in-loop written .loop-test .taken) (c .next2 .ensures) (w .lent) (mended .mend-column .ensures),
+    )
+
+same-length : tie.Need-same-length Inv-loop μ-loop
+same-length c = c .before .loop .inv .2 .size
+
+returns : tie.Need-returns Inv-loop μ-loop
+returns c =
+    let at = c .before in
+    let asked = start-of (sized at) .pre in
+    mending-all _ _ _ _ (asked .lent .whole) (asked .lent .narrow) (asked .small) (asked .held) (asked .below) (asked .reach) _ _ _ (at .loop .inv .2)
+    (c .loop-test .left)
+
+pub mend-rows-spec : {M : Type 1} → statement M
+mend-rows-spec =
+    tie.close
+    (tie.spec
+    Inv-loop
+    μ-loop
+    powers-requires
+    size-requires
+    locator-polynomial-requires
+    next-requires
+    loop-holds
+    sub-weigh
+    part-coefficients-start
+    part-coefficients-end
+    weigh-requires
+    sub-mend-column
+    part-mend-column-start
+    part-mend-column-end
+    mend-column-requires
+    add-next
+    next-requires-2
+    loop-less
+    loop-again
+    same-length
+    returns)
