@@ -2,6 +2,7 @@ pub mod Digits
 pub mod Frames
 pub mod Lines
 pub mod Numbers
+pub mod Numerals
 pub mod Parsing
 pub mod Registers
 pub mod Spacing

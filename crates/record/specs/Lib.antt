@@ -1,5 +1,6 @@
 pub mod Answered
 pub mod Line
+pub mod Numerals
 pub mod Record
 pub mod Text
 pub mod Written

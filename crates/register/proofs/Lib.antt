@@ -8,6 +8,7 @@ pub mod FieldStep
 pub mod Generators
 pub mod InOrder
 pub mod Largest
+pub mod Lent
 pub mod Ordering
 pub mod Splitting
 pub mod Stable
