@@ -1,11 +1,12 @@
 -- Encoding: the check cells of each row are filled from its data cells (SPECIFICATION.md, "Jobs" and "Frames"). Checks sit in columns 0 .. N_h − 1.
 use mathlib.Core.Path.{_≡_}
 use mathlib.Core.Bool.{Bool, not, _||_}
-use mathlib.Core.List.{List, [], _∷_, _++_}
+use mathlib.Core.List.{List, [], _∷_}
 use Prim.Native.Nat.{ℕ, zero, suc, _*_, _≤_, _<_}
 use lib.Dec.{ltb, eqb}
-use lib.ListN.{length, take, drop}
+use lib.ListN.{length}
 use Rattle.columns.specs.Columns.{columnsOf}
+use Rattle.lists.specs.Parts.{replaced}
 use Rattle.lists.specs.Tabulate.{every}
 use Rattle.refusal.specs.Order.{Test}
 use Rattle.frame.specs.Completion.{completed}
@@ -15,7 +16,7 @@ use Rattle.frame.specs.declared.Shape.{Shape}
 
 -- a frame of n columns with x in the place of its row h
 abbrev pub withRow : (n : ℕ) (f : List ℕ) (h : ℕ) (x : List ℕ) → List ℕ
-withRow n f h x = take (h * n) f ++ (x ++ drop n (drop (h * n) f))
+withRow n f h x = replaced (h * n) n f x
 
 -- a frame of n columns with each row h below `rows` changed by g h
 unfoldable pub eachRow : (n : ℕ) (g : ℕ → List ℕ → List ℕ) (rows : ℕ) (f : List ℕ) → List ℕ

@@ -5,11 +5,9 @@ use Prim.Native.Nat.{ℕ, _+_, _-_, _≤_, _<_}
 use native.Mathlib.Omega.{arith}
 use lib.ListN.{length, getD, take, drop, length-append, length-drop, List·getD-append}
 use lib.Seq.{length-take-le, getD-take, getD-drop, getD-append-add, take-at, drop-at}
+use Rattle.lists.specs.Parts.{replaced}
 
 module _ {ℓ} {A : Type ℓ} where
-  abbrev pub replaced : (a n : ℕ) (xs ys : List A) → List A
-  replaced a n xs ys = take a xs ++ (ys ++ drop n (drop a xs))
-
   module _ (a n : ℕ) (xs ys : List A) (inside : a + n ≤ length xs) (fits : length ys ≡ n) where
     front : length (take a xs) ≡ a
     front = length-take-le a xs (omega arith)

@@ -1,2 +1,3 @@
+pub mod Parts
 pub mod Tabulate
 pub mod Total

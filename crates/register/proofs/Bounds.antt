@@ -9,7 +9,7 @@ use lib.Dec.{eqb}
 use lib.ListN.{length, getD}
 use Rattle.lists.specs.Total.{total}
 use Rattle.field.proofs.Coefficients.{length-reduced, reduced-residues}
-use Rattle.register.specs.Algorithm4.{Saved, State, start, replaced, step, turn, rounds}
+use Rattle.register.specs.Algorithm4.{Saved, State, start, withSaved, step, turn, rounds}
 use Rattle.register.specs.Register.{discrepancy}
 use Rattle.register.specs.Sequences.{symbol}
 use Rattle.register.proofs.Cases.{cond-cases, grown, stayed, changed-cases, step-cases}
@@ -33,8 +33,8 @@ unfolding discrepancy
 discrepancy-less p l σ s j pos = mod-lt (total (suc l) (λ i. getD σ i 0 * symbol s (j - i))) pos
 
 -- what holds of what is put in and of what was there holds of all that is kept
-pub replaced-all : (P : Saved → Type 0) (saved : ℕ → Saved) (h : ℕ) (v : Saved) (g : ℕ) → P v → P (saved g) → P (replaced saved h v g)
-unfolding replaced
+pub replaced-all : (P : Saved → Type 0) (saved : ℕ → Saved) (h : ℕ) (v : Saved) (g : ℕ) → P v → P (saved g) → P (withSaved saved h v g)
+unfolding withSaved
 replaced-all P saved h v g new old = cond-cases P (eqb g h) v (saved g) (λ _. new) (λ _. old)
 
 module _ (p N : ℕ) (ss : List (List ℕ)) (two : 2 ≤ p) where

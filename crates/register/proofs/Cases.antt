@@ -9,7 +9,7 @@ use lib.ListN.{length}
 use borrow.Author.Tests.{ltb-true, ltb-false, eqb-true, eqb-false}
 use Rattle.field.specs.Coefficients.{reduced}
 use Rattle.field.specs.Residue.{quotient}
-use Rattle.register.specs.Algorithm4.{State, replaced, changed, step}
+use Rattle.register.specs.Algorithm4.{State, withSaved, changed, step}
 use Rattle.register.specs.Register.{discrepancy}
 
 -- what holds of both values holds of the one that a test picks
@@ -29,7 +29,7 @@ module _ (p n h d : ℕ) (st : State) where
       record {
         size = l;
         taps = changedTaps l;
-        saved = replaced (st .saved) h (record { place = n; size = st .size; disc = d; taps = st .taps });
+        saved = withSaved (st .saved) h (record { place = n; size = st .size; disc = d; taps = st .taps });
       }
 
   abbrev pub stayed : State

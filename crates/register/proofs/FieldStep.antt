@@ -20,7 +20,7 @@ module _ (F : Field) (n h : ℕ) (st : Step.State (F .ring .car)) where
       → Step.changed F n h d st ≡ record {
         size = n + st .saved h .size - st .saved h .place;
         taps = changedPoly d;
-        saved = Step.replaced (st .saved) h (record { place = n; size = st .size; disc = d; taps = st .taps });
+        saved = Step.withSaved (st .saved) h (record { place = n; size = st .size; disc = d; taps = st .taps });
       }
   unfolding Step.changed
   grows d e = rw (lt-ltb (st .saved h .place + st .size) (n + st .saved h .size) e)

@@ -33,8 +33,8 @@ start N ss =
     }
 
 -- what is kept, with v in the place of what was kept for h
-unfoldable pub replaced : (ℕ → Saved) → ℕ → Saved → ℕ → Saved
-replaced saved h v g = cond (eqb g h) v (saved g)
+unfoldable pub withSaved : (ℕ → Saved) → ℕ → Saved → ℕ → Saved
+withSaved saved h v g = cond (eqb g h) v (saved g)
 
 -- the register changed by a discrepancy d ≠ 0 at (n, h). The test is n − l > n_h − l_h, and the new length n − (n_h − l_h).
 unfoldable pub changed : (p n h d : ℕ) → State → State
@@ -46,7 +46,7 @@ changed p n h d st =
     (record {
       size = grown;
       taps = taps grown;
-      saved = replaced (st .saved) h (record { place = n; size = st .size; disc = d; taps = st .taps });
+      saved = withSaved (st .saved) h (record { place = n; size = st .size; disc = d; taps = st .taps });
     })
     (record { size = st .size; taps = taps (st .size); saved = st .saved })
 

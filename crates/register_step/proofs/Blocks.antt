@@ -8,7 +8,8 @@ use native.Mathlib.Omega.{arith}
 use lib.ListN.{length, getD, take, drop, length-take, length-drop}
 use lib.Seq.{ext-getD, getD-take}
 use Rattle.lists.proofs.Entries.{getD-part}
-use Rattle.lists.proofs.Parts.{replaced, length-replaced, part-replaced, replaced-before, replaced-after}
+use Rattle.lists.specs.Parts.{replaced}
+use Rattle.lists.proofs.Parts.{length-replaced, part-replaced, replaced-before, replaced-after}
 use Rattle.register_step.specs.Progress.{block}
 
 -- entry i of the m + 1 taps that are saved for h

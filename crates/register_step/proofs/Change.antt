@@ -14,9 +14,9 @@ use Rattle.field.specs.Coefficients.{reduced, shifted}
 use Rattle.field.specs.Residue.{minus, times, inverse, quotient}
 use Rattle.field.proofs.Coefficients.{length-reduced, getD-reduced, getD-reduced-past}
 use Rattle.lists.proofs.Entries.{getD-take-past}
-use Rattle.lists.proofs.Parts.{replaced as in-place}
+use Rattle.lists.specs.Parts.{replaced}
 use Rattle.register.proofs.Cases.{changed-cases, grown, stayed}
-use Rattle.register.specs.Algorithm4.{Saved, State, changed, replaced}
+use Rattle.register.specs.Algorithm4.{Saved, State, changed, withSaved}
 use Rattle.register_step.specs.Progress.{block, stateOf, Ended, Changeable, Reducible, Stepped, savedAfter, saving}
 use Rattle.register_step.specs.declared.Progress.{Progress}
 use Rattle.register_step.proofs.Blocks.{block-replaced, block-other, replaced-whole}
@@ -77,13 +77,13 @@ savedOf g saved h =
 pub saved-path : {v w : Saved} → v .place ≡ w .place → v .size ≡ w .size → v .disc ≡ w .disc → v .taps ≡ w .taps → v ≡ w
 saved-path a b c t = λ i. record { place = a i; size = b i; disc = c i; taps = t i }
 
-replaced-there : (saved : ℕ → Saved) (h : ℕ) (v : Saved) → replaced saved h v h ≡ v
-unfolding replaced
-replaced-there saved h v = rw (eq-eqb h h refl)
+saved-at : (saved : ℕ → Saved) (h : ℕ) (v : Saved) → withSaved saved h v h ≡ v
+unfolding withSaved
+saved-at saved h v = rw (eq-eqb h h refl)
 
-replaced-other : (saved : ℕ → Saved) (h : ℕ) (v : Saved) (k : ℕ) → k ≢ h → replaced saved h v k ≡ saved k
-unfolding replaced
-replaced-other saved h v k ne = rw (ne-eqb k h ne)
+saved-beside : (saved : ℕ → Saved) (h : ℕ) (v : Saved) (k : ℕ) → k ≢ h → withSaved saved h v k ≡ saved k
+unfolding withSaved
+saved-beside saved h v k ne = rw (ne-eqb k h ne)
 
 abbrev pub Lengths : Progress → Type 0
 Lengths g = (length (g .places) ≡ 8) × (length (g .sizes) ≡ 8) × (length (g .discs) ≡ 8) × (length (g .inverses) ≡ 8)
@@ -127,7 +127,7 @@ module _ {p n h d : ℕ} {g : Progress} {taps saved : List ℕ}
   unfolding savedAfter
   saved-stays short = rw (le-ltb (place + g .length) (n + size) short)
 
-  pub saved-grows : {kept : List ℕ} → kept ≡ in-place (h * 129) 129 saved taps → place + g .length < n + size → kept ≡ savedAfter n h g taps saved
+  pub saved-grows : {kept : List ℕ} → kept ≡ replaced (h * 129) 129 saved taps → place + g .length < n + size → kept ≡ savedAfter n h g taps saved
   unfolding savedAfter
   saved-grows put-in long = rw (lt-ltb (place + g .length) (n + size) long) put-in
 
@@ -169,7 +169,7 @@ module _ {p n h d : ℕ} {g : Progress} {taps saved : List ℕ}
               };
         }
 
-    module _ (lengths : Lengths g) {i : ℕ} (is-inverse : i ≡ inverse p d) {kept : List ℕ} (put-in : kept ≡ in-place (h * 129) 129 saved taps) where
+    module _ (lengths : Lengths g) {i : ℕ} (is-inverse : i ≡ inverse p d) {kept : List ℕ} (put-in : kept ≡ replaced (h * 129) 129 saved taps) where
       new : Saved
       new = record { place = n; size = g .length; disc = d; taps = take (suc (g .length)) taps }
 
@@ -192,16 +192,16 @@ module _ {p n h d : ℕ} {g : Progress} {taps saved : List ℕ}
           (ap₂ (λ (m : ℕ) (l : List ℕ). take (suc m) l) (getD-set-other (g .sizes) h k (g .length) 0 ne)
           (ap (block k) put-in ∙ block-other h taps saved (z .width) (z .saved-width) (c .sequence) k ne))
 
-      replaced-saved : (k : ℕ) → savedOf (saving n h d i g) kept k ≡ replaced (savedOf g saved) h new k
-      replaced-saved k = pick (ℕ-discrete k h)
+      is-saved : (k : ℕ) → savedOf (saving n h d i g) kept k ≡ withSaved (savedOf g saved) h new k
+      is-saved k = pick (ℕ-discrete k h)
         where
-          pick : Dec (k ≡ h) → savedOf (saving n h d i g) kept k ≡ replaced (savedOf g saved) h new k
-          pick (yes same) = rw same (saved-there ∙ sym (replaced-there (savedOf g saved) h new))
-          pick (no ne) = saved-elsewhere k ne ∙ sym (replaced-other (savedOf g saved) h new k ne)
+          pick : Dec (k ≡ h) → savedOf (saving n h d i g) kept k ≡ withSaved (savedOf g saved) h new k
+          pick (yes same) = rw same (saved-there ∙ sym (saved-at (savedOf g saved) h new))
+          pick (no ne) = saved-elsewhere k ne ∙ sym (saved-beside (savedOf g saved) h new k ne)
 
       new-length : stateOf (saving n h d i g) now kept ≡ grown p n h d (stateOf g taps saved)
       unfolding stateOf new
-      new-length = λ j. record { size = n + size - place; taps = narrowed (n + size - place) (omega (arith, bounds)) j; saved = λ k. replaced-saved k j }
+      new-length = λ j. record { size = n + size - place; taps = narrowed (n + size - place) (omega (arith, bounds)) j; saved = λ k. is-saved k j }
 
       inverses-kept : (k : ℕ) → k < 8 → getD (set (g .inverses) h i) k 0 ≡ inverse p (getD (set (g .discs) h d) k 0)
       inverses-kept k b = pick (ℕ-discrete k h)

@@ -11,13 +11,13 @@ use Rattle.algebra.specs.Ring.{CRing, Field}
 use Rattle.algebra.specs.Polynomial.{Degree}
 use Rattle.register.proofs.Theory.Generates.{Sequences, disc, Register, Fails, fails-longer}
 use Rattle.register.proofs.Theory.LeadingRow.{Pivots}
-use Rattle.register.proofs.Theory.Step.{Saved, State, replaced}
+use Rattle.register.proofs.Theory.Step.{Saved, State, withSaved}
 use Rattle.register.proofs.Theory.Invariant.{Kept, FreshOrKept, Invariant, saved-reach, saved-later}
 
 -- what is kept after a replacement
 replaced-cases : {A : Type 0} (T : Saved A → Type 0) (saved : ℕ → Saved A) (h : ℕ) (v : Saved A) (g : ℕ)
-    → (g ≡ h → T v) → (g ≢ h → T (saved g)) → T (replaced saved h v g)
-unfolding replaced
+    → (g ≡ h → T v) → (g ≢ h → T (saved g)) → T (withSaved saved h v g)
+unfolding withSaved
 replaced-cases T saved h v g new old = go (eqb g h) refl
   where
     go : (b : Bool) → eqb g h ≡ b → T (cond b v (saved g))
@@ -104,10 +104,10 @@ module _ (F : Field) (Q : Sequences (F .ring .car)) (n h : ℕ) (st : State (F .
       }
 
   grown-row : (L : ℕ) → L < l'
-      → grown-position L + replaced (st .saved) h kept (grown-sequence L) .size
-      ≤ replaced (st .saved) h kept (grown-sequence L) .place + L
+      → grown-position L + withSaved (st .saved) h kept (grown-sequence L) .size
+      ≤ withSaved (st .saved) h kept (grown-sequence L) .place + L
   grown-row L q =
-      grown-cases (λ _ m g. m + replaced (st .saved) h kept g .size ≤ replaced (st .saved) h kept g .place + L) L
+      grown-cases (λ _ m g. m + withSaved (st .saved) h kept g .size ≤ withSaved (st .saved) h kept g .place + L) L
       (λ b. replaced-cases (λ x. P .position L + x .size ≤ x .place + L) (st .saved) h kept (P .sequence L)
       (λ e. omega (arith, old-row L b e)) (λ _. I .row L b))
       (λ b. replaced-cases (λ x. n + x .size ≤ x .place + L) (st .saved) h kept h
@@ -124,13 +124,13 @@ module _ (F : Field) (Q : Sequences (F .ring .car)) (n h : ℕ) (st : State (F .
         placed = omega arith;
       }
 
-  grown-saved : (g : ℕ) → g < t → FreshOrKept F Q l' (suc s) g (replaced (st .saved) h kept g)
+  grown-saved : (g : ℕ) → g < t → FreshOrKept F Q l' (suc s) g (withSaved (st .saved) h kept g)
   grown-saved g hg =
       replaced-cases (λ x. FreshOrKept F Q l' (suc s) g x) (st .saved) h kept g
       (λ e. subst (λ x. FreshOrKept F Q l' (suc s) x kept) (sym e) (inr kept-here))
       (λ _. saved-later F Q l l' s (suc s) g (st .saved g) (omega arith) (omega arith) (I .saved g hg))
 
   pub growth-keeps : (σ' : ℕ → car) → Register F Q σ' l' (suc s)
-      → Invariant F Q (record { size = l'; taps = σ'; saved = replaced (st .saved) h kept }) (suc s)
+      → Invariant F Q (record { size = l'; taps = σ'; saved = withSaved (st .saved) h kept }) (suc s)
   unfolding grown-pivots
   growth-keeps σ' register = record { register = register; saved = grown-saved; pivots = grown-pivots; row = grown-row }

@@ -11,7 +11,7 @@ use Rattle.algebra.specs.Ring.{CRing, Field}
 use Rattle.algebra.specs.Polynomial.{Degree}
 use Rattle.register.proofs.Theory.Generates.{Sequences, disc, Register, gen-next}
 use Rattle.register.proofs.Theory.LeadingRow.{Pivots}
-use Rattle.register.proofs.Theory.Step.{Saved, State, replaced, reduced, unit, changed, start, step, turn, rounds}
+use Rattle.register.proofs.Theory.Step.{Saved, State, withSaved, reduced, unit, changed, start, step, turn, rounds}
 use Rattle.register.proofs.Theory.Invariant.{Invariant, saved-later}
 use Rattle.register.proofs.Theory.Update.{updated}
 use Rattle.register.proofs.Theory.Growth.{growth-keeps}
@@ -76,7 +76,7 @@ module _ (F : Field) (Q : Sequences (F .ring .car)) where
             (record {
               size = n + v .size - v .place;
               taps = σ';
-              saved = replaced (st .saved) h (record { place = n; size = l; disc = d; taps = st .taps });
+              saved = withSaved (st .saved) h (record { place = n; size = l; disc = d; taps = st .taps });
             })
             (record { size = l; taps = σ'; saved = st .saved })) (suc s)
         go true e =

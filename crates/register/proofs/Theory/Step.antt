@@ -22,8 +22,8 @@ pub record State (A : Type 0) : Type 0 where
   pub saved : ℕ → Saved A
 
 -- what is kept, with v in the place of what was kept for h
-unfoldable pub replaced : {A : Type 0} → (ℕ → Saved A) → ℕ → Saved A → ℕ → Saved A
-replaced saved h v g = cond (eqb g h) v (saved g)
+unfoldable pub withSaved : {A : Type 0} → (ℕ → Saved A) → ℕ → Saved A → ℕ → Saved A
+withSaved saved h v g = cond (eqb g h) v (saved g)
 
 module _ (F : Field) where
   open Field F using (ring, inv, decide)
@@ -49,7 +49,7 @@ module _ (F : Field) where
       (record {
         size = n + v .size - v .place;
         taps = taps;
-        saved = replaced (st .saved) h (record { place = n; size = st .size; disc = d; taps = st .taps });
+        saved = withSaved (st .saved) h (record { place = n; size = st .size; disc = d; taps = st .taps });
       })
       (record { size = st .size; taps = taps; saved = st .saved })
 
