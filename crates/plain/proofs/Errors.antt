@@ -36,13 +36,13 @@ product-nonzero f e n m =
         let none = zero-factor 257 prime-257 f e (λ q. let s = rem-small e 257 (m .1) in omega arith) z in
         omega arith
 
--- by itself, or a product
-pub error-nonzero : (kind f e : ℕ) {r : ℕ} → (kind ≡ 0 → Nonzero r) → ((kind ≡ 0 → ⊥) → r ≡ rem (f * e) 257) → Nonzero e → Nonzero f → Nonzero r
-error-nonzero kind f e {r} alone product m n = pick (ℕ-discrete kind 0)
+-- drawn by itself, or a product with the row's factor f
+pub error-nonzero : (kind e f : ℕ) {g r : ℕ} → g ≡ f → (kind ≡ 0 → Nonzero r) × ((kind ≡ 0 → ⊥) → r ≡ rem (g * e) 257) → Nonzero e → Nonzero f → Nonzero r
+error-nonzero kind e f {g} {r} q (alone, product) m n = pick (ℕ-discrete kind 0)
   where
     pick : Dec (kind ≡ 0) → Nonzero r
     pick (yes z) = alone z
-    pick (no z) = subst (λ (x : ℕ). Nonzero x) (sym (product z)) (product-nonzero f e n m)
+    pick (no z) = subst (λ (x : ℕ). Nonzero x) (sym (product z ∙ ap (λ (x : ℕ). rem (x * e) 257) q)) (product-nonzero f e n m)
 
 pub moved : (x e : ℕ) → Nonzero e → rem (x + e * 1) 257 ≡ x → ⊥
 moved x e n q = omega (arith, mod-is-rem (x + e * 1), rem-lt (x + e * 1) 257 (omega arith))

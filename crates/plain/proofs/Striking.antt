@@ -43,27 +43,28 @@ module _ (columns : ℕ) where
     altered = λ h r. absurd (let z : ⊥ = omega (arith, r .row) in z);
   }
 
-  module _ (h i at x v : ℕ) {factors old new next : List ℕ} (w : Struck columns h i factors old new) (p : at ≡ h * columns + i)
-      (some : Nonzero (getD factors h 0) → Nonzero x) (q : v ≡ rem (getD new at 0 + x * 1) 257) (e : next ≡ set new at v) where
+  -- the cell's symbol y and the error x give v
+  module _ {h i at x y v : ℕ} {factors old new next : List ℕ} (w : Struck columns h i factors old new) (p : at ≡ h * columns + i)
+      (some : Nonzero (getD factors h 0) → Nonzero x) (r : y ≡ getD new at 0) (q : v ≡ rem (y + x * 1) 257) (e : next ≡ set new at v) where
     other : (k : ℕ) → (k ≡ at → ⊥) → getD next k 0 ≡ getD new k 0
     other k n = ap (λ (l : List ℕ). getD l k 0) e ∙ getD-set-other new at k v 0 n
 
     struck-here : Reached columns (h + 1) factors old h i → getD next at 0 ≡ getD old at 0 → ⊥
-    struck-here r z = moved (getD old at 0) x (some (r .factor)) (ap (λ (y : ℕ). rem (y + x * 1) 257) (sym before) ∙ sym q ∙ sym put ∙ z)
+    struck-here c z = moved y x (some (c .factor)) (sym q ∙ sym put ∙ z ∙ sym (r ∙ before))
       where
         before : getD new at 0 ≡ getD old at 0
-        before = w .kept at (λ g less s. let t = same-row g h i (r .column) (sym s ∙ p) in omega arith)
+        before = w .kept at (λ g less s. let t = same-row g h i (c .column) (sym s ∙ p) in omega arith)
 
         put : getD next at 0 ≡ v
-        put = ap (λ (l : List ℕ). getD l at 0) e ∙ getD-set-same new at v 0 (let s = w .size in let t = r .cell in omega arith)
+        put = ap (λ (l : List ℕ). getD l at 0) e ∙ getD-set-same new at v 0 (let s = w .size in let t = c .cell in omega arith)
 
     struck-at : (g : ℕ) → Dec (g ≡ h) → Reached columns (h + 1) factors old g i → Differs columns g i old next
-    struck-at g (yes s) r z =
-        let cell : g * columns + i ≡ at = ap (λ (y : ℕ). y * columns + i) s ∙ sym p in
-        struck-here (subst (λ (y : ℕ). Reached columns (h + 1) factors old y i) s r) (subst (λ (k : ℕ). getD next k 0 ≡ getD old k 0) cell z)
-    struck-at g (no s) r z =
-        w .altered g (record { row = omega (arith, r .row); column = r .column; cell = r .cell; factor = r .factor })
-        (sym (other (g * columns + i) (λ c. s (same-row g h i (r .column) (c ∙ p)))) ∙ z)
+    struck-at g (yes s) c z =
+        let cell : g * columns + i ≡ at = ap (λ (k : ℕ). k * columns + i) s ∙ sym p in
+        struck-here (subst (λ (k : ℕ). Reached columns (h + 1) factors old k i) s c) (subst (λ (k : ℕ). getD next k 0 ≡ getD old k 0) cell z)
+    struck-at g (no s) c z =
+        w .altered g (record { row = omega (arith, c .row); column = c .column; cell = c .cell; factor = c .factor })
+        (sym (other (g * columns + i) (λ f. s (same-row g h i (c .column) (f ∙ p)))) ∙ z)
 
     pub struck-more : Struck columns (h + 1) i factors old next
     struck-more = record {
@@ -74,7 +75,7 @@ module _ (columns : ℕ) where
     }
       where
         small : v < 257
-        small = omega (arith, rem-lt (getD new at 0 + x * 1) 257 (omega arith))
+        small = omega (arith, rem-lt (y + x * 1) 257 (omega arith))
 
   -- the last row was reached
   pub struck-all : (h rows i : ℕ) {factors old new : List ℕ} → Struck columns h i factors old new → h ≤ rows → rows ≤ h → Struck columns rows i factors old new

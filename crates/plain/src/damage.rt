@@ -70,7 +70,7 @@ fn error(state: &mut u64, kind: u16, factor: u16, e: u16) -> u16
 
 // A frame has at most eight rows.
 fn at_most_eight(rows: usize) -> u16
-    ensures { λ r. ⌜ (r ≤ rows) × (rows ≤ 8 → r ≡ rows) ⌝ }
+    ensures { λ r. ⌜ (r ≤ rows) × (r ≤ 8) × (rows ≤ 8 → r ≡ rows) ⌝ }
 {
     if rows < 8 {
         return rows as u16;

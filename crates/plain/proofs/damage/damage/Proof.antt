@@ -74,17 +74,17 @@ returns c =
       chosen
           (args .columns)
           (args .rows)
-          _
           (args .w)
           (factors .draw-factors .last .1 .1 .0)
-          order
           _
+          _
+          order
           size
           (λ narrow. mixed .mix .ensures (omega arith) (numbered _ (omega arith) (number .number .ensures)))
           (cut .part .ensures)
           (λ some few. factors .draw-factors .ensures some few (omega arith))
           (eight .ensures .0)
-          (eight .ensures .1)
+          (eight .ensures .2)
           (damaged .damage-columns .ensures),
     )
 

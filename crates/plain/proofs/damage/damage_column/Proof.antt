@@ -1,13 +1,12 @@
 -- `plain::damage::damage_column` meets its contract.
-use mathlib.Core.Path.{sym, ap, subst, _∙_}
-use Prim.Native.Nat.{ℕ, _+_, _*_, _-_, _≤_}
+use mathlib.Core.Path.{ap}
+use Prim.Native.Nat.{ℕ, _+_, _-_, _≤_}
 use native.Mathlib.Omega.{arith}
 use borrow.Author.Needs.{needs}
 use Rattle.plain.proofs.Draws.{drawn-nonzero}
 use Rattle.plain.proofs.Errors.{error-nonzero}
 use Rattle.plain.proofs.Striking.{struck-none, struck-more, struck-all}
-use Rattle.plain.specs.Frames.{Nonzero, Struck}
-use Rattle.plain.specs.Plain.{rem}
+use Rattle.plain.specs.Frames.{Struck}
 use Rattle.plain.proofs.damage.damage_column.Statement.{statement}
 use Rattle.plain.proofs.damage.damage_column.Tie as tie
 
@@ -68,22 +67,8 @@ loop-again c =
     let at = summed .before .before in
     let start = at .before .before .before .before .before in
     let place = ap (λ (x : ℕ). x + start .args .i) (summed .product .ensures .0) in
-    let value = sum .plus-product .ensures ∙ ap (λ (x : ℕ). rem (x + error .error .result * 1) 257) (sum .before .get2 .ensures) in
-    let e = drawn-nonzero _ (at .before .draw-from .ensures .1) in (
-      omega arith,
-      struck-more
-          _
-          _
-          _
-          _
-          _
-          _
-          (at .loop .inv .1)
-          place
-          (λ n. error-nonzero _ _ _ (error .error .ensures .0) (error .error .ensures .1) e (subst (λ (x : ℕ). Nonzero x) (sym (error .before .get .ensures)) n))
-          value
-          (put .put .ensures),
-    )
+    let some = error-nonzero _ _ _ (error .before .get .ensures) (error .error .ensures) (drawn-nonzero _ (at .before .draw-from .ensures .1)) in
+    (omega arith, struck-more _ (at .loop .inv .1) place some (sum .before .get2 .ensures) (sum .plus-product .ensures) (put .put .ensures))
 
 same-length : tie.Need-same-length Inv-loop μ-loop
 same-length c = search needs

@@ -10,7 +10,8 @@ use Rattle.plain.proofs.damage.damage_columns.Statement.{statement}
 use Rattle.plain.proofs.damage.damage_columns.Tie as tie
 
 abbrev Inv-loop : tie.InvT-loop
-Inv-loop state₀ kind factors columns rows order frame₀ k₀ k-end state frame k = (k ≤ k-end) × (k-end ≡ length order) × DamagedBy factors columns rows order k frame₀ frame
+Inv-loop state₀ kind factors columns rows order frame₀ k₀ k-end state frame k =
+    (k ≤ k-end) × (k-end ≡ length order) × DamagedBy factors columns rows order k frame₀ frame
 
 abbrev μ-loop : tie.MeasureT-loop
 μ-loop state₀ kind factors columns rows order frame₀ k₀ k-end state frame k = k-end - k

@@ -12,21 +12,6 @@ start-of c = c .before .before .before .before
 abbrev filled-of : tie.After-draw-from → tie.After-fill-from
 filled-of c = c .before .before .before .before .before
 
-remainder-requires : tie.Need-remainder-requires
-remainder-requires c κs = search needs
-
-draw-requires : tie.Need-draw-requires
-draw-requires c κs = search needs
-
-cast-put : tie.Need-cast-put
-cast-put c = search needs
-
-put-requires : tie.Need-put-requires
-put-requires c κs = search needs
-
-same-length : tie.Need-same-length
-same-length c = search needs
-
 returns : tie.Need-returns
 returns c = λ some few held.
     let put = c .before .before in
@@ -35,18 +20,6 @@ returns c = λ some few held.
     let args = start-of rest .args in
     let row = drawn-row _ (args .rows) some few (rest .remainder .ensures) (drawn .draw .ensures .1) in
     factor-put _ _ 1 (args .factors .now) row held (omega arith) (put .put .ensures)
-
-fill-from-requires : tie.Need-fill-from-requires
-fill-from-requires c κs = search needs
-
-draw-from-requires : tie.Need-draw-from-requires
-draw-from-requires c κs = search needs
-
-put-requires-2 : tie.Need-put-requires-2
-put-requires-2 c κs = search needs
-
-same-length-2 : tie.Need-same-length-2
-same-length-2 c = search needs
 
 returns-2 : tie.Need-returns-2
 returns-2 c = λ some few held.
@@ -60,14 +33,14 @@ pub draw-factors-spec : {M : Type 1} → statement M
 draw-factors-spec =
     tie.close
     (tie.spec
-    remainder-requires
-    draw-requires
-    cast-put
-    put-requires
-    same-length
+    (λ c κs. search needs)
+    (λ c κs. search needs)
+    (λ c. search needs)
+    (λ c κs. search needs)
+    (λ c. search needs)
     returns
-    fill-from-requires
-    draw-from-requires
-    put-requires-2
-    same-length-2
+    (λ c κs. search needs)
+    (λ c κs. search needs)
+    (λ c κs. search needs)
+    (λ c. search needs)
     returns-2)

@@ -29,7 +29,7 @@ loop-again c =
       λ fits d.
           let size = at .loop .inv .0 in
           let low = drawn-below _ n (omega arith) (drawn .draw .ensures .1) in
-          swapped _ n _ _ (omega arith) (omega arith) low _ (swap .swap .ensures) n (at .loop .inv .1 fits d),
+          swapped _ n _ _ (omega arith) (omega arith) low n (swap .swap .ensures) (at .loop .inv .1 fits d),
     )
 
 pub mix-spec : {M : Type 1} → statement M
