@@ -45,6 +45,7 @@ fn mix(state: &mut u64, order: &mut [u16], n: u16)
 }
 
 // How damage spreads over the rows of a column: in every row by itself, in multiples of one number, or in one row alone.
+// Some row has a factor that is not 0, so that every column that is struck changes.
 fn draw_factors(state: &mut u64, kind: u16, factors: &mut [u16], rows: usize)
     ensures { λ r. ⌜
         (0 < rows → rows ≤ 8 → rows ≤ length (now (factors .entry)) → ((h : ℕ) × (h < rows) × Nonzero (getD (now (factors .exit)) h 0)))
@@ -117,7 +118,7 @@ fn damage_columns(
     }
 }
 
-// Damages w columns of a frame that has so many, at most eight rows and all its cells in the array: some symbols of each are changed, and no
+// Damages w columns of a frame that has so many, one to eight rows and all its cells in the array: some symbols of each are changed, and no
 // others. Of any other frame at most w columns are damaged.
 pub fn damage(state: &mut u64, columns: u16, rows: usize, w: u16, frame: &mut [u16])
     ensures { λ r. ⌜ ((order : List ℕ) × Chosen columns rows w order (now (frame .entry)) (now (frame .exit))) ⌝ }
