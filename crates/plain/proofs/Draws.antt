@@ -1,8 +1,11 @@
--- The state of the generator after one draw more.
+-- The state of the generator after one draw more, and in which range a draw lies.
 use mathlib.Core.Path.{_≡_, refl, sym, ap, _∙_}
-use Prim.Native.Nat.{ℕ, suc, _+_}
+use Prim.Native.Nat.{ℕ, suc, _+_, _/_, _<_}
 use native.Mathlib.Numerals.{add-one}
-use Rattle.plain.specs.Drawn.{advanced, drawnFrom, later}
+use native.Mathlib.Omega.{arith}
+use Rattle.plain.proofs.Remainders.{rem-lt}
+use Rattle.plain.specs.Drawn.{advanced, drawn, drawnFrom, later}
+use Rattle.plain.specs.Frames.{Nonzero}
 
 pub later-zero : (s : ℕ) → s ≡ later 0 s
 unfolding later
@@ -17,3 +20,9 @@ later-more n s h e = e ∙ ap advanced h ∙ sym (later-suc n s) ∙ ap (λ (k :
 
 pub drawn-more : (n s least p : ℕ) {now v : ℕ} → now ≡ later n s → v ≡ drawnFrom (advanced now) least p → v ≡ drawnFrom (later (suc n) s) least p
 drawn-more n s least p h e = e ∙ ap (λ (x : ℕ). drawnFrom x least p) (ap advanced h ∙ sym (later-suc n s))
+
+pub drawn-below : (s n : ℕ) {r : ℕ} → 0 < n → r ≡ drawn s n → r < n
+drawn-below s n some e = omega (arith, rem-lt (s / 65536) n some)
+
+pub drawn-nonzero : (s : ℕ) {r : ℕ} → r ≡ drawnFrom s 1 256 → Nonzero r
+drawn-nonzero s e = omega (arith, rem-lt (s / 65536) 256 (omega arith))

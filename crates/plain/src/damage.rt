@@ -10,24 +10,34 @@ use crate::values::put;
 use crate::values::remainder;
 use crate::values::times;
 ghost use mathlib.Core.List.{List};
-ghost use Prim.Native.Nat.{ℕ, _≤_};
-ghost use lib.ListN.{length};
-ghost use Rattle.plain.specs.Frames.{Damaged, Struck};
+ghost use mathlib.Core.Path.{_≡_};
+ghost use Prim.Native.Nat.{ℕ, _*_, _≤_, _<_};
+ghost use lib.ListN.{length, getD, set};
+ghost use Rattle.plain.specs.Frames.{Chosen, DamagedBy, Different, Nonzero, Struck};
+ghost use Rattle.plain.specs.Plain.{rem};
+ghost use Rattle.plain.specs.Written.{Wrote};
 
-fn number(order: &mut [u16], n: u16) {
+fn number(order: &mut [u16], n: u16)
+    ensures { λ r. ⌜ Wrote (now (order .entry)) (now (order .exit)) 0 n (λ k. k) ⌝ }
+{
     for i in 0..n {
         put(order, i as usize, i);
     }
 }
 
-fn swap(a: &mut [u16], i: usize, j: usize) {
+fn swap(a: &mut [u16], i: usize, j: usize)
+    ensures { λ r. ⌜ now (a .exit) ≡ set (set (now (a .entry)) i (getD (now (a .entry)) j 0)) j (getD (now (a .entry)) i 0) ⌝ }
+{
     let x = get(a, i);
     let y = get(a, j);
     put(a, i, y);
     put(a, j, x);
 }
 
-fn mix(state: &mut u64, order: &mut [u16], n: u16) {
+// Different numbers below n stay different numbers below n.
+fn mix(state: &mut u64, order: &mut [u16], n: u16)
+    ensures { λ r. ⌜ (n ≤ length (now (order .entry)) → Different n n (now (order .entry)) → Different n n (now (order .exit))) ⌝ }
+{
     for i in 0..n {
         let j = draw(state, n);
         swap(order, i as usize, j as usize);
@@ -35,7 +45,12 @@ fn mix(state: &mut u64, order: &mut [u16], n: u16) {
 }
 
 // How damage spreads over the rows of a column: in every row by itself, in multiples of one number, or in one row alone.
-fn draw_factors(state: &mut u64, kind: u16, factors: &mut [u16], rows: usize) {
+// Some row has a factor that is not 0, so that every column that is struck changes.
+fn draw_factors(state: &mut u64, kind: u16, factors: &mut [u16], rows: usize)
+    ensures { λ r. ⌜
+        (0 < rows → rows ≤ 8 → rows ≤ length (now (factors .entry)) → ((h : ℕ) × (h < rows) × Nonzero (getD (now (factors .exit)) h 0)))
+        ⌝ }
+{
     if kind == 2 {
         let h = draw(state, remainder(rows as u64, 65535));
         put(factors, h as usize, 1);
@@ -45,7 +60,9 @@ fn draw_factors(state: &mut u64, kind: u16, factors: &mut [u16], rows: usize) {
     put(factors, 0, draw_from(state, 1, 256));
 }
 
-fn error(state: &mut u64, kind: u16, factor: u16, e: u16) -> u16 {
+fn error(state: &mut u64, kind: u16, factor: u16, e: u16) -> u16
+    ensures { λ r. ⌜ (kind ≡ 0 → Nonzero r) × ((kind ≡ 0 → ⊥) → r ≡ rem (factor * e) 257) ⌝ }
+{
     if kind == 0 {
         return draw_from(state, 1, 256);
     }
@@ -54,7 +71,7 @@ fn error(state: &mut u64, kind: u16, factor: u16, e: u16) -> u16 {
 
 // A frame has at most eight rows.
 fn at_most_eight(rows: usize) -> u16
-    ensures { λ r. ⌜ (r ≤ rows) × (r ≤ 8) ⌝ }
+    ensures { λ r. ⌜ (r ≤ rows) × (r ≤ 8) × (rows ≤ 8 → r ≡ rows) ⌝ }
 {
     if rows < 8 {
         return rows as u16;
@@ -71,7 +88,7 @@ fn damage_column(
     i: u16,
     frame: &mut [u16],
 )
-    ensures { λ r. ⌜ Struck columns rows i (now (frame .entry)) (now (frame .exit)) ⌝ }
+    ensures { λ r. ⌜ Struck columns rows i (now (factors .entry)) (now (frame .entry)) (now (frame .exit)) ⌝ }
 {
     let e = draw_from(state, 1, 256);
     for h in 0..rows {
@@ -91,7 +108,9 @@ fn damage_columns(
     order: &[u16],
     frame: &mut [u16],
 )
-    ensures { λ r. ⌜ Damaged columns rows (now (order .entry)) (length (now (order .entry))) (now (frame .entry)) (now (frame .exit)) ⌝ }
+    ensures { λ r. ⌜
+        DamagedBy (now (factors .entry)) columns rows (now (order .entry)) (length (now (order .entry))) (now (frame .entry)) (now (frame .exit))
+        ⌝ }
 {
     for k in 0..order.len() {
         let i = get(order, k);
@@ -99,11 +118,10 @@ fn damage_columns(
     }
 }
 
-// Damages at most w columns: some symbols of them are changed, and no others.
+// Damages w columns of a frame that has so many, one to eight rows and all its cells in the array: some symbols of each are changed, and no
+// others. Of any other frame at most w columns are damaged.
 pub fn damage(state: &mut u64, columns: u16, rows: usize, w: u16, frame: &mut [u16])
-    ensures { λ r. ⌜
-        ((order : List ℕ) × ((length order ≤ w) × Damaged columns rows order (length order) (now (frame .entry)) (now (frame .exit))))
-        ⌝ }
+    ensures { λ r. ⌜ ((order : List ℕ) × Chosen columns rows w order (now (frame .entry)) (now (frame .exit))) ⌝ }
 {
     let mut order = [0u16; 256];
     number(&mut order, columns);

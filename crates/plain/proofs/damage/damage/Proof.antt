@@ -1,12 +1,10 @@
 -- `plain::damage::damage` meets its contract.
-use mathlib.Core.List.{List}
-use mathlib.Core.Path.{sym, subst}
-use Prim.Native.Nat.{ℕ, _≤_}
+use mathlib.Core.Path.{_≡_}
 use native.Mathlib.Omega.{arith}
 use lib.ListN.{length}
 use borrow.Author.Needs.{needs}
-use Rattle.plain.proofs.Choices.{part-length-le}
-use Rattle.plain.proofs.Striking.{damaged-all}
+use Rattle.plain.proofs.Choosing.{chosen}
+use Rattle.plain.proofs.Mixing.{numbered}
 use Rattle.plain.proofs.damage.damage.Statement.{statement}
 use Rattle.plain.proofs.damage.damage.Tie as tie
 
@@ -64,12 +62,30 @@ same-length c = search needs
 returns : tie.Need-returns
 returns c =
     let damaged = c .before .before in
+    let eight = damaged .before .before .at-most-eight in
     let cut = cut-of damaged in
-    let mixed = mixed-of (cut .before .before .before) in
-    let start = start-of (number-of mixed) in
-    let few = subst (λ (l : List ℕ). length l ≤ start .args .w) (sym (cut .part .ensures)) (part-length-le (mixed .mix .last .1 .0) 0 (start .args .w)) in (
+    let factors = cut .before .before .before in
+    let mixed = mixed-of factors in
+    let number = number-of mixed in
+    let args = start-of number .args in
+    let order = mixed .mix .last .1 .0 in
+    let size : length order ≡ 256 = omega arith in (
       _,
-      (few, damaged-all _ _ _ _ _ _ (damaged .damage-columns .ensures) (omega arith) (damaged .before .before .at-most-eight .ensures .0)),
+      chosen
+          (args .columns)
+          (args .rows)
+          (args .w)
+          (factors .draw-factors .last .1 .1 .0)
+          _
+          _
+          order
+          size
+          (λ narrow. mixed .mix .ensures (omega arith) (numbered _ (omega arith) (number .number .ensures)))
+          (cut .part .ensures)
+          (λ some few. factors .draw-factors .ensures some few (omega arith))
+          (eight .ensures .0)
+          (eight .ensures .2)
+          (damaged .damage-columns .ensures),
     )
 
 pub damage-spec : {M : Type 1} → statement M

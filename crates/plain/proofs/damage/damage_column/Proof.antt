@@ -3,13 +3,15 @@ use mathlib.Core.Path.{ap}
 use Prim.Native.Nat.{ℕ, _+_, _-_, _≤_}
 use native.Mathlib.Omega.{arith}
 use borrow.Author.Needs.{needs}
-use Rattle.plain.proofs.Striking.{struck-none, struck-more, struck-rows}
+use Rattle.plain.proofs.Draws.{drawn-nonzero}
+use Rattle.plain.proofs.Errors.{error-nonzero}
+use Rattle.plain.proofs.Striking.{struck-none, struck-more, struck-all}
 use Rattle.plain.specs.Frames.{Struck}
 use Rattle.plain.proofs.damage.damage_column.Statement.{statement}
 use Rattle.plain.proofs.damage.damage_column.Tie as tie
 
 abbrev Inv-loop : tie.InvT-loop
-Inv-loop state₀ kind factors columns rows i frame₀ e h₀ state frame h = (h ≤ rows) × Struck columns h i frame₀ frame
+Inv-loop state₀ kind factors columns rows i frame₀ e h₀ state frame h = (h ≤ rows) × Struck columns h i factors frame₀ frame
 
 abbrev μ-loop : tie.MeasureT-loop
 μ-loop state₀ kind factors columns rows i frame₀ e h₀ state frame h = rows - h
@@ -24,7 +26,7 @@ draw-from-requires : tie.Need-draw-from-requires Inv-loop μ-loop
 draw-from-requires c κs = search needs
 
 loop-holds : tie.Need-loop-holds Inv-loop μ-loop
-loop-holds c = (omega arith, struck-none _ _ _)
+loop-holds c = (omega arith, struck-none _ _ _ _)
 
 product-requires : tie.Need-product-requires Inv-loop μ-loop
 product-requires c κs = search needs
@@ -59,17 +61,20 @@ loop-less c = search needs
 loop-again : tie.Need-loop-again Inv-loop μ-loop
 loop-again c =
     let put = c .before .before in
-    let summed = product-of (error-of put) in
+    let sum = put .before .before in
+    let error = error-of put in
+    let summed = product-of error in
     let at = summed .before .before in
     let start = at .before .before .before .before .before in
     let place = ap (λ (x : ℕ). x + start .args .i) (summed .product .ensures .0) in
-    (omega arith, struck-more _ _ _ _ _ (at .loop .inv .1) place (put .put .ensures))
+    let some = error-nonzero _ _ _ (error .before .get .ensures) (error .error .ensures) (drawn-nonzero _ (at .before .draw-from .ensures .1)) in
+    (omega arith, struck-more _ (at .loop .inv .1) place some (sum .before .get2 .ensures) (sum .plus-product .ensures) (put .put .ensures))
 
 same-length : tie.Need-same-length Inv-loop μ-loop
 same-length c = search needs
 
 returns : tie.Need-returns Inv-loop μ-loop
-returns c = struck-rows _ _ _ _ (c .before .loop .inv .0) (c .before .loop .inv .1)
+returns c = struck-all _ _ _ _ (c .before .loop .inv .1) (c .before .loop .inv .0) (omega arith)
 
 pub damage-column-spec : {M : Type 1} → statement M
 damage-column-spec =

@@ -5,12 +5,13 @@ use native.Mathlib.Omega.{arith}
 use lib.ListN.{length}
 use borrow.Author.Needs.{needs}
 use Rattle.plain.proofs.Striking.{damaged-none, damaged-more, damaged-all}
-use Rattle.plain.specs.Frames.{Damaged}
+use Rattle.plain.specs.Frames.{DamagedBy}
 use Rattle.plain.proofs.damage.damage_columns.Statement.{statement}
 use Rattle.plain.proofs.damage.damage_columns.Tie as tie
 
 abbrev Inv-loop : tie.InvT-loop
-Inv-loop state₀ kind factors columns rows order frame₀ k₀ k-end state frame k = (k ≤ k-end) × (k-end ≡ length order) × Damaged columns rows order k frame₀ frame
+Inv-loop state₀ kind factors columns rows order frame₀ k₀ k-end state frame k =
+    (k ≤ k-end) × (k-end ≡ length order) × DamagedBy factors columns rows order k frame₀ frame
 
 abbrev μ-loop : tie.MeasureT-loop
 μ-loop state₀ kind factors columns rows order frame₀ k₀ k-end state frame k = k-end - k
@@ -19,7 +20,7 @@ abbrev read-of : tie.After-damage-column Inv-loop μ-loop → tie.After-get Inv-
 read-of c = c .before .before .before
 
 loop-holds : tie.Need-loop-holds Inv-loop μ-loop
-loop-holds c = (omega arith, refl, damaged-none _ _ _ _)
+loop-holds c = (omega arith, refl, damaged-none _ _ _ _ _)
 
 get-requires : tie.Need-get-requires Inv-loop μ-loop
 get-requires c κs = search needs
@@ -38,7 +39,7 @@ loop-again c =
     let struck = c .before .before in
     let read = read-of struck in
     let at = read .before .before in
-    (omega arith, refl, damaged-more _ _ _ _ _ (at .loop .inv .2) (read .get .ensures) (struck .damage-column .ensures))
+    (omega arith, refl, damaged-more _ _ _ _ _ _ (at .loop .inv .2) (read .get .ensures) (struck .damage-column .ensures))
 
 same-length : tie.Need-same-length Inv-loop μ-loop
 same-length c = search needs
