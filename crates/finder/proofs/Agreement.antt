@@ -7,7 +7,7 @@ use lib.Dec.{ltb, eqb}
 use lib.ListN.{length}
 use Rattle.field.specs.Coefficients.{reduced}
 use Rattle.field.specs.Residue.{quotient}
-use Rattle.register.specs.Algorithm4.{Saved, State, step, changed, replaced}
+use Rattle.register.specs.Algorithm4.{Saved, State, step, changed, withSaved}
 use Rattle.register.specs.Register.{discrepancy}
 use Rattle.finder.specs.Rounds.{Agree}
 
@@ -31,7 +31,7 @@ effect p N s n l σ v =
 made : Effect → ℕ → State → State
 made rests h st = st
 made (stays σ) h st = record { size = st .size; taps = σ; saved = st .saved }
-made (grows l σ v) h st = record { size = l; taps = σ; saved = replaced (st .saved) h v }
+made (grows l σ v) h st = record { size = l; taps = σ; saved = withSaved (st .saved) h v }
 
 cond-made : (b : Bool) (x y : Effect) (h : ℕ) (st : State) → made (cond b x y) h st ≡ cond b (made x h st) (made y h st)
 cond-made true x y h st = refl
@@ -42,7 +42,7 @@ unfolding step changed effect made
 step-made p N s n h st = simp cond-made
 
 agree-made : (k : ℕ) (x : Effect) (h : ℕ) (st su : State) → Agree k st su → Agree k (made x h st) (made x h su)
-unfolding made replaced
+unfolding made withSaved
 agree-made k rests h st su a = a
 agree-made k (stays σ) h st su a = record { size = a .size; taps = refl; saved = a .saved }
 agree-made k (grows l σ v) h st su a = record { size = refl; taps = refl; saved = λ g b. ap (cond (eqb g h) v) (a .saved g b) }

@@ -17,15 +17,6 @@ abbrev μ-loop : tie.MeasureT-loop
 loop-holds : tie.Need-loop-holds Inv-loop μ-loop
 loop-holds c = record { within = omega arith; none = λ k f l. absurd (let z : ⊥ = omega arith in z) }
 
-mul-left : tie.Need-mul-left Inv-loop μ-loop
-mul-left c = search needs
-
-element-copy-out-left : tie.Need-element-copy-out-left Inv-loop μ-loop
-element-copy-out-left c = search needs
-
-shr-left : tie.Need-shr-left Inv-loop μ-loop
-shr-left c = search needs
-
 cast-result : tie.Need-cast-result Inv-loop μ-loop
 cast-result c =
     omega (arith, trailing-le 64 (left (c .before .before .before .before .args .t1) (c .before .before .before .loop .at)))
@@ -39,15 +30,6 @@ returns c =
     let s = c .before .before .before .before in
     let m = c .before .before .before .loop in
     found (s .args .t1) (sound (s .args .t1) (search needs) (λ w. search needs)) (s .args .from) (m .at) (m .inv) (omega arith) (c .if1 .taken)
-
-sub-at : tie.Need-sub-at Inv-loop μ-loop
-sub-at c = omega arith
-
-add-at : tie.Need-add-at Inv-loop μ-loop
-add-at c = omega arith
-
-loop-less : tie.Need-loop-less Inv-loop μ-loop
-loop-less c = omega arith
 
 loop-again : tie.Need-loop-again Inv-loop μ-loop
 loop-again c =
@@ -64,14 +46,14 @@ next-spec =
     Inv-loop
     μ-loop
     loop-holds
-    mul-left
-    element-copy-out-left
-    shr-left
+    (λ c. search needs)
+    (λ c. search needs)
+    (λ c. search needs)
     cast-result
     add-result
     returns
-    sub-at
-    add-at
-    loop-less
+    (λ c. omega arith)
+    (λ c. omega arith)
+    (λ c. omega arith)
     loop-again
     returns-2)

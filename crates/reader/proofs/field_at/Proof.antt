@@ -18,31 +18,10 @@ returns c =
     let start = c .before .before in
     end-handed (now (start .args .s)) (start .args .at) (omega arith)
 
-add-high : tie.Need-add-high
-add-high c = search needs
-
 returns-2 : tie.Need-returns-2
 returns-2 c =
     let start = start-of (c .before) in
     end-handed (now (start .args .s)) (start .args .at) (omega arith)
-
-shared-slice-read-wide : tie.Need-shared-slice-read-wide
-shared-slice-read-wide c = search needs
-
-wide-requires : tie.Need-wide-requires
-wide-requires c κs = search needs
-
-shared-slice-read-wide-2 : tie.Need-shared-slice-read-wide-2
-shared-slice-read-wide-2 c = search needs
-
-wide-requires-2 : tie.Need-wide-requires-2
-wide-requires-2 c κs = search needs
-
-mul-t12 : tie.Need-mul-t12
-mul-t12 c = search needs
-
-add-t13 : tie.Need-add-t13
-add-t13 c = search needs
 
 returns-3 : tie.Need-returns-3
 returns-3 c =
@@ -55,12 +34,12 @@ field-at-spec =
     tie.close
     (tie.spec
     returns
-    add-high
+    (λ c. search needs)
     returns-2
-    shared-slice-read-wide
-    wide-requires
-    shared-slice-read-wide-2
-    wide-requires-2
-    mul-t12
-    add-t13
+    (λ c. search needs)
+    (λ c κs. search needs)
+    (λ c. search needs)
+    (λ c κs. search needs)
+    (λ c. search needs)
+    (λ c. search needs)
     returns-3)

@@ -24,36 +24,12 @@ start-of c = c .before .before .before
 loop-holds : tie.Need-loop-holds Inv-loop μ-loop
 loop-holds c = (omega arith, omega arith, refl, filled-none _ _)
 
-nth-requires : tie.Need-nth-requires Inv-loop μ-loop
-nth-requires c κs = omega arith
-
-enum-known-v : tie.Need-enum-known-v Inv-loop μ-loop
-enum-known-v c = search needs
-
-enum-told : tie.Need-enum-told Inv-loop μ-loop
-enum-told c = search needs
-
-same-length : tie.Need-same-length Inv-loop μ-loop
-same-length c = search needs
-
 returns : tie.Need-returns Inv-loop μ-loop
 returns c =
     let began = c .before .before .before .before in
     let at = began .loop in
     let ended = end-means (now (start-of began .args .s)) (at .k) (sym (c .enum-told .given .1) ∙ c .before .before .nth .ensures) in
     (omega arith, at .inv .3)
-
-mul-out : tie.Need-mul-out Inv-loop μ-loop
-mul-out c = search needs
-
-slice-write-out : tie.Need-slice-write-out Inv-loop μ-loop
-slice-write-out c = search needs
-
-add-k : tie.Need-add-k Inv-loop μ-loop
-add-k c = search needs
-
-loop-less : tie.Need-loop-less Inv-loop μ-loop
-loop-less c = omega arith
 
 loop-again : tie.Need-loop-again Inv-loop μ-loop
 loop-again c =
@@ -62,9 +38,6 @@ loop-again c =
     let handed = value-means (now (start-of began .args .s)) (at .k) (c .before .v .given .0 .0)
     (sym (c .before .v .given .1) ∙ c .before .before .before .nth .ensures) in
     (omega arith, omega arith, search needs, filled-more _ _ (at .out) (at .k) _ (handed .0) (handed .1) (omega arith) (at .inv .3))
-
-same-length-2 : tie.Need-same-length-2 Inv-loop μ-loop
-same-length-2 c = search needs
 
 returns-2 : tie.Need-returns-2 Inv-loop μ-loop
 returns-2 c = (omega arith, c .before .loop .inv .3)
@@ -76,15 +49,15 @@ fields-spec =
     Inv-loop
     μ-loop
     loop-holds
-    nth-requires
-    enum-known-v
-    enum-told
-    same-length
+    (λ c κs. omega arith)
+    (λ c. search needs)
+    (λ c. search needs)
+    (λ c. search needs)
     returns
-    mul-out
-    slice-write-out
-    add-k
-    loop-less
+    (λ c. search needs)
+    (λ c. search needs)
+    (λ c. search needs)
+    (λ c. omega arith)
     loop-again
-    same-length-2
+    (λ c. search needs)
     returns-2)

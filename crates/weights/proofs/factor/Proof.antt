@@ -10,33 +10,12 @@ use borrow.Author.Needs.{needs}
 use Rattle.weights.proofs.factor.Statement.{statement}
 use Rattle.weights.proofs.factor.Tie as tie
 
-sub-value-at : tie.Need-sub-value-at
-sub-value-at c = search needs
-
-value-at-requires : tie.Need-value-at-requires
-value-at-requires c κs = search needs
-
 mul-entry : tie.Need-mul-entry
 mul-entry c =
     let start = c .before .before in
     let less : start .args .i ≤ 255 = omega (arith, start .pre .column) in
     let few : length (start .args .others .now) ≤ 64 = start .pre .few in
     omega (arith, mul-le-mul less few)
-
-entry-requires : tie.Need-entry-requires
-entry-requires c κs = search needs
-
-wide-requires : tie.Need-wide-requires
-wide-requires c κs = search needs
-
-product-requires : tie.Need-product-requires
-product-requires c κs = search needs
-
-inverse-requires : tie.Need-inverse-requires
-inverse-requires c κs = search needs
-
-difference-requires : tie.Need-difference-requires
-difference-requires c κs = search needs
 
 -- the way back
 abbrev start-of : tie.After-difference → tie.Start
@@ -59,12 +38,12 @@ pub factor-spec : {M : Type 1} → statement M
 factor-spec =
     tie.close
     (tie.spec
-    sub-value-at
-    value-at-requires
+    (λ c. search needs)
+    (λ c κs. search needs)
     mul-entry
-    entry-requires
-    wide-requires
-    product-requires
-    inverse-requires
-    difference-requires
+    (λ c κs. search needs)
+    (λ c κs. search needs)
+    (λ c κs. search needs)
+    (λ c κs. search needs)
+    (λ c κs. search needs)
     returns)

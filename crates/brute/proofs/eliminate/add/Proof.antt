@@ -22,15 +22,6 @@ loop-of c = c .before .before .before
 loop-holds : tie.Need-loop-holds Inv-loop μ-loop
 loop-holds c = (omega arith, refl, λ posed. reduced-none _ _ _ posed)
 
-is-new-requires : tie.Need-is-new-requires Inv-loop μ-loop
-is-new-requires c κs = search needs
-
-keep-requires : tie.Need-keep-requires Inv-loop μ-loop
-keep-requires c κs = search needs
-
-same-length : tie.Need-same-length Inv-loop μ-loop
-same-length c = search needs
-
 returns : tie.Need-returns Inv-loop μ-loop
 returns c =
     let kept = c .before .before in
@@ -42,15 +33,6 @@ returns c =
           leading _ _ _ posed _ _ (at .loop .inv .2 posed) (at .loop .inv .0) (omega arith) (found .before .is-new .ensures .yes (found .if1 .taken)) _
           (kept .keep .ensures);
     }
-
-cancel-requires : tie.Need-cancel-requires Inv-loop μ-loop
-cancel-requires c κs = search needs
-
-add-k : tie.Need-add-k Inv-loop μ-loop
-add-k c = search needs
-
-loop-less : tie.Need-loop-less Inv-loop μ-loop
-loop-less c = search needs
 
 loop-again : tie.Need-loop-again Inv-loop μ-loop
 loop-again c =
@@ -64,12 +46,6 @@ loop-again c =
           (known .before .is-new .ensures .no (known .if1 .left)),
     )
 
-get-requires : tie.Need-get-requires Inv-loop μ-loop
-get-requires c κs = search needs
-
-same-length-2 : tie.Need-same-length-2 Inv-loop μ-loop
-same-length-2 c = search needs
-
 returns-2 : tie.Need-returns-2 Inv-loop μ-loop
 returns-2 c =
     let inv = c .before .before .before .before .loop .inv in
@@ -77,9 +53,6 @@ returns-2 c =
       size = inv .1;
       settled = λ posed. contradicting _ _ _ posed _ _ (inv .2 posed) (omega arith) (λ e. c .if2 .taken (c .before .get .ensures ∙ e));
     }
-
-same-length-3 : tie.Need-same-length-3 Inv-loop μ-loop
-same-length-3 c = search needs
 
 returns-3 : tie.Need-returns-3 Inv-loop μ-loop
 returns-3 c =
@@ -96,16 +69,16 @@ add-spec =
     Inv-loop
     μ-loop
     loop-holds
-    is-new-requires
-    keep-requires
-    same-length
+    (λ c κs. search needs)
+    (λ c κs. search needs)
+    (λ c. search needs)
     returns
-    cancel-requires
-    add-k
-    loop-less
+    (λ c κs. search needs)
+    (λ c. search needs)
+    (λ c. search needs)
     loop-again
-    get-requires
-    same-length-2
+    (λ c κs. search needs)
+    (λ c. search needs)
     returns-2
-    same-length-3
+    (λ c. search needs)
     returns-3)

@@ -14,26 +14,11 @@ Inv-loop p table₀ k n x j₀ table j = (j ≤ n) × Cancelled p table₀ table
 abbrev μ-loop : tie.MeasureT-loop
 μ-loop p table₀ k n x j₀ table j = n - j
 
-get-requires : tie.Need-get-requires Inv-loop μ-loop
-get-requires c κs = search needs
-
-same-length : tie.Need-same-length Inv-loop μ-loop
-same-length c = search needs
-
 returns : tie.Need-returns Inv-loop μ-loop
 returns c = cancelled-zero _ _ _ _ (sym (c .before .get .ensures) ∙ c .if1 .taken)
 
 loop-holds : tie.Need-loop-holds Inv-loop μ-loop
 loop-holds c = (omega arith, cancelled-none _ _ _)
-
-cancel-value-requires : tie.Need-cancel-value-requires Inv-loop μ-loop
-cancel-value-requires c κs = search needs
-
-add-j : tie.Need-add-j Inv-loop μ-loop
-add-j c = search needs
-
-loop-less : tie.Need-loop-less Inv-loop μ-loop
-loop-less c = search needs
 
 loop-again : tie.Need-loop-again Inv-loop μ-loop
 loop-again c =
@@ -42,9 +27,6 @@ loop-again c =
       omega arith,
       cancelled-more _ _ _ _ _ _ _ (at .loop .inv .1) (at .before .before .get .ensures) (at .before .if1 .left) (asked .cancel-value .ensures),
     )
-
-same-length-2 : tie.Need-same-length-2 Inv-loop μ-loop
-same-length-2 c = search needs
 
 returns-2 : tie.Need-returns-2 Inv-loop μ-loop
 returns-2 c = cancelled-all _ _ _ _ _ _ (c .before .loop .inv .1) (c .before .loop .inv .0) (omega arith)
@@ -55,13 +37,13 @@ cancel-spec =
     (tie.spec
     Inv-loop
     μ-loop
-    get-requires
-    same-length
+    (λ c κs. search needs)
+    (λ c. search needs)
     returns
     loop-holds
-    cancel-value-requires
-    add-j
-    loop-less
+    (λ c κs. search needs)
+    (λ c. search needs)
+    (λ c. search needs)
     loop-again
-    same-length-2
+    (λ c. search needs)
     returns-2)

@@ -12,24 +12,6 @@ lead-of c = c .before .before .before .before .before
 abbrev start-of : tie.After-value → tie.Start
 start-of c = c .before .before .before
 
-value-requires : tie.Need-value-requires
-value-requires c κs = search needs
-
-get-requires : tie.Need-get-requires
-get-requires c κs = search needs
-
-value-requires-2 : tie.Need-value-requires-2
-value-requires-2 c κs = search needs
-
-cross-requires : tie.Need-cross-requires
-cross-requires c κs = search needs
-
-put-requires : tie.Need-put-requires
-put-requires c κs = search needs
-
-same-length : tie.Need-same-length
-same-length c = search needs
-
 returns : tie.Need-returns
 returns c =
     let at = c .before .before .before .before in
@@ -49,10 +31,10 @@ pub cancel-value-spec : {M : Type 1} → statement M
 cancel-value-spec =
     tie.close
     (tie.spec
-    value-requires
-    get-requires
-    value-requires-2
-    cross-requires
-    put-requires
-    same-length
+    (λ c κs. search needs)
+    (λ c κs. search needs)
+    (λ c κs. search needs)
+    (λ c κs. search needs)
+    (λ c κs. search needs)
+    (λ c. search needs)
     returns)

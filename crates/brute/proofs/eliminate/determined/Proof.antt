@@ -19,19 +19,10 @@ abbrev μ-loop : tie.MeasureT-loop
 loop-holds : tie.Need-loop-holds Inv-loop μ-loop
 loop-holds c = (omega arith, each-none _ _)
 
-value-requires : tie.Need-value-requires Inv-loop μ-loop
-value-requires c κs = search needs
-
 returns : tie.Need-returns Inv-loop μ-loop
 returns c =
     let at = c .before .before .before in
     each-fails _ _ _ (at .loop .k) (at .loop .inv .0) (omega arith) (λ n. n (sym (c .before .value .ensures) ∙ c .if1 .taken))
-
-add-k : tie.Need-add-k Inv-loop μ-loop
-add-k c = search needs
-
-loop-less : tie.Need-loop-less Inv-loop μ-loop
-loop-less c = search needs
 
 loop-again : tie.Need-loop-again Inv-loop μ-loop
 loop-again c = let at = c .before .before .before in (omega arith, each-more _ _ _ (at .loop .inv .1) (λ e. c .if1 .left (c .before .value .ensures ∙ e)))
@@ -46,9 +37,9 @@ determined-spec =
     Inv-loop
     μ-loop
     loop-holds
-    value-requires
+    (λ c κs. search needs)
     returns
-    add-k
-    loop-less
+    (λ c. search needs)
+    (λ c. search needs)
     loop-again
     returns-2)

@@ -20,22 +20,10 @@ next-of c = c .before .before
 abbrev enough-of : tie.After-wrapping-add-usize → tie.Else2
 enough-of c = c .before .before
 
-table-requires : tie.Need-table-requires
-table-requires c κs = search needs
-
-slice-aggregate-shortest : tie.Need-slice-aggregate-shortest
-slice-aggregate-shortest c = search needs
-
-shortest-requires : tie.Need-shortest-requires
-shortest-requires c κs = search needs
-
 returns : tie.Need-returns
 returns c =
     let found = found-of (c .before) in
     not-alone _ _ _ _ _ _ _ _ (begun-of found .table .ensures) (found .shortest .ensures) (not-true _ (c .if1 .taken))
-
-short-row-requires : tie.Need-short-row-requires
-short-row-requires c κs = search needs
 
 returns-2 : tie.Need-returns-2
 returns-2 c =
@@ -43,21 +31,6 @@ returns-2 c =
     let found = found-of (one .before) in
     too-short _ _ _ _ _ _ _ _ (begun-of found .table .ensures) (found .shortest .ensures) (not-false _ (one .if1 .left)) _ (c .before .short-row .ensures)
     (c .if2 .taken)
-
-slice-aggregate-mark : tie.Need-slice-aggregate-mark
-slice-aggregate-mark c = search needs
-
-wrapping-add-usize-requires : tie.Need-wrapping-add-usize-requires
-wrapping-add-usize-requires c κs = search needs
-
-mark-requires : tie.Need-mark-requires
-mark-requires c κs = search needs
-
-size-requires : tie.Need-size-requires
-size-requires c κs = search needs
-
-same-length : tie.Need-same-length
-same-length c = search needs
 
 returns-3 : tie.Need-returns-3
 returns-3 c =
@@ -69,9 +42,6 @@ returns-3 c =
     other-number _ _ _ _ _ _ _ _ (begun-of found .table .ensures) (found .shortest .ensures) (not-false _ (one .if1 .left)) _
     (enough .before .short-row .ensures) (enough .if2 .left) _ (next .wrapping-add-usize .ensures) _ (marked .mark .ensures) _ (c .before .size .ensures)
     (c .if3 .taken)
-
-same-length-2 : tie.Need-same-length-2
-same-length-2 c = search needs
 
 returns-4 : tie.Need-returns-4
 returns-4 c =
@@ -88,17 +58,17 @@ pub locate-spec : {M : Type 1} → statement M
 locate-spec =
     tie.close
     (tie.spec
-    table-requires
-    slice-aggregate-shortest
-    shortest-requires
+    (λ c κs. search needs)
+    (λ c. search needs)
+    (λ c κs. search needs)
     returns
-    short-row-requires
+    (λ c κs. search needs)
     returns-2
-    slice-aggregate-mark
-    wrapping-add-usize-requires
-    mark-requires
-    size-requires
-    same-length
+    (λ c. search needs)
+    (λ c κs. search needs)
+    (λ c κs. search needs)
+    (λ c κs. search needs)
+    (λ c. search needs)
     returns-3
-    same-length-2
+    (λ c. search needs)
     returns-4)

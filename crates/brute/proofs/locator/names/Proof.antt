@@ -9,24 +9,6 @@ use Rattle.brute.proofs.locator.names.Tie as tie
 abbrev posed-of : tie.After-add → tie.After-pose-root
 posed-of c = c .before .before .before .before
 
-power-requires : tie.Need-power-requires
-power-requires c κs = search needs
-
-power-requires-2 : tie.Need-power-requires-2
-power-requires-2 c κs = search needs
-
-pose-root-requires : tie.Need-pose-root-requires
-pose-root-requires c κs = search needs
-
-add-requires : tie.Need-add-requires
-add-requires c κs = search needs
-
-follows-requires : tie.Need-follows-requires
-follows-requires c κs = search needs
-
-same-length : tie.Need-same-length
-same-length c = search needs
-
 returns : tie.Need-returns
 returns c =
     let added = c .before .before .before in
@@ -39,10 +21,10 @@ pub names-spec : {M : Type 1} → statement M
 names-spec =
     tie.close
     (tie.spec
-    power-requires
-    power-requires-2
-    pose-root-requires
-    add-requires
-    follows-requires
-    same-length
+    (λ c κs. search needs)
+    (λ c κs. search needs)
+    (λ c κs. search needs)
+    (λ c κs. search needs)
+    (λ c κs. search needs)
+    (λ c. search needs)
     returns)

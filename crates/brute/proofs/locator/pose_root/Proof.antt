@@ -18,18 +18,6 @@ abbrev μ-loop : tie.MeasureT-loop
 loop-holds : tie.Need-loop-holds Inv-loop μ-loop
 loop-holds c = (omega arith, power-none (c .before .args .y), wrote-none _ 0 _)
 
-put-requires : tie.Need-put-requires Inv-loop μ-loop
-put-requires c κs = search needs
-
-times-requires : tie.Need-times-requires Inv-loop μ-loop
-times-requires c κs = search needs
-
-add-k : tie.Need-add-k Inv-loop μ-loop
-add-k c = search needs
-
-loop-less : tie.Need-loop-less Inv-loop μ-loop
-loop-less c = search needs
-
 loop-again : tie.Need-loop-again Inv-loop μ-loop
 loop-again c =
     let at = c .before .before .before .before .before .before in (
@@ -37,9 +25,6 @@ loop-again c =
       power-more _ _ (at .loop .inv .1) (c .times .ensures),
       wrote-put 0 (at .loop .k) _ (at .loop .inv .2) (omega arith) (c .before .before .before .put .ensures) (at .loop .inv .1),
     )
-
-same-length : tie.Need-same-length Inv-loop μ-loop
-same-length c = search needs
 
 returns : tie.Need-returns Inv-loop μ-loop
 returns c = wrote-all 0 _ _ (c .before .loop .inv .2) (c .before .loop .inv .0) (omega arith)
@@ -51,10 +36,10 @@ pose-root-spec =
     Inv-loop
     μ-loop
     loop-holds
-    put-requires
-    times-requires
-    add-k
-    loop-less
+    (λ c κs. search needs)
+    (λ c κs. search needs)
+    (λ c. search needs)
+    (λ c. search needs)
     loop-again
-    same-length
+    (λ c. search needs)
     returns)

@@ -18,23 +18,11 @@ abbrev μ-loop : tie.MeasureT-loop
 loop-holds : tie.Need-loop-holds Inv-loop μ-loop
 loop-holds c = (refl, each-none _ _)
 
-get-requires : tie.Need-get-requires Inv-loop μ-loop
-get-requires c κs = search needs
-
-cast-if1 : tie.Need-cast-if1 Inv-loop μ-loop
-cast-if1 c = search needs
-
 returns : tie.Need-returns Inv-loop μ-loop
 returns c =
     let at = c .before .before .before in
     let e = c .before .get .ensures in
     some-found _ _ (at .loop .h) (omega arith) (omega arith)
-
-add-h : tie.Need-add-h Inv-loop μ-loop
-add-h c = search needs
-
-loop-less : tie.Need-loop-less Inv-loop μ-loop
-loop-less c = search needs
 
 loop-again : tie.Need-loop-again Inv-loop μ-loop
 loop-again c = let at = c .before .before .before in let e = c .before .get .ensures in (refl, each-more _ _ _ (at .loop .inv .1) (λ l. omega arith))
@@ -49,10 +37,10 @@ short-row-spec =
     Inv-loop
     μ-loop
     loop-holds
-    get-requires
-    cast-if1
+    (λ c κs. search needs)
+    (λ c. search needs)
     returns
-    add-h
-    loop-less
+    (λ c. search needs)
+    (λ c. search needs)
     loop-again
     returns-2)

@@ -29,24 +29,6 @@ returns c = so-far-short _ _ _ _ (c .if1 .taken)
 loop-holds : tie.Need-loop-holds Inv-loop μ-loop
 loop-holds c = (refl, omega arith, omega arith, so-far-none _ _ _ _)
 
-add-pose : tie.Need-add-pose Inv-loop μ-loop
-add-pose c = search needs
-
-pose-requires : tie.Need-pose-requires Inv-loop μ-loop
-pose-requires c κs = search needs
-
-add-add : tie.Need-add-add Inv-loop μ-loop
-add-add c = search needs
-
-add-requires : tie.Need-add-requires Inv-loop μ-loop
-add-requires c κs = search needs
-
-contradicts-requires : tie.Need-contradicts-requires Inv-loop μ-loop
-contradicts-requires c κs = search needs
-
-same-length : tie.Need-same-length Inv-loop μ-loop
-same-length c = search needs
-
 returns-2 : tie.Need-returns-2 Inv-loop μ-loop
 returns-2 c =
     let added = added-of (c .before) in
@@ -55,12 +37,6 @@ returns-2 c =
     let inv = at .loop .inv in
     so-far-fails _ _ _ _ (at .loop .j) _ _ _ (inv .3) (inv .1) (posed .pose .ensures) _ (added .add .ensures)
     (c .before .contradicts .ensures .yes (c .if2 .taken)) (omega arith)
-
-add-j : tie.Need-add-j Inv-loop μ-loop
-add-j c = search needs
-
-loop-less : tie.Need-loop-less Inv-loop μ-loop
-loop-less c = search needs
 
 loop-again : tie.Need-loop-again Inv-loop μ-loop
 loop-again c =
@@ -75,9 +51,6 @@ loop-again c =
           (c .before .contradicts .ensures .no (c .if2 .left)),
     )
 
-same-length-2 : tie.Need-same-length-2 Inv-loop μ-loop
-same-length-2 c = search needs
-
 returns-3 : tie.Need-returns-3 Inv-loop μ-loop
 returns-3 c =
     let inv = c .before .loop .inv in
@@ -91,15 +64,15 @@ add-sequence-spec =
     μ-loop
     returns
     loop-holds
-    add-pose
-    pose-requires
-    add-add
-    add-requires
-    contradicts-requires
-    same-length
+    (λ c. search needs)
+    (λ c κs. search needs)
+    (λ c. search needs)
+    (λ c κs. search needs)
+    (λ c κs. search needs)
+    (λ c. search needs)
     returns-2
-    add-j
-    loop-less
+    (λ c. search needs)
+    (λ c. search needs)
     loop-again
-    same-length-2
+    (λ c. search needs)
     returns-3)

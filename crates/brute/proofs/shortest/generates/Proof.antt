@@ -21,12 +21,6 @@ abbrev μ-loop : tie.MeasureT-loop
 loop-holds : tie.Need-loop-holds Inv-loop μ-loop
 loop-holds c = (refl, each-none _ _)
 
-sequence-requires : tie.Need-sequence-requires Inv-loop μ-loop
-sequence-requires c κs = search needs
-
-generates-one-requires : tie.Need-generates-one-requires Inv-loop μ-loop
-generates-one-requires c κs = search needs
-
 returns : tie.Need-returns Inv-loop μ-loop
 returns c =
     let at = c .before .before .before .before in
@@ -36,12 +30,6 @@ returns c =
     (c .before .before .sequence .ensures)
     (c .before .generates-one .ensures) in
     each-fails _ _ _ (at .loop .h) (omega arith) (omega arith) (told-fails _ told (c .if1 .taken))
-
-add-h : tie.Need-add-h Inv-loop μ-loop
-add-h c = search needs
-
-loop-less : tie.Need-loop-less Inv-loop μ-loop
-loop-less c = search needs
 
 loop-again : tie.Need-loop-again Inv-loop μ-loop
 loop-again c =
@@ -63,10 +51,10 @@ generates-spec =
     Inv-loop
     μ-loop
     loop-holds
-    sequence-requires
-    generates-one-requires
+    (λ c κs. search needs)
+    (λ c κs. search needs)
     returns
-    add-h
-    loop-less
+    (λ c. search needs)
+    (λ c. search needs)
     loop-again
     returns-2)

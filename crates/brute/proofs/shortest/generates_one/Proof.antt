@@ -21,22 +21,10 @@ returns c = each-holds _ _ _ (c .before .before .before .args .l) (omega arith) 
 loop-holds : tie.Need-loop-holds Inv-loop μ-loop
 loop-holds c = (refl, omega arith, each-none _ _)
 
-add-discrepancy : tie.Need-add-discrepancy Inv-loop μ-loop
-add-discrepancy c = search needs
-
-discrepancy-requires : tie.Need-discrepancy-requires Inv-loop μ-loop
-discrepancy-requires c κs = search needs
-
 returns-2 : tie.Need-returns-2 Inv-loop μ-loop
 returns-2 c =
     let at = c .before .before .before in
     each-fails _ _ _ (at .loop .j) (at .loop .inv .1) (omega arith) (λ e. c .if2 .taken (c .before .discrepancy .ensures ∙ e))
-
-add-j : tie.Need-add-j Inv-loop μ-loop
-add-j c = search needs
-
-loop-less : tie.Need-loop-less Inv-loop μ-loop
-loop-less c = search needs
 
 loop-again : tie.Need-loop-again Inv-loop μ-loop
 loop-again c =
@@ -54,10 +42,10 @@ generates-one-spec =
     μ-loop
     returns
     loop-holds
-    add-discrepancy
-    discrepancy-requires
+    (λ c. search needs)
+    (λ c κs. search needs)
     returns-2
-    add-j
-    loop-less
+    (λ c. search needs)
+    (λ c. search needs)
     loop-again
     returns-3)

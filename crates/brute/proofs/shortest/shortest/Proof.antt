@@ -21,18 +21,6 @@ loop-of c = c .before .before .before
 loop-holds : tie.Need-loop-holds Inv-loop μ-loop
 loop-holds c = (omega arith, none-yet _ _ _ _)
 
-solvable-requires : tie.Need-solvable-requires Inv-loop μ-loop
-solvable-requires c κs = search needs
-
-add-determined : tie.Need-add-determined Inv-loop μ-loop
-add-determined c = search needs
-
-determined-requires : tie.Need-determined-requires Inv-loop μ-loop
-determined-requires c κs = search needs
-
-same-length : tie.Need-same-length Inv-loop μ-loop
-same-length c = search needs
-
 returns : tie.Need-returns Inv-loop μ-loop
 returns c =
     let held = c .before .before in
@@ -40,20 +28,11 @@ returns c =
     let at = loop-of tried in
     found _ _ _ _ (at .loop .l) _ _ (at .loop .inv .1) (omega arith) _ (tried .solvable .ensures) (held .if1 .taken) _ (c .determined .ensures)
 
-add-l : tie.Need-add-l Inv-loop μ-loop
-add-l c = search needs
-
-loop-less : tie.Need-loop-less Inv-loop μ-loop
-loop-less c = search needs
-
 loop-again : tie.Need-loop-again Inv-loop μ-loop
 loop-again c =
     let tried = tried-of (c .before) in
     let at = loop-of tried in
     (omega arith, none-more _ _ _ _ (at .loop .l) _ _ (at .loop .inv .1) (omega arith) _ (tried .solvable .ensures) (c .if1 .left))
-
-same-length-2 : tie.Need-same-length-2 Inv-loop μ-loop
-same-length-2 c = search needs
 
 returns-2 : tie.Need-returns-2 Inv-loop μ-loop
 returns-2 c = not-found _ _ _ _ (c .before .loop .l) _ (c .before .loop .inv .1) (c .before .loop .inv .0) (omega arith)
@@ -65,13 +44,13 @@ shortest-spec =
     Inv-loop
     μ-loop
     loop-holds
-    solvable-requires
-    add-determined
-    determined-requires
-    same-length
+    (λ c κs. search needs)
+    (λ c. search needs)
+    (λ c κs. search needs)
+    (λ c. search needs)
     returns
-    add-l
-    loop-less
+    (λ c. search needs)
+    (λ c. search needs)
     loop-again
-    same-length-2
+    (λ c. search needs)
     returns-2)

@@ -24,25 +24,10 @@ added-of c = c .before .before
 abbrev loop-of : tie.After-add-sequence Inv-loop μ-loop → tie.At-loop Inv-loop μ-loop
 loop-of c = c .before .before .before .before
 
-wrapping-add-usize-requires : tie.Need-wrapping-add-usize-requires Inv-loop μ-loop
-wrapping-add-usize-requires c κs = search needs
-
-clear-requires : tie.Need-clear-requires Inv-loop μ-loop
-clear-requires c κs = search needs
-
 loop-holds : tie.Need-loop-holds Inv-loop μ-loop
 loop-holds c =
     let cleared = c .before .before in
     (refl, omega arith, all-begin _ _ _ _ _ _ _ (cleared .before .wrapping-add-usize .ensures) (cleared .clear .ensures))
-
-sequence-requires : tie.Need-sequence-requires Inv-loop μ-loop
-sequence-requires c κs = search needs
-
-add-sequence-requires : tie.Need-add-sequence-requires Inv-loop μ-loop
-add-sequence-requires c κs = search needs
-
-same-length : tie.Need-same-length Inv-loop μ-loop
-same-length c = search needs
 
 returns : tie.Need-returns Inv-loop μ-loop
 returns c =
@@ -50,12 +35,6 @@ returns c =
     let at = loop-of added in
     all-fails _ _ _ _ (at .loop .h) _ _ _ _ _ (at .loop .inv .2) (added .before .sequence .ensures) (added .add-sequence .ensures)
     _ (cleared-of at .clear .ensures .size) (not-true _ (c .if1 .taken)) (omega arith)
-
-add-h : tie.Need-add-h Inv-loop μ-loop
-add-h c = search needs
-
-loop-less : tie.Need-loop-less Inv-loop μ-loop
-loop-less c = search needs
 
 loop-again : tie.Need-loop-again Inv-loop μ-loop
 loop-again c =
@@ -66,9 +45,6 @@ loop-again c =
       all-more _ _ _ _ (at .loop .h) _ _ _ _ _ (at .loop .inv .2) (added .before .sequence .ensures) (added .add-sequence .ensures)
           (not-false _ (c .if1 .left)),
     )
-
-same-length-2 : tie.Need-same-length-2 Inv-loop μ-loop
-same-length-2 c = search needs
 
 returns-2 : tie.Need-returns-2 Inv-loop μ-loop
 returns-2 c =
@@ -81,15 +57,15 @@ solvable-spec =
     (tie.spec
     Inv-loop
     μ-loop
-    wrapping-add-usize-requires
-    clear-requires
+    (λ c κs. search needs)
+    (λ c κs. search needs)
     loop-holds
-    sequence-requires
-    add-sequence-requires
-    same-length
+    (λ c κs. search needs)
+    (λ c κs. search needs)
+    (λ c. search needs)
     returns
-    add-h
-    loop-less
+    (λ c. search needs)
+    (λ c. search needs)
     loop-again
-    same-length-2
+    (λ c. search needs)
     returns-2)

@@ -32,9 +32,6 @@ eight c = search needs
 sized : (c : tie.After-shortest-arg) → length (now (c .before .args .sums)) ≡ 512
 sized c = search needs
 
-slice-aggregate-shortest : tie.Need-slice-aggregate-shortest
-slice-aggregate-shortest c = search needs
-
 shortest-requires : tie.Need-shortest-requires
 shortest-requires c κs =
     let start = c .before .before in
@@ -43,9 +40,6 @@ shortest-requires c κs =
       width = sized (c .before);
       accepted = lent-passed (start .args .s) (now (start .args .sums)) (start .pre .0) (start .pre .1) (eight start) (sized (c .before));
     }
-
-enum-known-found : tie.Need-enum-known-found
-enum-known-found c = search needs
 
 -- what is seen where the finder has not refused
 see : (c : tie.After-found) →
@@ -56,15 +50,6 @@ see c =
     let finds = searched c .shortest .ensures in
     seen (start .args .s) (now (start .args .sums)) (start .pre .0) (start .pre .1) (eight start) (sized (searched c .before .before)) _ _ _
     (sym (ap answerOf (c .found .given .1)) ∙ finds .answers) (finds .leaves)
-
-enum-told : tie.Need-enum-told
-enum-told c = search needs
-
-shaped-requires : tie.Need-shaped-requires
-shaped-requires c κs = search needs
-
-refuse-requires : tie.Need-refuse-requires
-refuse-requires c κs = search needs
 
 -- the finder never refuses
 returns : tie.Need-returns
@@ -77,26 +62,11 @@ returns c =
 
 -- ---- what is given after each test
 
-shaped-requires-2 : tie.Need-shaped-requires-2
-shaped-requires-2 c κs = search needs
-
-refuse-requires-2 : tie.Need-refuse-requires-2
-refuse-requires-2 c κs = search needs
-
 returns-2 : tie.Need-returns-2
 returns-2 c =
     let other = c .before .before in
     λ a f. refusal-left a _ _ f _ (c .refuse2 .ensures) (c .before .shaped2 .ensures)
     ∙ gives-24 (see (other .before .before)) _ f (not-true _ (other .if1 .taken))
-
-rows-reach-requires : tie.Need-rows-reach-requires
-rows-reach-requires c κs = search needs
-
-shaped-requires-3 : tie.Need-shaped-requires-3
-shaped-requires-3 c κs = search needs
-
-refuse-requires-3 : tie.Need-refuse-requires-3
-refuse-requires-3 c κs = search needs
 
 returns-3 : tie.Need-returns-3
 returns-3 c =
@@ -114,12 +84,6 @@ reach c = sym (c .before .rows-reach .ensures) ∙ not-false _ (c .if2 .left)
 add-end : tie.Need-add-end
 add-end c = let m = length-most (see (found-before c)) in omega arith
 
-sub-named-columns : tie.Need-sub-named-columns
-sub-named-columns c = search needs
-
-part-named-columns-start : tie.Need-part-named-columns-start
-part-named-columns-start c = search needs
-
 part-named-columns-end : tie.Need-part-named-columns-end
 part-named-columns-end c =
     let found = found-before (c .before) in
@@ -130,15 +94,6 @@ part-named-columns-end c =
 named-columns-requires : tie.Need-named-columns-requires
 named-columns-requires c κs = searchable (see (found-before (c .before .before)))
 
-size-requires : tie.Need-size-requires
-size-requires c κs = search needs
-
-shaped-requires-4 : tie.Need-shaped-requires-4
-shaped-requires-4 c κs = search needs
-
-refuse-requires-4 : tie.Need-refuse-requires-4
-refuse-requires-4 c κs = search needs
-
 returns-4 : tie.Need-returns-4
 returns-4 c =
     let few = c .before .before in
@@ -147,9 +102,6 @@ returns-4 c =
     λ a f. refusal-left a _ _ f _ (c .refuse4 .ensures) (c .before .shaped4 .ensures)
     ∙ gives-26 (see (found-before reached)) _ f (alone reached) (reach reached) (named .named-columns .ensures)
     (let n = few .before .size .ensures in let t = few .if3 .taken in omega arith)
-
-located-requires : tie.Need-located-requires
-located-requires c κs = search needs
 
 returns-5 : tie.Need-returns-5
 returns-5 c =
@@ -163,28 +115,28 @@ pub locate-from-spec : {M : Type 1} → statement M
 locate-from-spec =
     tie.close
     (tie.spec
-    slice-aggregate-shortest
+    (λ c. search needs)
     shortest-requires
-    enum-known-found
-    enum-told
-    shaped-requires
-    refuse-requires
+    (λ c. search needs)
+    (λ c. search needs)
+    (λ c κs. search needs)
+    (λ c κs. search needs)
     returns
-    shaped-requires-2
-    refuse-requires-2
+    (λ c κs. search needs)
+    (λ c κs. search needs)
     returns-2
-    rows-reach-requires
-    shaped-requires-3
-    refuse-requires-3
+    (λ c κs. search needs)
+    (λ c κs. search needs)
+    (λ c κs. search needs)
     returns-3
     add-end
-    sub-named-columns
-    part-named-columns-start
+    (λ c. search needs)
+    (λ c. search needs)
     part-named-columns-end
     named-columns-requires
-    size-requires
-    shaped-requires-4
-    refuse-requires-4
+    (λ c κs. search needs)
+    (λ c κs. search needs)
+    (λ c κs. search needs)
     returns-4
-    located-requires
+    (λ c κs. search needs)
     returns-5)

@@ -17,27 +17,12 @@ use Rattle.calls.proofs.from_sums.shortest.Tie as tie
 abbrev start-of : tie.After-sum-count → tie.Start
 start-of c = c .before .before .before .before
 
-sum-count-requires : tie.Need-sum-count-requires
-sum-count-requires c κs = search needs
-
-sub-synthesize : tie.Need-sub-synthesize
-sub-synthesize c = search needs
-
-part-synthesize-start : tie.Need-part-synthesize-start
-part-synthesize-start c = search needs
-
 part-synthesize-end : tie.Need-part-synthesize-end
 part-synthesize-end c =
     let s = c .before .before .before .before .before in
     let eight : length (s .args .s .checks) ≡ 8 = search needs in
     let r = shape-ranges _ (s .pre .shape) in
     omega arith
-
-sub-synthesize-2 : tie.Need-sub-synthesize-2
-sub-synthesize-2 c = search needs
-
-part-synthesize-start-2 : tie.Need-part-synthesize-start-2
-part-synthesize-start-2 c = search needs
 
 part-synthesize-end-2 : tie.Need-part-synthesize-end-2
 part-synthesize-end-2 c =
@@ -58,9 +43,6 @@ synthesize-requires c κs =
     let start = start-of counted in
     rw (lengths (start .args .s), symbols (now (start .args .sums)) _ _ (counted .sum-count .ensures)) (start .pre .accepted)
 
-same-length : tie.Need-same-length
-same-length c = search needs
-
 returns : tie.Need-returns
 returns c =
     let called = c .before .before in
@@ -72,13 +54,13 @@ pub shortest-spec : {M : Type 1} → statement M
 shortest-spec =
     tie.close
     (tie.spec
-    sum-count-requires
-    sub-synthesize
-    part-synthesize-start
+    (λ c κs. search needs)
+    (λ c. search needs)
+    (λ c. search needs)
     part-synthesize-end
-    sub-synthesize-2
-    part-synthesize-start-2
+    (λ c. search needs)
+    (λ c. search needs)
     part-synthesize-end-2
     synthesize-requires
-    same-length
+    (λ c. search needs)
     returns)

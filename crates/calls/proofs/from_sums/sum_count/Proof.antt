@@ -33,12 +33,6 @@ cast-all c = let q = most c in omega arith
 add-all : tie.Need-add-all Inv-loop μ-loop
 add-all c = let q = most c in let r = shape-ranges _ (c .before .before .before .pre) in omega arith
 
-add-h : tie.Need-add-h Inv-loop μ-loop
-add-h c = omega arith
-
-loop-less : tie.Need-loop-less Inv-loop μ-loop
-loop-less c = omega arith
-
 loop-again : tie.Need-loop-again Inv-loop μ-loop
 loop-again c =
     let at = c .before .before .loop in
@@ -58,7 +52,7 @@ sum-count-spec =
     element-copy-out-all
     cast-all
     add-all
-    add-h
-    loop-less
+    (λ c. omega arith)
+    (λ c. omega arith)
     loop-again
     returns)

@@ -29,12 +29,6 @@ well-formed c = c .before .before .before .before
 
 -- ---- the tests
 
-counts-as-empty-requires : tie.Need-counts-as-empty-requires
-counts-as-empty-requires c κs = search needs
-
-refuse-requires : tie.Need-refuse-requires
-refuse-requires c κs = search needs
-
 returns : tie.Need-returns
 returns c = λ a. refusal-outcome _ _ _ (c .refuse .ensures) refl ∙ locate-empty _ _ (sym (c .before .before .counts-as-empty .ensures) ∙ c .before .if1 .taken)
 
@@ -45,21 +39,12 @@ full c = sym (c .before .counts-as-empty .ensures) ∙ c .if1 .left
 check-frame-requires : tie.Need-check-frame-requires
 check-frame-requires c κs = has-shape _ (full c)
 
-enum-known-checked : tie.Need-enum-known-checked
-enum-known-checked c = search needs
-
-refuse-requires-2 : tie.Need-refuse-requires-2
-refuse-requires-2 c κs = search needs
-
 returns-2 : tie.Need-returns-2
 returns-2 c =
     let checked = c .before .before in
     λ a. refusal-outcome _ _ _ (c .refuse2 .ensures) refl
     ∙ locate-refused _ _ (full (checked .before .before .before)) _
     (sym (checked .before .before .check-frame .ensures) ∙ ap outcomeOf (checked .checked .given .1))
-
-enum-told : tie.Need-enum-told
-enum-told c = search needs
 
 -- the frame is well-formed
 passes : (c : tie.After-enum-told) → outcome (frameTests (start-of (tested c) .args .j .shape) (now (start-of (tested c) .args .frame))) ≡ passed
@@ -77,18 +62,12 @@ locate-from-requires c κs =
       λ k. subst⁻¹ (λ (l : List _). getD l k 0 < 257) (summed .frame-sums .ensures) (held-below _ _ k),
     )
 
-enum-told-2 : tie.Need-enum-told-2
-enum-told-2 c = search needs
-
 returns-3 : tie.Need-returns-3
 returns-3 c =
     let located = c .before .before in
     let told = well-formed located in
     λ a. sums-kept _ _ _ _ _ _ _ (located .locate-from .ensures) (located .before .before .before .frame-sums .ensures) a _ (c .enum-told2 .given .1)
     ∙ locate-goes-on _ _ (full (tested told)) (passes told)
-
-enum-told-3 : tie.Need-enum-told-3
-enum-told-3 c = search needs
 
 returns-4 : tie.Need-returns-4
 returns-4 c =
@@ -101,17 +80,17 @@ pub locate-spec : {M : Type 1} → statement M
 locate-spec =
     tie.close
     (tie.spec
-    counts-as-empty-requires
-    refuse-requires
+    (λ c κs. search needs)
+    (λ c κs. search needs)
     returns
     check-frame-requires
-    enum-known-checked
-    refuse-requires-2
+    (λ c. search needs)
+    (λ c κs. search needs)
     returns-2
-    enum-told
+    (λ c. search needs)
     frame-sums-requires
     locate-from-requires
-    enum-told-2
+    (λ c. search needs)
     returns-3
-    enum-told-3
+    (λ c. search needs)
     returns-4)

@@ -55,24 +55,12 @@ begun c = start-of (full-before (located-before c))
 
 -- ---- the needs
 
-counts-as-empty-requires : tie.Need-counts-as-empty-requires
-counts-as-empty-requires c κs = search needs
-
-refuse-requires : tie.Need-refuse-requires
-refuse-requires c κs = search needs
-
 returns : tie.Need-returns
 returns c = λ a. refusal-outcome _ _ _ (c .refuse .ensures) refl ∙ repair-empty _ _ (sym (c .before .before .counts-as-empty .ensures) ∙ c .before .if1 .taken)
 
 -- the job does not count as empty
 full : (c : tie.Else1) → countsEmpty (start-of c .args .j) ≡ false
 full c = sym (c .before .counts-as-empty .ensures) ∙ c .if1 .left
-
-is-located-requires : tie.Need-is-located-requires
-is-located-requires c κs = search needs
-
-refuse-requires-2 : tie.Need-refuse-requires-2
-refuse-requires-2 c κs = search needs
 
 returns-2 : tie.Need-returns-2
 returns-2 c =
@@ -85,24 +73,12 @@ located c = sym (c .before .is-located .ensures) ∙ not-false _ (c .if2 .left)
 check-frame-requires : tie.Need-check-frame-requires
 check-frame-requires c κs = has-shape _ (full (c .before .before .before))
 
-enum-known-checked : tie.Need-enum-known-checked
-enum-known-checked c = search needs
-
-refuse-requires-3 : tie.Need-refuse-requires-3
-refuse-requires-3 c κs = search needs
-
-same-length : tie.Need-same-length
-same-length c = search needs
-
 returns-3 : tie.Need-returns-3
 returns-3 c =
     let here = c .before .before .before .before .before .before in
     λ a. refusal-outcome _ _ _ (c .refuse3 .ensures) refl
     ∙ repair-refused _ _ (full (full-before here)) (located here) _
     (sym (c .before .before .before .before .check-frame .ensures) ∙ ap outcomeOf (c .before .before .checked .given .1))
-
-enum-told : tie.Need-enum-told
-enum-told c = search needs
 
 -- the frame is well-formed
 passes : (c : tie.After-enum-told) → outcome (frameTests (begun c .args .j .shape) (now (begun c .args .frame))) ≡ passed
@@ -111,20 +87,11 @@ passes c = sym (c .before .before .check-frame .ensures) ∙ ap outcomeOf (c .en
 frame-sums-requires : tie.Need-frame-sums-requires
 frame-sums-requires c κs = (has-shape _ (full (full-before (located-before (c .before)))), passed-size _ _ (passes (c .before)))
 
-same-sums-requires : tie.Need-same-sums-requires
-same-sums-requires c κs = search needs
-
 -- the sums are compared
 compared : (c : tie.After-same-sums) →
     let args = begun (told-before c) .args in
     sameSums (heldSums (args .j .shape) (now (args .frame))) (args .sums .now) ≡ c .same-sums .result
 compared c = sym (c .same-sums .ensures ∙ ap (λ (l : List ℕ). sameSums l (begun (told-before c) .args .sums .now)) (c .before .before .frame-sums .ensures))
-
-refuse-requires-4 : tie.Need-refuse-requires-4
-refuse-requires-4 c κs = search needs
-
-same-length-2 : tie.Need-same-length-2
-same-length-2 c = search needs
 
 returns-4 : tie.Need-returns-4
 returns-4 c =
@@ -135,9 +102,6 @@ returns-4 c =
 
 words : (c : tie.Start) → Sound (c .args .j .columns)
 words c = sound _ (search needs) (λ w. search needs)
-
-slice-aggregate-mend : tie.Need-slice-aggregate-mend
-slice-aggregate-mend c = search needs
 
 mend-requires : tie.Need-mend-requires
 mend-requires c κs =
@@ -154,15 +118,6 @@ mend-requires c κs =
       reach = marked .reach;
     }
 
-length-of-requires : tie.Need-length-of-requires
-length-of-requires c κs = search needs
-
-mended-requires : tie.Need-mended-requires
-mended-requires c κs = search needs
-
-same-length-3 : tie.Need-same-length-3
-same-length-3 c = search needs
-
 returns-5 : tie.Need-returns-5
 unfolding repaired
 returns-5 c =
@@ -177,26 +132,26 @@ pub repair-spec : {M : Type 1} → statement M
 repair-spec =
     tie.close
     (tie.spec
-    counts-as-empty-requires
-    refuse-requires
+    (λ c κs. search needs)
+    (λ c κs. search needs)
     returns
-    is-located-requires
-    refuse-requires-2
+    (λ c κs. search needs)
+    (λ c κs. search needs)
     returns-2
     check-frame-requires
-    enum-known-checked
-    refuse-requires-3
-    same-length
+    (λ c. search needs)
+    (λ c κs. search needs)
+    (λ c. search needs)
     returns-3
-    enum-told
+    (λ c. search needs)
     frame-sums-requires
-    same-sums-requires
-    refuse-requires-4
-    same-length-2
+    (λ c κs. search needs)
+    (λ c κs. search needs)
+    (λ c. search needs)
     returns-4
-    slice-aggregate-mend
+    (λ c. search needs)
     mend-requires
-    length-of-requires
-    mended-requires
-    same-length-3
+    (λ c κs. search needs)
+    (λ c κs. search needs)
+    (λ c. search needs)
     returns-5)

@@ -14,14 +14,8 @@ Inv-loop taps found₀ powers n i₀ found i = (i ≤ n) × (found ≡ searched 
 abbrev μ-loop : tie.MeasureT-loop
 μ-loop taps found₀ powers n i₀ found i = n - i
 
-empty-requires : tie.Need-empty-requires Inv-loop μ-loop
-empty-requires c κs = search needs
-
 returns : tie.Need-returns Inv-loop μ-loop
 returns c = let s = c .before .before .before in c .before .empty .ensures ∙ names-none _ (s .args .s) (c .if1 .taken) (s .pre .first)
-
-powers-requires : tie.Need-powers-requires Inv-loop μ-loop
-powers-requires c κs = search needs
 
 loop-holds : tie.Need-loop-holds Inv-loop μ-loop
 loop-holds c = (omega arith, c .before .before .empty .ensures ∙ search-none _)
@@ -30,15 +24,6 @@ is-root-requires : tie.Need-is-root-requires Inv-loop μ-loop
 is-root-requires c κs =
     let s = c .before .before .before in
     record { tabled = s .powers .ensures; few = s .before .before .before .before .pre .few; column = omega arith }
-
-with-requires : tie.Need-with-requires Inv-loop μ-loop
-with-requires c κs = omega arith
-
-add-i : tie.Need-add-i Inv-loop μ-loop
-add-i c = omega arith
-
-loop-less : tie.Need-loop-less Inv-loop μ-loop
-loop-less c = omega arith
 
 loop-again : tie.Need-loop-again Inv-loop μ-loop
 loop-again c =
@@ -58,13 +43,13 @@ named-columns-spec =
     (tie.spec
     Inv-loop
     μ-loop
-    empty-requires
+    (λ c κs. search needs)
     returns
-    powers-requires
+    (λ c κs. search needs)
     loop-holds
     is-root-requires
-    with-requires
-    add-i
-    loop-less
+    (λ c κs. omega arith)
+    (λ c. omega arith)
+    (λ c. omega arith)
     loop-again
     returns-2)

@@ -7,20 +7,8 @@ use borrow.Author.Needs.{needs}
 use Rattle.calls.proofs.shape.shape.Statement.{statement}
 use Rattle.calls.proofs.shape.shape.Tie as tie
 
-check-shape-requires : tie.Need-check-shape-requires
-check-shape-requires c κs = search needs
-
-enum-told : tie.Need-enum-told
-enum-told c = search needs
-
-enum-told-2 : tie.Need-enum-told-2
-enum-told-2 c = search needs
-
 shape-of-requires : tie.Need-shape-of-requires
 shape-of-requires c κs = passed-rows _ _ (sym (c .before .before .check-shape .ensures) ∙ ap outcomeOf (c .enum-told2 .given .1))
-
-shaped-requires : tie.Need-shaped-requires
-shaped-requires c κs = search needs
 
 returns : tie.Need-returns
 returns c = λ a. shape-refused _ a _ _ _ (c .before .before .check-shape .ensures) (c .enum-told .given .1)
@@ -34,10 +22,10 @@ pub shape-spec : {M : Type 1} → statement M
 shape-spec =
     tie.close
     (tie.spec
-    check-shape-requires
-    enum-told
-    enum-told-2
+    (λ c κs. search needs)
+    (λ c. search needs)
+    (λ c. search needs)
     shape-of-requires
-    shaped-requires
+    (λ c κs. search needs)
     returns
     returns-2)

@@ -8,23 +8,11 @@ use borrow.Author.Needs.{needs}
 use Rattle.calls.proofs.sound.counts_as_empty.Statement.{statement}
 use Rattle.calls.proofs.sound.counts_as_empty.Tie as tie
 
-is-sound-requires : tie.Need-is-sound-requires
-is-sound-requires c κs = search needs
-
 returns : tie.Need-returns
 returns c = sym (unsound-empty _ (sym (c .before .is-sound .ensures) ∙ not-true _ (c .if1 .taken)))
 
 is-sound : (c : tie.Else1) → headSound (c .before .before .args .j) ≡ true
 is-sound c = sym (c .before .is-sound .ensures) ∙ not-false _ (c .if1 .left)
-
-enum-told : tie.Need-enum-told
-enum-told c = search needs
-
-enum-told-2 : tie.Need-enum-told-2
-enum-told-2 c = search needs
-
-enum-told-3 : tie.Need-enum-told-3
-enum-told-3 c = search needs
 
 returns-2 : tie.Need-returns-2
 returns-2 c = sym (sound-empty _ (is-sound (c .before .before)) ∙ ap isEmptyPhase (c .enum-told .given .1))
@@ -39,11 +27,11 @@ pub counts-as-empty-spec : {M : Type 1} → statement M
 counts-as-empty-spec =
     tie.close
     (tie.spec
-    is-sound-requires
+    (λ c κs. search needs)
     returns
-    enum-told
-    enum-told-2
-    enum-told-3
+    (λ c. search needs)
+    (λ c. search needs)
+    (λ c. search needs)
     returns-2
     returns-3
     returns-4)

@@ -9,20 +9,11 @@ use Rattle.calls.proofs.sound.is_findings.Tie as tie
 returns : tie.Need-returns
 returns c = sym (not-alone _ _ _ _ (not-true _ (c .if1 .taken)))
 
-marks-below-requires : tie.Need-marks-below-requires
-marks-below-requires c κs = search needs
-
 returns-2 : tie.Need-returns-2
 returns-2 c = sym (outside _ _ _ _ (sym (c .before .marks-below .ensures) ∙ not-true _ (c .if2 .taken)))
 
-size-requires : tie.Need-size-requires
-size-requires c κs = search needs
-
 returns-3 : tie.Need-returns-3
 returns-3 c = sym (miscounted _ _ _ _ (λ e. c .if3 .taken (c .before .size .ensures ∙ e)))
-
-rows-reach-requires : tie.Need-rows-reach-requires
-rows-reach-requires c κs = search needs
 
 returns-4 : tie.Need-returns-4
 returns-4 c =
@@ -37,9 +28,9 @@ is-findings-spec =
     tie.close
     (tie.spec
     returns
-    marks-below-requires
+    (λ c κs. search needs)
     returns-2
-    size-requires
+    (λ c κs. search needs)
     returns-3
-    rows-reach-requires
+    (λ c κs. search needs)
     returns-4)

@@ -8,21 +8,6 @@ use borrow.Author.Needs.{needs}
 use Rattle.calls.proofs.sound.is_sound.Statement.{statement}
 use Rattle.calls.proofs.sound.is_sound.Tie as tie
 
-enum-told : tie.Need-enum-told
-enum-told c = search needs
-
-enum-told-2 : tie.Need-enum-told-2
-enum-told-2 c = search needs
-
-is-shape-requires : tie.Need-is-shape-requires
-is-shape-requires c κs = search needs
-
-enum-known-phase : tie.Need-enum-known-phase
-enum-known-phase c = search needs
-
-is-shape-requires-2 : tie.Need-is-shape-requires-2
-is-shape-requires-2 c κs = search needs
-
 returns : tie.Need-returns
 returns c =
     sym (located-shapeless _ _ _ (c .before .before .before .phase .given .1) (sym (c .before .is-shape2 .ensures) ∙ not-true _ (c .if1 .taken)))
@@ -46,11 +31,11 @@ pub is-sound-spec : {M : Type 1} → statement M
 is-sound-spec =
     tie.close
     (tie.spec
-    enum-told
-    enum-told-2
-    is-shape-requires
-    enum-known-phase
-    is-shape-requires-2
+    (λ c. search needs)
+    (λ c. search needs)
+    (λ c κs. search needs)
+    (λ c. search needs)
+    (λ c κs. search needs)
     returns
     is-findings-requires
     returns-2

@@ -35,12 +35,6 @@ returns : tie.Need-returns Inv-loop μ-loop
 unfolding rowsReach
 returns c = tested-out _ _ (c .before .before .before .loop .h) (c .before .before .loop-test .taken) (lt-leb _ _ (c .if1 .taken))
 
-add-h : tie.Need-add-h Inv-loop μ-loop
-add-h c = omega arith
-
-loop-less : tie.Need-loop-less Inv-loop μ-loop
-loop-less c = omega arith
-
 loop-again : tie.Need-loop-again Inv-loop μ-loop
 loop-again c =
     let at = c .before .before .before .loop in
@@ -61,7 +55,7 @@ rows-reach-spec =
     element-copy-out-if1
     cast-if1
     returns
-    add-h
-    loop-less
+    (λ c. omega arith)
+    (λ c. omega arith)
     loop-again
     returns-2)

@@ -18,18 +18,6 @@ abbrev μ-loop : tie.MeasureT-loop
 loop-holds : tie.Need-loop-holds Inv-loop μ-loop
 loop-holds c = filled-none _ _
 
-mul-times : tie.Need-mul-times Inv-loop μ-loop
-mul-times c = omega arith
-
-shared-slice-read-times : tie.Need-shared-slice-read-times Inv-loop μ-loop
-shared-slice-read-times c = omega arith
-
-times-requires : tie.Need-times-requires Inv-loop μ-loop
-times-requires c κs = search needs
-
-mul-cells : tie.Need-mul-cells Inv-loop μ-loop
-mul-cells c = omega arith
-
 slice-read-cells : tie.Need-slice-read-cells Inv-loop μ-loop
 slice-read-cells c = let s = c .before .before .before .before .loop .inv .size in omega arith
 
@@ -44,12 +32,6 @@ add-cells c =
 
 slice-write-cells : tie.Need-slice-write-cells Inv-loop μ-loop
 slice-write-cells c = let s = c .before .before .before .before .loop .inv .size in omega arith
-
-add-a : tie.Need-add-a Inv-loop μ-loop
-add-a c = omega arith
-
-loop-less : tie.Need-loop-less Inv-loop μ-loop
-loop-less c = omega arith
 
 loop-again : tie.Need-loop-again Inv-loop μ-loop
 loop-again c =
@@ -73,15 +55,15 @@ add-multiple-spec =
     Inv-loop
     μ-loop
     loop-holds
-    mul-times
-    shared-slice-read-times
-    times-requires
-    mul-cells
+    (λ c. omega arith)
+    (λ c. omega arith)
+    (λ c κs. search needs)
+    (λ c. omega arith)
     slice-read-cells
     add-cells
     slice-write-cells
-    add-a
-    loop-less
+    (λ c. omega arith)
+    (λ c. omega arith)
     loop-again
     same-length
     returns)

@@ -15,36 +15,6 @@ abbrev μ-loop : tie.MeasureT-loop
 loop-holds : tie.Need-loop-holds Inv-loop μ-loop
 loop-holds c = (omega arith, each-none _ _)
 
-mul-a : tie.Need-mul-a Inv-loop μ-loop
-mul-a c = omega arith
-
-add-e : tie.Need-add-e Inv-loop μ-loop
-add-e c = omega arith
-
-add-fold : tie.Need-add-fold Inv-loop μ-loop
-add-fold c = omega arith
-
-mul-rows : tie.Need-mul-rows Inv-loop μ-loop
-mul-rows c = omega arith
-
-sub-fold : tie.Need-sub-fold Inv-loop μ-loop
-sub-fold c = omega arith
-
-part-rows-start : tie.Need-part-rows-start Inv-loop μ-loop
-part-rows-start c = omega arith
-
-part-rows-end : tie.Need-part-rows-end Inv-loop μ-loop
-part-rows-end c = omega arith
-
-fold-requires : tie.Need-fold-requires Inv-loop μ-loop
-fold-requires c κs = search needs
-
-add-k : tie.Need-add-k Inv-loop μ-loop
-add-k c = omega arith
-
-loop-less : tie.Need-loop-less Inv-loop μ-loop
-loop-less c = omega arith
-
 loop-again : tie.Need-loop-again Inv-loop μ-loop
 loop-again c =
     let at = c .before .before .before .before in
@@ -60,15 +30,15 @@ fold-each-spec =
     Inv-loop
     μ-loop
     loop-holds
-    mul-a
-    add-e
-    add-fold
-    mul-rows
-    sub-fold
-    part-rows-start
-    part-rows-end
-    fold-requires
-    add-k
-    loop-less
+    (λ c. omega arith)
+    (λ c. omega arith)
+    (λ c. omega arith)
+    (λ c. omega arith)
+    (λ c. omega arith)
+    (λ c. omega arith)
+    (λ c. omega arith)
+    (λ c κs. search needs)
+    (λ c. omega arith)
+    (λ c. omega arith)
     loop-again
     returns)

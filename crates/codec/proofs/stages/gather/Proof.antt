@@ -20,37 +20,13 @@ abbrev μ-loop : tie.MeasureT-loop
 loop-holds : tie.Need-loop-holds Inv-loop μ-loop
 loop-holds c = (omega arith, gathered-none _ _)
 
-mul-a : tie.Need-mul-a Inv-loop μ-loop
-mul-a c = omega arith
-
-add-e : tie.Need-add-e Inv-loop μ-loop
-add-e c = omega arith
-
 slice-aggregate-add-multiple : tie.Need-slice-aggregate-add-multiple Inv-loop μ-loop
 slice-aggregate-add-multiple c = let l = ap length (c .before .before .loop .inv .1) ∙ length-tabulate 16 _ in omega arith
-
-mul-add-multiple : tie.Need-mul-add-multiple Inv-loop μ-loop
-mul-add-multiple c = omega arith
-
-sub-add-multiple : tie.Need-sub-add-multiple Inv-loop μ-loop
-sub-add-multiple c = omega arith
-
-part-add-multiple-start : tie.Need-part-add-multiple-start Inv-loop μ-loop
-part-add-multiple-start c = omega arith
-
-part-add-multiple-end : tie.Need-part-add-multiple-end Inv-loop μ-loop
-part-add-multiple-end c = omega arith
 
 mul-add-multiple-2 : tie.Need-mul-add-multiple-2 Inv-loop μ-loop
 mul-add-multiple-2 c =
     let start = c .before .before .before .before .before in
     omega (arith, mul-le-mul (let l : 16 * c .before .before .before .loop .b ≤ 256 = omega arith in l) (let l : start .args .j ≤ 16 = omega arith in l))
-
-mul-add-multiple-3 : tie.Need-mul-add-multiple-3 Inv-loop μ-loop
-mul-add-multiple-3 c = omega arith
-
-element-copy-out-add-multiple : tie.Need-element-copy-out-add-multiple Inv-loop μ-loop
-element-copy-out-add-multiple c = omega arith
 
 add-multiple-requires : tie.Need-add-multiple-requires Inv-loop μ-loop
 add-multiple-requires c κs =
@@ -59,12 +35,6 @@ add-multiple-requires c κs =
       same-size _ _ (at .loop .b) _ _ (start .pre .powers-known) (at .loop .inv .1) (omega arith),
       gathered-fits _ _ (at .loop .b) _ _ (start .pre .powers-known) (at .loop .inv .1) (omega arith) (at .before .shared-slice-known .given) (omega arith),
     )
-
-add-b : tie.Need-add-b Inv-loop μ-loop
-add-b c = omega arith
-
-loop-less : tie.Need-loop-less Inv-loop μ-loop
-loop-less c = omega arith
 
 loop-again : tie.Need-loop-again Inv-loop μ-loop
 loop-again c =
@@ -86,18 +56,18 @@ gather-spec =
     Inv-loop
     μ-loop
     loop-holds
-    mul-a
-    add-e
+    (λ c. omega arith)
+    (λ c. omega arith)
     slice-aggregate-add-multiple
-    mul-add-multiple
-    sub-add-multiple
-    part-add-multiple-start
-    part-add-multiple-end
+    (λ c. omega arith)
+    (λ c. omega arith)
+    (λ c. omega arith)
+    (λ c. omega arith)
     mul-add-multiple-2
-    mul-add-multiple-3
-    element-copy-out-add-multiple
+    (λ c. omega arith)
+    (λ c. omega arith)
     add-multiple-requires
-    add-b
-    loop-less
+    (λ c. omega arith)
+    (λ c. omega arith)
     loop-again
     returns)

@@ -16,59 +16,8 @@ Inv-loop powers x sums₀ rows k₀ sums k = Filled (λ i. checkSum (length x) x
 abbrev μ-loop : tie.MeasureT-loop
 μ-loop powers x sums₀ rows k₀ sums k = length sums₀ - k
 
-padded-requires : tie.Need-padded-requires Inv-loop μ-loop
-padded-requires c κs = search needs
-
-slice-aggregate-fold-each : tie.Need-slice-aggregate-fold-each Inv-loop μ-loop
-slice-aggregate-fold-each c = omega arith
-
-add-fold-each : tie.Need-add-fold-each Inv-loop μ-loop
-add-fold-each c = omega arith
-
-at-most-16-requires : tie.Need-at-most-16-requires Inv-loop μ-loop
-at-most-16-requires c κs = search needs
-
-fold-each-requires : tie.Need-fold-each-requires Inv-loop μ-loop
-fold-each-requires c κs = search needs
-
 loop-holds : tie.Need-loop-holds Inv-loop μ-loop
 loop-holds c = filled-none _ _
-
-mul-a : tie.Need-mul-a Inv-loop μ-loop
-mul-a c = omega arith
-
-add-e : tie.Need-add-e Inv-loop μ-loop
-add-e c = omega arith
-
-mul-value-at : tie.Need-mul-value-at Inv-loop μ-loop
-mul-value-at c = omega arith
-
-sub-value-at : tie.Need-sub-value-at Inv-loop μ-loop
-sub-value-at c = omega arith
-
-part-value-at-start : tie.Need-part-value-at-start Inv-loop μ-loop
-part-value-at-start c = omega arith
-
-part-value-at-end : tie.Need-part-value-at-end Inv-loop μ-loop
-part-value-at-end c = omega arith
-
-add-value-at : tie.Need-add-value-at Inv-loop μ-loop
-add-value-at c = omega arith
-
-value-at-requires : tie.Need-value-at-requires Inv-loop μ-loop
-value-at-requires c κs = search needs
-
-mul-sums : tie.Need-mul-sums Inv-loop μ-loop
-mul-sums c = omega arith
-
-slice-write-sums : tie.Need-slice-write-sums Inv-loop μ-loop
-slice-write-sums c = omega arith
-
-add-k : tie.Need-add-k Inv-loop μ-loop
-add-k c = omega arith
-
-loop-less : tie.Need-loop-less Inv-loop μ-loop
-loop-less c = omega arith
 
 loop-again : tie.Need-loop-again Inv-loop μ-loop
 loop-again c =
@@ -81,9 +30,6 @@ loop-again c =
     ∙ staged-sum _ k (padded .before .before .before .args .x .now) _ (folds .fold-each .result) (padded .padded .ensures) (omega arith)
     (folds .fold-each .ensures (k % 16) (folds .before .at-most-16 .ensures .1 k (omega arith))))
 
-same-length : tie.Need-same-length Inv-loop μ-loop
-same-length c = omega arith
-
 returns : tie.Need-returns Inv-loop μ-loop
 unfolding checkSums
 returns c = filled-all _ _ _ _ (c .before .loop .inv) (omega arith)
@@ -94,24 +40,24 @@ staged-sums-spec =
     (tie.spec
     Inv-loop
     μ-loop
-    padded-requires
-    slice-aggregate-fold-each
-    add-fold-each
-    at-most-16-requires
-    fold-each-requires
+    (λ c κs. search needs)
+    (λ c. omega arith)
+    (λ c. omega arith)
+    (λ c κs. search needs)
+    (λ c κs. search needs)
     loop-holds
-    mul-a
-    add-e
-    mul-value-at
-    sub-value-at
-    part-value-at-start
-    part-value-at-end
-    add-value-at
-    value-at-requires
-    mul-sums
-    slice-write-sums
-    add-k
-    loop-less
+    (λ c. omega arith)
+    (λ c. omega arith)
+    (λ c. omega arith)
+    (λ c. omega arith)
+    (λ c. omega arith)
+    (λ c. omega arith)
+    (λ c. omega arith)
+    (λ c κs. search needs)
+    (λ c. omega arith)
+    (λ c. omega arith)
+    (λ c. omega arith)
+    (λ c. omega arith)
     loop-again
-    same-length
+    (λ c. omega arith)
     returns)

@@ -20,9 +20,6 @@ place c =
     let start = c .before .before .before .before in
     row-place (start .args .t1) (length (start .args .frame .now)) (c .before .loop .h) (start .pre .0) (start .pre .1) (c .loop-test .taken)
 
-powers-requires : tie.Need-powers-requires Inv-loop μ-loop
-powers-requires c κs = search needs
-
 loop-holds : tie.Need-loop-holds Inv-loop μ-loop
 loop-holds c = held-none _ _
 
@@ -46,9 +43,6 @@ add-to c = let p = place (c .before) in omega arith
 
 mul-row-sums : tie.Need-mul-row-sums Inv-loop μ-loop
 mul-row-sums c = let p = place (c .before .before) in omega arith
-
-sub-row-sums : tie.Need-sub-row-sums Inv-loop μ-loop
-sub-row-sums c = omega arith
 
 part-row-sums-start : tie.Need-part-row-sums-start Inv-loop μ-loop
 part-row-sums-start c = let p = place (c .before .before) in omega arith
@@ -74,12 +68,6 @@ row-sums-requires c κs =
     let p = place at in
     (at .before .before .powers .ensures, omega (arith, length-row _ _ _ _ _ (at .before .loop .inv) p))
 
-add-h : tie.Need-add-h Inv-loop μ-loop
-add-h c = omega arith
-
-loop-less : tie.Need-loop-less Inv-loop μ-loop
-loop-less c = omega arith
-
 loop-again : tie.Need-loop-again Inv-loop μ-loop
 loop-again c =
     let at = c .before .before .before .before .before .before in
@@ -94,7 +82,7 @@ frame-sums-spec =
     (tie.spec
     Inv-loop
     μ-loop
-    powers-requires
+    (λ c κs. search needs)
     loop-holds
     mul-a
     add-e
@@ -103,7 +91,7 @@ frame-sums-spec =
     cast-to
     add-to
     mul-row-sums
-    sub-row-sums
+    (λ c. omega arith)
     part-row-sums-start
     part-row-sums-end
     mul-sums
@@ -111,7 +99,7 @@ frame-sums-spec =
     part-sums-start
     part-sums-end
     row-sums-requires
-    add-h
-    loop-less
+    (λ c. omega arith)
+    (λ c. omega arith)
     loop-again
     returns)

@@ -19,33 +19,12 @@ abbrev μ-loop : tie.MeasureT-loop
 loop-holds : tie.Need-loop-holds Inv-loop μ-loop
 loop-holds c = filled-none _ _
 
-add-check-sum : tie.Need-add-check-sum Inv-loop μ-loop
-add-check-sum c = omega arith
-
-check-sum-requires : tie.Need-check-sum-requires Inv-loop μ-loop
-check-sum-requires c κs = search needs
-
-mul-sums : tie.Need-mul-sums Inv-loop μ-loop
-mul-sums c = omega arith
-
-slice-write-sums : tie.Need-slice-write-sums Inv-loop μ-loop
-slice-write-sums c = omega arith
-
-add-j : tie.Need-add-j Inv-loop μ-loop
-add-j c = omega arith
-
-loop-less : tie.Need-loop-less Inv-loop μ-loop
-loop-less c = omega arith
-
 loop-again : tie.Need-loop-again Inv-loop μ-loop
 loop-again c =
     let at = c .before .before in
     let x = at .before .before .before .args .x .now in
     filled-more (λ k. checkSum (length x) x (suc k)) _ (at .loop .j) (c .check-sum .result) (at .loop .sums) (at .loop .inv)
     (omega arith) (c .check-sum .ensures ∙ ap (checkSum (length x) x) (add-one (at .loop .j)))
-
-same-length : tie.Need-same-length Inv-loop μ-loop
-same-length c = omega arith
 
 returns : tie.Need-returns Inv-loop μ-loop
 unfolding checkSums
@@ -58,12 +37,12 @@ plain-sums-spec =
     Inv-loop
     μ-loop
     loop-holds
-    add-check-sum
-    check-sum-requires
-    mul-sums
-    slice-write-sums
-    add-j
-    loop-less
+    (λ c. omega arith)
+    (λ c κs. search needs)
+    (λ c. omega arith)
+    (λ c. omega arith)
+    (λ c. omega arith)
+    (λ c. omega arith)
     loop-again
-    same-length
+    (λ c. omega arith)
     returns)

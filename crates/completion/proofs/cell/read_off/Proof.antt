@@ -16,27 +16,6 @@ abbrev μ-loop : tie.MeasureT-loop
 loop-holds : tie.Need-loop-holds Inv-loop μ-loop
 loop-holds c = summed-none _ _ _
 
-mul-times : tie.Need-mul-times Inv-loop μ-loop
-mul-times c = omega arith
-
-shared-slice-read-times : tie.Need-shared-slice-read-times Inv-loop μ-loop
-shared-slice-read-times c = omega arith
-
-sub-times : tie.Need-sub-times Inv-loop μ-loop
-sub-times c = omega arith
-
-sub-times-2 : tie.Need-sub-times-2 Inv-loop μ-loop
-sub-times-2 c = omega arith
-
-mul-times-2 : tie.Need-mul-times-2 Inv-loop μ-loop
-mul-times-2 c = omega arith
-
-shared-slice-read-times-2 : tie.Need-shared-slice-read-times-2 Inv-loop μ-loop
-shared-slice-read-times-2 c = omega arith
-
-times-requires : tie.Need-times-requires Inv-loop μ-loop
-times-requires c κs = search needs
-
 -- the ways back
 abbrev looped : tie.After-times Inv-loop μ-loop → tie.At-loop Inv-loop μ-loop
 looped c = c .before .before .before .before
@@ -60,17 +39,8 @@ add-total c =
     let start = start-of (looped c) in
     read-fits (start .args .coefficients .now) (start .args .sums .now) _ _ (grown c) (start .pre .few)
 
-add-k : tie.Need-add-k Inv-loop μ-loop
-add-k c = omega arith
-
-loop-less : tie.Need-loop-less Inv-loop μ-loop
-loop-less c = omega arith
-
 loop-again : tie.Need-loop-again Inv-loop μ-loop
 loop-again c = grown c
-
-cast-result : tie.Need-cast-result Inv-loop μ-loop
-cast-result c = omega arith
 
 returns : tie.Need-returns Inv-loop μ-loop
 returns c =
@@ -84,16 +54,16 @@ read-off-spec =
     Inv-loop
     μ-loop
     loop-holds
-    mul-times
-    shared-slice-read-times
-    sub-times
-    sub-times-2
-    mul-times-2
-    shared-slice-read-times-2
-    times-requires
+    (λ c. omega arith)
+    (λ c. omega arith)
+    (λ c. omega arith)
+    (λ c. omega arith)
+    (λ c. omega arith)
+    (λ c. omega arith)
+    (λ c κs. search needs)
     add-total
-    add-k
-    loop-less
+    (λ c. omega arith)
+    (λ c. omega arith)
     loop-again
-    cast-result
+    (λ c. omega arith)
     returns)

@@ -47,12 +47,6 @@ mul-wide c = let p = place c in omega arith
 element-copy-out-wide : tie.Need-element-copy-out-wide Inv-loop μ-loop
 element-copy-out-wide c = let p = place c in omega arith
 
-wide-requires : tie.Need-wide-requires Inv-loop μ-loop
-wide-requires c κs = search needs
-
-cast-to : tie.Need-cast-to Inv-loop μ-loop
-cast-to c = omega arith
-
 add-to : tie.Need-add-to Inv-loop μ-loop
 add-to c = omega (arith, ends c)
 
@@ -65,9 +59,6 @@ add-e c = let p = place (in-loop c) in omega arith
 mul-mend-cell : tie.Need-mul-mend-cell Inv-loop μ-loop
 mul-mend-cell c = let p = place (in-loop c) in omega arith
 
-sub-mend-cell : tie.Need-sub-mend-cell Inv-loop μ-loop
-sub-mend-cell c = omega arith
-
 part-mend-cell-start : tie.Need-part-mend-cell-start Inv-loop μ-loop
 part-mend-cell-start c = let p = place (in-loop c) in omega arith
 
@@ -76,9 +67,6 @@ part-mend-cell-end c = let p = place (in-loop c) in let s = in-loop c .before .l
 
 mul-mend-cell-2 : tie.Need-mul-mend-cell-2 Inv-loop μ-loop
 mul-mend-cell-2 c = omega (arith, ends (c .before))
-
-sub-mend-cell-2 : tie.Need-sub-mend-cell-2 Inv-loop μ-loop
-sub-mend-cell-2 c = omega arith
 
 part-mend-cell-start-2 : tie.Need-part-mend-cell-start-2 Inv-loop μ-loop
 part-mend-cell-start-2 c = omega (arith, ends (c .before))
@@ -138,17 +126,17 @@ mend-column-spec =
     loop-holds
     mul-wide
     element-copy-out-wide
-    wide-requires
-    cast-to
+    (λ c κs. search needs)
+    (λ c. omega arith)
     add-to
     mul-a
     add-e
     mul-mend-cell
-    sub-mend-cell
+    (λ c. omega arith)
     part-mend-cell-start
     part-mend-cell-end
     mul-mend-cell-2
-    sub-mend-cell-2
+    (λ c. omega arith)
     part-mend-cell-start-2
     part-mend-cell-end-2
     mend-cell-requires

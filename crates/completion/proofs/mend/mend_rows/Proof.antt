@@ -34,26 +34,11 @@ weighed-before c = c .before .before .before .before
 few : (c : tie.After-size Inv-loop μ-loop) → c .size .result ≤ 64
 few c = omega (arith, c .size .ensures, start-of c .pre .few)
 
-powers-requires : tie.Need-powers-requires Inv-loop μ-loop
-powers-requires c κs = search needs
-
-size-requires : tie.Need-size-requires Inv-loop μ-loop
-size-requires c κs = search needs
-
 locator-polynomial-requires : tie.Need-locator-polynomial-requires Inv-loop μ-loop
 locator-polynomial-requires c κs = (c .before .before .powers .ensures, omega (arith, few (c .before), c .before .size .ensures))
 
-next-requires : tie.Need-next-requires Inv-loop μ-loop
-next-requires c κs = search needs
-
 loop-holds : tie.Need-loop-holds Inv-loop μ-loop
 loop-holds c = (0, omega arith, mending-none _ _ _ _ (start-of (c .before .before .before) .pre .lent .whole) _ (c .next .ensures))
-
-sub-weigh : tie.Need-sub-weigh Inv-loop μ-loop
-sub-weigh c = omega arith
-
-part-coefficients-start : tie.Need-part-coefficients-start Inv-loop μ-loop
-part-coefficients-start c = omega arith
 
 part-coefficients-end : tie.Need-part-coefficients-end Inv-loop μ-loop
 part-coefficients-end c = omega (arith, few (sized (c .before .before .before)))
@@ -77,12 +62,6 @@ weighed c =
     weighed-column _ d (at .loop .i) (mending .walk) (in-loop c .loop-test .taken) (named .result) (named .ensures) (sized at .size .result)
     (at .loop .coefficients) _ (sized at .size .ensures) (few (sized at)) size (c .weigh .ensures)
 
-sub-mend-column : tie.Need-sub-mend-column Inv-loop μ-loop
-sub-mend-column c = omega arith
-
-part-mend-column-start : tie.Need-part-mend-column-start Inv-loop μ-loop
-part-mend-column-start c = omega arith
-
 part-mend-column-end : tie.Need-part-mend-column-end Inv-loop μ-loop
 part-mend-column-end c =
     let written = c .before .before .before in
@@ -104,9 +83,6 @@ mend-column-requires c κs =
 
 add-next : tie.Need-add-next Inv-loop μ-loop
 add-next c = let t = in-loop (weighed-before (c .before .before .before)) .loop-test .taken in omega arith
-
-next-requires-2 : tie.Need-next-requires-2 Inv-loop μ-loop
-next-requires-2 c κs = search needs
 
 loop-less : tie.Need-loop-less Inv-loop μ-loop
 loop-less c =
@@ -144,21 +120,21 @@ mend-rows-spec =
     (tie.spec
     Inv-loop
     μ-loop
-    powers-requires
-    size-requires
+    (λ c κs. search needs)
+    (λ c κs. search needs)
     locator-polynomial-requires
-    next-requires
+    (λ c κs. search needs)
     loop-holds
-    sub-weigh
-    part-coefficients-start
+    (λ c. omega arith)
+    (λ c. omega arith)
     part-coefficients-end
     weigh-requires
-    sub-mend-column
-    part-mend-column-start
+    (λ c. omega arith)
+    (λ c. omega arith)
     part-mend-column-end
     mend-column-requires
     add-next
-    next-requires-2
+    (λ c κs. search needs)
     loop-less
     loop-again
     same-length

@@ -13,42 +13,6 @@ abbrev μ-loop : tie.MeasureT-loop
 loop-holds : tie.Need-loop-holds Inv-loop μ-loop
 loop-holds c = divided-none _ _ (c .before .before .pre .reach) (c .before .before .pre .small)
 
-sub-i : tie.Need-sub-i Inv-loop μ-loop
-sub-i c = omega arith
-
-mul-leading : tie.Need-mul-leading Inv-loop μ-loop
-mul-leading c = omega arith
-
-slice-read-leading : tie.Need-slice-read-leading Inv-loop μ-loop
-slice-read-leading c = omega arith
-
-cast-leading : tie.Need-cast-leading Inv-loop μ-loop
-cast-leading c = omega arith
-
-sub-a : tie.Need-sub-a Inv-loop μ-loop
-sub-a c = omega arith
-
-mul-add-multiple : tie.Need-mul-add-multiple Inv-loop μ-loop
-mul-add-multiple c = omega arith
-
-sub-add-multiple : tie.Need-sub-add-multiple Inv-loop μ-loop
-sub-add-multiple c = omega arith
-
-part-add-multiple-start : tie.Need-part-add-multiple-start Inv-loop μ-loop
-part-add-multiple-start c = omega arith
-
-part-add-multiple-end : tie.Need-part-add-multiple-end Inv-loop μ-loop
-part-add-multiple-end c = omega arith
-
-sub-add-multiple-2 : tie.Need-sub-add-multiple-2 Inv-loop μ-loop
-sub-add-multiple-2 c = omega arith
-
-part-add-multiple-start-2 : tie.Need-part-add-multiple-start-2 Inv-loop μ-loop
-part-add-multiple-start-2 c = omega arith
-
-part-add-multiple-end-2 : tie.Need-part-add-multiple-end-2 Inv-loop μ-loop
-part-add-multiple-end-2 c = omega arith
-
 -- the ways back
 abbrev in-loop : tie.After-add-multiple-arg2 Inv-loop μ-loop → tie.In-loop Inv-loop μ-loop
 in-loop c = c .before .before .before
@@ -64,9 +28,6 @@ add-multiple-requires c κs =
       same-size _ _ _ (start .pre .divisor) (at .loop .i) _ (at .loop .inv) less,
       added-fits _ _ _ (start .pre .divisor) (at .loop .i) _ (at .loop .inv) less (start .pre .narrow),
     )
-
-loop-less : tie.Need-loop-less Inv-loop μ-loop
-loop-less c = omega arith
 
 loop-again : tie.Need-loop-again Inv-loop μ-loop
 loop-again c =
@@ -88,20 +49,20 @@ divide-spec =
     Inv-loop
     μ-loop
     loop-holds
-    sub-i
-    mul-leading
-    slice-read-leading
-    cast-leading
-    sub-a
-    mul-add-multiple
-    sub-add-multiple
-    part-add-multiple-start
-    part-add-multiple-end
-    sub-add-multiple-2
-    part-add-multiple-start-2
-    part-add-multiple-end-2
+    (λ c. omega arith)
+    (λ c. omega arith)
+    (λ c. omega arith)
+    (λ c. omega arith)
+    (λ c. omega arith)
+    (λ c. omega arith)
+    (λ c. omega arith)
+    (λ c. omega arith)
+    (λ c. omega arith)
+    (λ c. omega arith)
+    (λ c. omega arith)
+    (λ c. omega arith)
     add-multiple-requires
-    loop-less
+    (λ c. omega arith)
     loop-again
     same-length
     returns)

@@ -20,18 +20,6 @@ refilled c =
     let start = made .before .before .before .before in
     omega (arith, same-len-mid 0 (length (start .args .row .now) - 0) (made .data-cells .result) (divided .divide .last .0) (divided .divide .kept .0))
 
-data-cells-requires : tie.Need-data-cells-requires
-data-cells-requires c κs = search needs
-
-sub-divide : tie.Need-sub-divide
-sub-divide c = search needs
-
-part-cells-start : tie.Need-part-cells-start
-part-cells-start c = search needs
-
-part-cells-end : tie.Need-part-cells-end
-part-cells-end c = search needs
-
 divide-requires : tie.Need-divide-requires
 divide-requires c κs =
     let made = c .before in
@@ -54,9 +42,6 @@ slice-aggregate-put-negatives c = omega (arith, refilled c)
 put-negatives-requires : tie.Need-put-negatives-requires
 put-negatives-requires c κs = omega (arith, refilled c)
 
-same-length : tie.Need-same-length
-same-length c = search needs
-
 returns : tie.Need-returns
 returns c =
     let lent = c .before .before .before in
@@ -71,12 +56,12 @@ pub encode-row-spec : {M : Type 1} → statement M
 encode-row-spec =
     tie.close
     (tie.spec
-    data-cells-requires
-    sub-divide
-    part-cells-start
-    part-cells-end
+    (λ c κs. search needs)
+    (λ c. search needs)
+    (λ c. search needs)
+    (λ c. search needs)
     divide-requires
     slice-aggregate-put-negatives
     put-negatives-requires
-    same-length
+    (λ c. search needs)
     returns)

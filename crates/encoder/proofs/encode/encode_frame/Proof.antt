@@ -29,12 +29,6 @@ whole-before c = c .before .before .before
 abbrev tested : tie.After-slice-known2 → tie.Else2
 tested c = c .before .before .before .before
 
-data-below-requires : tie.Need-data-below-requires
-data-below-requires c κs = search needs
-
-same-length : tie.Need-same-length
-same-length c = search needs
-
 returns-2 : tie.Need-returns-2
 returns-2 c =
     let whole = c .before .before .before in
@@ -50,9 +44,6 @@ fill-checks-requires c κs =
       whole = whole-before (c .before) .if1 .left;
       small = sym (c .before .before .data-below .ensures) ∙ not-false _ (c .before .if2 .left);
     }
-
-same-length-2 : tie.Need-same-length-2
-same-length-2 c = search needs
 
 returns-3 : tie.Need-returns-3
 returns-3 c =
@@ -70,9 +61,9 @@ encode-frame-spec =
     (tie.spec
     mul-if1
     returns
-    data-below-requires
-    same-length
+    (λ c κs. search needs)
+    (λ c. search needs)
     returns-2
     fill-checks-requires
-    same-length-2
+    (λ c. search needs)
     returns-3)

@@ -40,15 +40,6 @@ place c =
     let start = start-of c in
     row-place (start .args .t1) (length (start .args .frame .now)) (c .before .loop .h) (start .pre .shape) (start .pre .whole) (c .loop-test .taken)
 
-element-copy-out-wide : tie.Need-element-copy-out-wide Inv-loop μ-loop
-element-copy-out-wide c = search needs
-
-wide-requires : tie.Need-wide-requires Inv-loop μ-loop
-wide-requires c κs = search needs
-
-cast-count : tie.Need-cast-count Inv-loop μ-loop
-cast-count c = omega arith
-
 generator-requires : tie.Need-generator-requires Inv-loop μ-loop
 generator-requires c κs =
     let start = c .before .before .before in
@@ -64,12 +55,6 @@ mul-wide c = let p = place c in omega arith
 element-copy-out-wide-2 : tie.Need-element-copy-out-wide-2 Inv-loop μ-loop
 element-copy-out-wide-2 c = let p = place c in omega arith
 
-wide-requires-2 : tie.Need-wide-requires-2 Inv-loop μ-loop
-wide-requires-2 c κs = search needs
-
-cast-checks : tie.Need-cast-checks Inv-loop μ-loop
-cast-checks c = omega arith
-
 generator-for-requires : tie.Need-generator-for-requires Inv-loop μ-loop
 generator-for-requires c κs =
     let p = place (c .before .before) in
@@ -81,14 +66,8 @@ mul-a c = let p = place (in-loop c) in omega arith
 add-e : tie.Need-add-e Inv-loop μ-loop
 add-e c = let p = place (in-loop c) in omega arith
 
-slice-aggregate-encode-row : tie.Need-slice-aggregate-encode-row Inv-loop μ-loop
-slice-aggregate-encode-row c = omega arith
-
 mul-encode-row : tie.Need-mul-encode-row Inv-loop μ-loop
 mul-encode-row c = let p = place (in-loop (c .before)) in omega arith
-
-sub-encode-row : tie.Need-sub-encode-row Inv-loop μ-loop
-sub-encode-row c = omega arith
 
 part-encode-row-start : tie.Need-part-encode-row-start Inv-loop μ-loop
 part-encode-row-start c = let p = place (in-loop (c .before)) in omega arith
@@ -142,21 +121,21 @@ fill-checks-spec =
     (tie.spec
     Inv-loop
     μ-loop
-    element-copy-out-wide
-    wide-requires
-    cast-count
+    (λ c. search needs)
+    (λ c κs. search needs)
+    (λ c. omega arith)
     generator-requires
     loop-holds
     mul-wide
     element-copy-out-wide-2
-    wide-requires-2
-    cast-checks
+    (λ c κs. search needs)
+    (λ c. omega arith)
     generator-for-requires
     mul-a
     add-e
-    slice-aggregate-encode-row
+    (λ c. omega arith)
     mul-encode-row
-    sub-encode-row
+    (λ c. omega arith)
     part-encode-row-start
     part-encode-row-end
     encode-row-requires

@@ -11,38 +11,17 @@ Inv-loop m f₀ root₀ j₀ f root j = (j ≤ m) × Building j root f
 abbrev μ-loop : tie.MeasureT-loop
 μ-loop m f₀ root₀ j₀ f root j = m - j
 
-array-write-f : tie.Need-array-write-f Inv-loop μ-loop
-array-write-f c = omega arith
-
 loop-holds : tie.Need-loop-holds Inv-loop μ-loop
 loop-holds c = (omega arith, building-none)
 
 mul-root : tie.Need-mul-root Inv-loop μ-loop
 mul-root c = let p = c .before .loop .inv .1 .power in omega arith
 
-add-e : tie.Need-add-e Inv-loop μ-loop
-add-e c = omega arith
-
-sub-multiply : tie.Need-sub-multiply Inv-loop μ-loop
-sub-multiply c = omega arith
-
-part-f-start : tie.Need-part-f-start Inv-loop μ-loop
-part-f-start c = omega arith
-
 part-f-end : tie.Need-part-f-end Inv-loop μ-loop
 part-f-end c = let s = c .before .loop .inv .1 .size in omega arith
 
-sub-multiply-2 : tie.Need-sub-multiply-2 Inv-loop μ-loop
-sub-multiply-2 c = omega arith
-
 multiply-requires : tie.Need-multiply-requires Inv-loop μ-loop
 multiply-requires c κs = (omega arith, omega arith)
-
-add-j : tie.Need-add-j Inv-loop μ-loop
-add-j c = omega arith
-
-loop-less : tie.Need-loop-less Inv-loop μ-loop
-loop-less c = omega arith
 
 loop-again : tie.Need-loop-again Inv-loop μ-loop
 loop-again c =
@@ -58,16 +37,16 @@ generator-spec =
     (tie.spec
     Inv-loop
     μ-loop
-    array-write-f
+    (λ c. omega arith)
     loop-holds
     mul-root
-    add-e
-    sub-multiply
-    part-f-start
+    (λ c. omega arith)
+    (λ c. omega arith)
+    (λ c. omega arith)
     part-f-end
-    sub-multiply-2
+    (λ c. omega arith)
     multiply-requires
-    add-j
-    loop-less
+    (λ c. omega arith)
+    (λ c. omega arith)
     loop-again
     returns)

@@ -31,14 +31,8 @@ loop-holds c = (omega arith, omega arith, refl, undivided-more _ 2 (λ e low hig
 mul-loop : tie.Need-mul-loop Inv-loop μ-loop
 mul-loop c = omega (arith, mul-le-mul (c .loop .inv .1) (c .loop .inv .1))
 
-rem-if4 : tie.Need-rem-if4 Inv-loop μ-loop
-rem-if4 c = search needs
-
 returns-4 : tie.Need-returns-4 Inv-loop μ-loop
 returns-4 c = sym (modulus-refused _ (λ prime le. divided-below-root _ _ (omega (arith, c .before .before .loop .inv .0)) (omega arith) (c .if4 .taken) prime))
-
-add-d : tie.Need-add-d Inv-loop μ-loop
-add-d c = omega arith
 
 loop-less : tie.Need-loop-less Inv-loop μ-loop
 loop-less c = let small = root-small (c .before .before .loop .d) (omega arith) in omega arith
@@ -67,9 +61,9 @@ is-modulus-spec =
     returns-3
     loop-holds
     mul-loop
-    rem-if4
+    (λ c. search needs)
     returns-4
-    add-d
+    (λ c. omega arith)
     loop-less
     loop-again
     returns-5)

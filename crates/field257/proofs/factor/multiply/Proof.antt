@@ -17,15 +17,6 @@ abbrev μ-loop : tie.MeasureT-loop
 loop-holds : tie.Need-loop-holds Inv-loop μ-loop
 loop-holds c = multiplied-none _ _ _ _
 
-mul-wide : tie.Need-mul-wide Inv-loop μ-loop
-mul-wide c = omega arith
-
-slice-read-wide : tie.Need-slice-read-wide Inv-loop μ-loop
-slice-read-wide c = omega arith
-
-wide-requires : tie.Need-wide-requires Inv-loop μ-loop
-wide-requires c κs = search needs
-
 -- the two products
 below-fits : (c : tie.After-wide Inv-loop μ-loop) →
     let at = c .before .before .before in at .before .before .args .a * at .loop .below ≤ 257 * 65535
@@ -43,20 +34,8 @@ mul-f-2 c = omega (arith, own-fits c)
 add-f : tie.Need-add-f Inv-loop μ-loop
 add-f c = omega (arith, below-fits c, own-fits c)
 
-cast-f : tie.Need-cast-f Inv-loop μ-loop
-cast-f c = omega arith
-
-mul-f-3 : tie.Need-mul-f-3 Inv-loop μ-loop
-mul-f-3 c = omega arith
-
 slice-write-f : tie.Need-slice-write-f Inv-loop μ-loop
 slice-write-f c = let s = c .before .before .before .loop .inv .filled .size in omega arith
-
-add-k : tie.Need-add-k Inv-loop μ-loop
-add-k c = omega arith
-
-loop-less : tie.Need-loop-less Inv-loop μ-loop
-loop-less c = omega arith
 
 loop-again : tie.Need-loop-again Inv-loop μ-loop
 loop-again c =
@@ -64,9 +43,6 @@ loop-again c =
     let start = at .before .before in
     multiplied-more 257 (start .args .a) (start .args .b) (start .args .f .now) (at .loop .k) (at .loop .below) (at .loop .f) (at .loop .inv)
     (c .wide .result) _ (omega arith) (c .wide .ensures .0) (omega arith) refl
-
-same-length : tie.Need-same-length Inv-loop μ-loop
-same-length c = omega arith
 
 returns : tie.Need-returns Inv-loop μ-loop
 returns c = multiplied-all _ _ _ _ _ _ _ (c .before .loop .inv) (omega arith)
@@ -78,17 +54,17 @@ multiply-spec =
     Inv-loop
     μ-loop
     loop-holds
-    mul-wide
-    slice-read-wide
-    wide-requires
+    (λ c. omega arith)
+    (λ c. omega arith)
+    (λ c κs. search needs)
     mul-f
     mul-f-2
     add-f
-    cast-f
-    mul-f-3
+    (λ c. omega arith)
+    (λ c. omega arith)
     slice-write-f
-    add-k
-    loop-less
+    (λ c. omega arith)
+    (λ c. omega arith)
     loop-again
-    same-length
+    (λ c. omega arith)
     returns)

@@ -26,12 +26,6 @@ room c =
     let few = c .before .before .before .pre .1 in
     (omega arith, omega arith)
 
-array-write-f : tie.Need-array-write-f Inv-loop μ-loop
-array-write-f c = omega arith
-
-next-requires : tie.Need-next-requires Inv-loop μ-loop
-next-requires c κs = search needs
-
 loop-holds : tie.Need-loop-holds Inv-loop μ-loop
 loop-holds c = (0, omega arith, walk-start _ _ (c .next .ensures), building-none _)
 
@@ -55,12 +49,6 @@ sub-multiply-2 c = omega (arith, c .entry .ensures)
 
 multiply-requires : tie.Need-multiply-requires Inv-loop μ-loop
 multiply-requires c κs = (omega arith, omega arith)
-
-add-next : tie.Need-add-next Inv-loop μ-loop
-add-next c = omega arith
-
-next-requires-2 : tie.Need-next-requires-2 Inv-loop μ-loop
-next-requires-2 c κs = omega arith
 
 loop-less : tie.Need-loop-less Inv-loop μ-loop
 loop-less c =
@@ -98,8 +86,8 @@ locator-polynomial-spec =
     (tie.spec
     Inv-loop
     μ-loop
-    array-write-f
-    next-requires
+    (λ c. omega arith)
+    (λ c κs. search needs)
     loop-holds
     add-e
     sub-multiply
@@ -108,8 +96,8 @@ locator-polynomial-spec =
     entry-requires
     sub-multiply-2
     multiply-requires
-    add-next
-    next-requires-2
+    (λ c. omega arith)
+    (λ c κs. omega arith)
     loop-less
     loop-again
     returns)

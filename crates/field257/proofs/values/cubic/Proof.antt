@@ -17,38 +17,8 @@ start-of c = c .before .before .before .before
 small : (c : tie.After-long) (i : ℕ) → Fits w16 (getD (start-of c .args .f .now) (start-of c .args .k + i) 0)
 small c i = c .before .before .before .shared-slice-known .given (start-of c .args .k + i)
 
-add-above : tie.Need-add-above
-add-above c = search needs
-
-mul-above : tie.Need-mul-above
-mul-above c = search needs
-
-shared-slice-read-above : tie.Need-shared-slice-read-above
-shared-slice-read-above c = search needs
-
-add-long : tie.Need-add-long
-add-long c = search needs
-
-mul-long : tie.Need-mul-long
-mul-long c = search needs
-
-shared-slice-read-long : tie.Need-shared-slice-read-long
-shared-slice-read-long c = search needs
-
-long-requires : tie.Need-long-requires
-long-requires c κs = search needs
-
 above-requires : tie.Need-above-requires
 above-requires c κs = let d = c .long .ensures in omega (arith, small c 3)
-
-add-above-2 : tie.Need-add-above-2
-add-above-2 c = search needs
-
-mul-above-2 : tie.Need-mul-above-2
-mul-above-2 c = search needs
-
-shared-slice-read-above-2 : tie.Need-shared-slice-read-above-2
-shared-slice-read-above-2 c = search needs
 
 above-requires-2 : tie.Need-above-requires-2
 above-requires-2 c κs =
@@ -56,12 +26,6 @@ above-requires-2 c κs =
     let d = start .long .ensures in
     let b = c .before .above .ensures .1 in
     omega (arith, small start 3)
-
-mul-above-3 : tie.Need-mul-above-3
-mul-above-3 c = search needs
-
-shared-slice-read-above-3 : tie.Need-shared-slice-read-above-3
-shared-slice-read-above-3 c = search needs
 
 above-requires-3 : tie.Need-above-requires-3
 above-requires-3 c κs =
@@ -93,19 +57,19 @@ pub cubic-spec : {M : Type 1} → statement M
 cubic-spec =
     tie.close
     (tie.spec
-    add-above
-    mul-above
-    shared-slice-read-above
-    add-long
-    mul-long
-    shared-slice-read-long
-    long-requires
+    (λ c. search needs)
+    (λ c. search needs)
+    (λ c. search needs)
+    (λ c. search needs)
+    (λ c. search needs)
+    (λ c. search needs)
+    (λ c κs. search needs)
     above-requires
-    add-above-2
-    mul-above-2
-    shared-slice-read-above-2
+    (λ c. search needs)
+    (λ c. search needs)
+    (λ c. search needs)
     above-requires-2
-    mul-above-3
-    shared-slice-read-above-3
+    (λ c. search needs)
+    (λ c. search needs)
     above-requires-3
     returns)

@@ -23,9 +23,6 @@ mul-long c = let s = c .before .pre .exponent in omega arith
 element-copy-out-long : tie.Need-element-copy-out-long Inv-loop μ-loop
 element-copy-out-long c = let s = c .before .pre .exponent in omega arith
 
-long-requires : tie.Need-long-requires Inv-loop μ-loop
-long-requires c κs = search needs
-
 -- the ways back
 abbrev start-of : tie.After-long Inv-loop μ-loop → tie.Start Inv-loop μ-loop
 start-of c = c .before .before .before
@@ -61,9 +58,6 @@ mul-long-2 c = let p = c .before .before .loop .inv .place in omega arith
 element-copy-out-long-2 : tie.Need-element-copy-out-long-2 Inv-loop μ-loop
 element-copy-out-long-2 c = let p = c .before .before .loop .inv .place in omega arith
 
-long-requires-2 : tie.Need-long-requires-2 Inv-loop μ-loop
-long-requires-2 c κs = search needs
-
 -- one block more
 grown : (c : tie.After-long2 Inv-loop μ-loop) →
     let loop = in-loop c .before .loop in
@@ -89,15 +83,6 @@ mul-total c =
 add-total : tie.Need-add-total Inv-loop μ-loop
 add-total c = fits _ _ _ _ _ (grown c) (start-of (looked-up-before (in-loop c)) .pre .few)
 
-mul-place : tie.Need-mul-place Inv-loop μ-loop
-mul-place c = omega arith
-
-add-place : tie.Need-add-place Inv-loop μ-loop
-add-place c = omega arith
-
-add-b : tie.Need-add-b Inv-loop μ-loop
-add-b c = omega arith
-
 loop-less : tie.Need-loop-less Inv-loop μ-loop
 loop-less c = let t = in-loop c .loop-test .taken in omega arith
 
@@ -115,18 +100,18 @@ fours-spec =
     μ-loop
     mul-long
     element-copy-out-long
-    long-requires
+    (λ c κs. search needs)
     loop-holds
     mul-cubic
     cubic-requires
     mul-long-2
     element-copy-out-long-2
-    long-requires-2
+    (λ c κs. search needs)
     mul-total
     add-total
-    mul-place
-    add-place
-    add-b
+    (λ c. omega arith)
+    (λ c. omega arith)
+    (λ c. omega arith)
     loop-less
     loop-again
     returns)

@@ -31,20 +31,11 @@ mul-place c =
 loop-holds : tie.Need-loop-holds Inv-loop μ-loop
 loop-holds c = blocks-taken _ _ _ (c .fours .ensures .0) (c .fours .ensures .1)
 
-mul-times : tie.Need-mul-times Inv-loop μ-loop
-mul-times c = omega arith
-
-shared-slice-read-times : tie.Need-shared-slice-read-times Inv-loop μ-loop
-shared-slice-read-times c = omega arith
-
 mul-times-2 : tie.Need-mul-times-2 Inv-loop μ-loop
 mul-times-2 c = let p = c .before .before .loop .inv .place in omega arith
 
 element-copy-out-times : tie.Need-element-copy-out-times Inv-loop μ-loop
 element-copy-out-times c = let p = c .before .before .loop .inv .place in omega arith
-
-times-requires : tie.Need-times-requires Inv-loop μ-loop
-times-requires c κs = search needs
 
 -- the ways back
 abbrev looped : tie.After-times Inv-loop μ-loop → tie.At-loop Inv-loop μ-loop
@@ -65,26 +56,11 @@ grown c =
     more (start .args .f .now) (start .args .e) (at .loop .k) (at .loop .place) (at .loop .total) (at .loop .inv) (start .args .powers .now) (start .pre .0)
     (c .times .result) (c .before .before .before .loop-test .taken) (known .shared-slice-known .given (at .loop .k)) (c .times .ensures)
 
-cast-total : tie.Need-cast-total Inv-loop μ-loop
-cast-total c = omega arith
-
 add-total : tie.Need-add-total Inv-loop μ-loop
 add-total c = fits _ _ _ _ _ (grown c) (start-of (looped c) .pre .1)
 
-add-place : tie.Need-add-place Inv-loop μ-loop
-add-place c = omega arith
-
-add-k : tie.Need-add-k Inv-loop μ-loop
-add-k c = omega arith
-
-loop-less : tie.Need-loop-less Inv-loop μ-loop
-loop-less c = omega arith
-
 loop-again : tie.Need-loop-again Inv-loop μ-loop
 loop-again c = grown c
-
-cast-result : tie.Need-cast-result Inv-loop μ-loop
-cast-result c = omega arith
 
 returns : tie.Need-returns Inv-loop μ-loop
 returns c =
@@ -101,16 +77,16 @@ value-at-spec =
     mul-k
     mul-place
     loop-holds
-    mul-times
-    shared-slice-read-times
+    (λ c. omega arith)
+    (λ c. omega arith)
     mul-times-2
     element-copy-out-times
-    times-requires
-    cast-total
+    (λ c κs. search needs)
+    (λ c. omega arith)
     add-total
-    add-place
-    add-k
-    loop-less
+    (λ c. omega arith)
+    (λ c. omega arith)
+    (λ c. omega arith)
     loop-again
-    cast-result
+    (λ c. omega arith)
     returns)

@@ -6,15 +6,6 @@ use Rattle.finder.proofs.Refusing.{refuses}
 use Rattle.finder.proofs.find.find.Statement.{statement}
 use Rattle.finder.proofs.find.find.Tie as tie
 
-check-requires : tie.Need-check-requires
-check-requires c κs = search needs
-
-enum-known-checked : tie.Need-enum-known-checked
-enum-known-checked c = search needs
-
-enum-told : tie.Need-enum-told
-enum-told c = search needs
-
 synthesize-requires : tie.Need-synthesize-requires
 synthesize-requires c κs = sym (c .before .before .before .check .ensures) ∙ ap outcomeOf (c .before .enum-told .given .1)
 
@@ -25,9 +16,6 @@ returns c =
     refuses (args .p) (args .lengths .now) (args .symbols .now) (args .taps .now) _
     (sym (checked .check .ensures) ∙ ap outcomeOf (c .before .checked .given .1))
 
-same-length : tie.Need-same-length
-same-length c = search needs
-
 returns-2 : tie.Need-returns-2
 returns-2 c = c .before .before .synthesize .ensures
 
@@ -35,10 +23,10 @@ pub find-spec : {M : Type 1} → statement M
 find-spec =
     tie.close
     (tie.spec
-    check-requires
-    enum-known-checked
-    enum-told
+    (λ c κs. search needs)
+    (λ c. search needs)
+    (λ c. search needs)
     synthesize-requires
     returns
-    same-length
+    (λ c. search needs)
     returns-2)

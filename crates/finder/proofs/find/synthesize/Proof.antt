@@ -24,16 +24,10 @@ ran-before c = c .before .before .before .before
 wide-reciprocal-requires : tie.Need-wide-reciprocal-requires
 wide-reciprocal-requires c κs = omega (arith, accepted _ _ _ _ (c .before .before .before .pre) .prime .two-or-more)
 
-longest-requires : tie.Need-longest-requires
-longest-requires c κs = search needs
-
 by-length-requires : tie.Need-by-length-requires
 by-length-requires c κs =
     let at = c .before .before .before .before .before in
     sortable (accepted _ _ _ _ (at .pre))
-
-array-write-sigma : tie.Need-array-write-sigma
-array-write-sigma c = search needs
 
 start-requires : tie.Need-start-requires
 start-requires c κs =
@@ -53,31 +47,16 @@ add-e c =
     let size = size-within taken (sorted .before .longest .ensures) (sorted .by-length .ensures) (c .rounds .ensures) in
     omega (arith, running taken (sorted .before .longest .ensures) (sorted .by-length .ensures) .longest)
 
-sub-copy : tie.Need-sub-copy
-sub-copy c = search needs
-
-part-copy-start : tie.Need-part-copy-start
-part-copy-start c = search needs
-
 part-copy-end : tie.Need-part-copy-end
 part-copy-end c =
     let sorted = sorted-before c in
     buffer-room (accepted _ _ _ _ (start-of sorted .pre)) (sorted .before .longest .ensures) (sorted .by-length .ensures) (c .rounds .ensures)
-
-sub-copy-2 : tie.Need-sub-copy-2
-sub-copy-2 c = search needs
-
-part-copy-start-2 : tie.Need-part-copy-start-2
-part-copy-start-2 c = search needs
 
 part-copy-end-2 : tie.Need-part-copy-end-2
 part-copy-end-2 c =
     let ran = c .before .before in
     let sorted = sorted-before ran in
     taps-room (accepted _ _ _ _ (start-of sorted .pre)) (sorted .before .longest .ensures) (sorted .by-length .ensures) (ran .rounds .ensures)
-
-copy-requires : tie.Need-copy-requires
-copy-requires c κs = search needs
 
 alone-requires : tie.Need-alone-requires
 alone-requires c κs =
@@ -87,9 +66,6 @@ alone-requires c κs =
     let r = running taken (sorted .before .longest .ensures) (sorted .by-length .ensures) in
     let size = size-within taken (sorted .before .longest .ensures) (sorted .by-length .ensures) (ran .rounds .ensures) in
     record { longest = r .longest; count = r .count; size = size; shorter = r .shorter }
-
-same-length : tie.Need-same-length
-same-length c = search needs
 
 returns : tie.Need-returns
 returns c =
@@ -105,19 +81,19 @@ synthesize-spec =
     tie.close
     (tie.spec
     wide-reciprocal-requires
-    longest-requires
+    (λ c κs. search needs)
     by-length-requires
-    array-write-sigma
+    (λ c. search needs)
     start-requires
     rounds-requires
     add-e
-    sub-copy
-    part-copy-start
+    (λ c. search needs)
+    (λ c. search needs)
     part-copy-end
-    sub-copy-2
-    part-copy-start-2
+    (λ c. search needs)
+    (λ c. search needs)
     part-copy-end-2
-    copy-requires
+    (λ c κs. search needs)
     alone-requires
-    same-length
+    (λ c. search needs)
     returns)

@@ -22,41 +22,14 @@ abbrev μ-loop : tie.MeasureT-loop
 loop-holds : tie.Need-loop-holds Inv-loop μ-loop
 loop-holds c = (search needs, round-begins (c .before .pre .0) _ (c .before .pre .1 .1 .0))
 
-mul-a : tie.Need-mul-a Inv-loop μ-loop
-mul-a c = search needs
-
-element-copy-out-a : tie.Need-element-copy-out-a Inv-loop μ-loop
-element-copy-out-a c = search needs
-
-cast-a : tie.Need-cast-a Inv-loop μ-loop
-cast-a c = search needs
-
-mul-e : tie.Need-mul-e Inv-loop μ-loop
-mul-e c = search needs
-
-element-copy-out-e : tie.Need-element-copy-out-e Inv-loop μ-loop
-element-copy-out-e c = search needs
-
-cast-e : tie.Need-cast-e Inv-loop μ-loop
-cast-e c = search needs
-
 add-e : tie.Need-add-e Inv-loop μ-loop
 add-e c = omega (arith, c .before .before .before .before .before .pre .0 .within (c .before .before .before .loop .h) (search needs))
 
 mul-due : tie.Need-mul-due Inv-loop μ-loop
 mul-due c = omega (arith, c .before .before .before .before .before .before .pre .0 .within (c .before .before .before .before .loop .h) (search needs))
 
-sub-due : tie.Need-sub-due Inv-loop μ-loop
-sub-due c = search needs
-
-part-due-start : tie.Need-part-due-start Inv-loop μ-loop
-part-due-start c = search needs
-
 part-due-end : tie.Need-part-due-end Inv-loop μ-loop
 part-due-end c = omega (arith, c .before .before .before .before .before .before .pre .0 .within (c .before .before .before .before .loop .h) (search needs))
-
-add-due : tie.Need-add-due Inv-loop μ-loop
-add-due c = search needs
 
 due-requires : tie.Need-due-requires Inv-loop μ-loop
 due-requires c κs =
@@ -66,9 +39,6 @@ due-requires c κs =
     let begun = ready (pre .0) (pre .1 .0) (search needs) (at .inv .1) in
     (summable begun (at .inv .1 .ended) (pre .1 .1 .1), in-reach begun (at .inv .1 .ended))
 
-add-change : tie.Need-add-change Inv-loop μ-loop
-add-change c = search needs
-
 change-requires : tie.Need-change-requires Inv-loop μ-loop
 change-requires c κs =
     let computed = c .before .before .before in
@@ -77,12 +47,6 @@ change-requires c κs =
     let pre = looped .before .before .pre in
     let begun = ready (pre .0) (pre .1 .0) (search needs) (at .inv .1) in
     (changeable begun (at .inv .1 .ended) (computed .due .ensures) (c .before .before .if1 .taken), at .inv .1 .ended)
-
-add-h : tie.Need-add-h Inv-loop μ-loop
-add-h c = search needs
-
-loop-less : tie.Need-loop-less Inv-loop μ-loop
-loop-less c = search needs
 
 loop-again : tie.Need-loop-again Inv-loop μ-loop
 loop-again c =
@@ -110,22 +74,22 @@ round-spec =
     Inv-loop
     μ-loop
     loop-holds
-    mul-a
-    element-copy-out-a
-    cast-a
-    mul-e
-    element-copy-out-e
-    cast-e
+    (λ c. search needs)
+    (λ c. search needs)
+    (λ c. search needs)
+    (λ c. search needs)
+    (λ c. search needs)
+    (λ c. search needs)
     add-e
     mul-due
-    sub-due
-    part-due-start
+    (λ c. search needs)
+    (λ c. search needs)
     part-due-end
-    add-due
+    (λ c. search needs)
     due-requires
-    add-change
+    (λ c. search needs)
     change-requires
-    add-h
-    loop-less
+    (λ c. search needs)
+    (λ c. search needs)
     loop-again
     returns)

@@ -17,29 +17,8 @@ abbrev μ-loop : tie.MeasureT-loop
 loop-holds : tie.Need-loop-holds Inv-loop μ-loop
 loop-holds c = (search needs, record { places = filled-none _ _; length = refl; sizes = refl; discs = refl; inverses = refl })
 
-cast-g : tie.Need-cast-g Inv-loop μ-loop
-cast-g c = search needs
-
-mul-g : tie.Need-mul-g Inv-loop μ-loop
-mul-g c = search needs
-
-element-copy-out-g : tie.Need-element-copy-out-g Inv-loop μ-loop
-element-copy-out-g c = search needs
-
 sub-g : tie.Need-sub-g Inv-loop μ-loop
 sub-g c = c .before .before .before .pre .shorter (c .before .before .loop .h) (search needs)
-
-mul-g-2 : tie.Need-mul-g-2 Inv-loop μ-loop
-mul-g-2 c = search needs
-
-element-write-g : tie.Need-element-write-g Inv-loop μ-loop
-element-write-g c = search needs
-
-add-h : tie.Need-add-h Inv-loop μ-loop
-add-h c = search needs
-
-loop-less : tie.Need-loop-less Inv-loop μ-loop
-loop-less c = search needs
 
 loop-again : tie.Need-loop-again Inv-loop μ-loop
 loop-again c =
@@ -65,13 +44,13 @@ start-spec =
     Inv-loop
     μ-loop
     loop-holds
-    cast-g
-    mul-g
-    element-copy-out-g
+    (λ c. search needs)
+    (λ c. search needs)
+    (λ c. search needs)
     sub-g
-    mul-g-2
-    element-write-g
-    add-h
-    loop-less
+    (λ c. search needs)
+    (λ c. search needs)
+    (λ c. search needs)
+    (λ c. search needs)
     loop-again
     returns)

@@ -13,21 +13,6 @@ columns-put c = c .before .before .before .before .before .before
 abbrev head-put : tie.After-slice-known4 → tie.After-put-head
 head-put c = columns-put c .before .before .before .before
 
-cast-put-head : tie.Need-cast-put-head
-cast-put-head c = search needs
-
-put-head-requires : tie.Need-put-head-requires
-put-head-requires c κs = search needs
-
-put-columns-requires : tie.Need-put-columns-requires
-put-columns-requires c κs = search needs
-
-put-byte-requires : tie.Need-put-byte-requires
-put-byte-requires c κs = search needs
-
-same-length : tie.Need-same-length
-same-length c = search needs
-
 returns : tie.Need-returns
 unfolding columnsLine
 returns c =
@@ -42,9 +27,9 @@ pub columns-line-spec : {M : Type 1} → statement M
 columns-line-spec =
     tie.close
     (tie.spec
-    cast-put-head
-    put-head-requires
-    put-columns-requires
-    put-byte-requires
-    same-length
+    (λ c. search needs)
+    (λ c κs. search needs)
+    (λ c κs. search needs)
+    (λ c κs. search needs)
+    (λ c. search needs)
     returns)

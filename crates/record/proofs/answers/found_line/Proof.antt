@@ -15,23 +15,8 @@ start-of c = c .before .before .before .before .before
 taps-held : (c : tie.After-known-told2) → c .before .found2 .given .0 .0 + 1 ≤ length (start-of c .args .taps .now)
 taps-held c = count-found (start-of c .args .found) _ _ (c .before .found2 .given .1) _ (start-of c .pre .held)
 
-enum-known-found : tie.Need-enum-known-found
-enum-known-found c = search needs
-
-refusal-line-requires : tie.Need-refusal-line-requires
-refusal-line-requires c κs = search needs
-
-enum-known-found-2 : tie.Need-enum-known-found-2
-enum-known-found-2 c = search needs
-
 add-end : tie.Need-add-end
 add-end c = omega (arith, taps-held c)
-
-sub-taps-line : tie.Need-sub-taps-line
-sub-taps-line c = search needs
-
-part-taps-line-start : tie.Need-part-taps-line-start
-part-taps-line-start c = search needs
 
 part-taps-line-end : tie.Need-part-taps-line-end
 part-taps-line-end c = omega (arith, taps-held (c .before))
@@ -46,15 +31,9 @@ taps-line-requires c κs =
       few = omega (arith, length-take (known .before .found2 .given .0 .0 + 1 - 0) (start-of known .args .taps .now));
     }
 
-same-length : tie.Need-same-length
-same-length c = search needs
-
 returns : tie.Need-returns
 returns c =
     line-as _ _ _ _ _ _ (refusal-found _ _ _ (c .before .before .before .before .before .found .given .1)) (c .before .before .refusal-line .ensures)
-
-same-length-2 : tie.Need-same-length-2
-same-length-2 c = search needs
 
 returns-2 : tie.Need-returns-2
 returns-2 c =
@@ -64,15 +43,15 @@ pub found-line-spec : {M : Type 1} → statement M
 found-line-spec =
     tie.close
     (tie.spec
-    enum-known-found
-    refusal-line-requires
-    enum-known-found-2
+    (λ c. search needs)
+    (λ c κs. search needs)
+    (λ c. search needs)
     add-end
-    sub-taps-line
-    part-taps-line-start
+    (λ c. search needs)
+    (λ c. search needs)
     part-taps-line-end
     taps-line-requires
-    same-length
+    (λ c. search needs)
     returns
-    same-length-2
+    (λ c. search needs)
     returns-2)

@@ -15,20 +15,8 @@ use Rattle.record.proofs.answers.refusal_line.Tie as tie
 abbrev head-put : tie.After-slice-known3 → tie.After-put-head
 head-put c = c .before .before .before .before .before .before
 
-number-of-requires : tie.Need-number-of-requires
-number-of-requires c κs = search needs
-
 cast-put-head : tie.Need-cast-put-head
 cast-put-head c = omega (arith, c .number-of .ensures, number-small (c .before .before .before .args .k))
-
-put-head-requires : tie.Need-put-head-requires
-put-head-requires c κs = search needs
-
-put-byte-requires : tie.Need-put-byte-requires
-put-byte-requires c κs = search needs
-
-same-length : tie.Need-same-length
-same-length c = search needs
 
 returns : tie.Need-returns
 unfolding refusalLine
@@ -44,9 +32,9 @@ pub refusal-line-spec : {M : Type 1} → statement M
 refusal-line-spec =
     tie.close
     (tie.spec
-    number-of-requires
+    (λ c κs. search needs)
     cast-put-head
-    put-head-requires
-    put-byte-requires
-    same-length
+    (λ c κs. search needs)
+    (λ c κs. search needs)
+    (λ c. search needs)
     returns)

@@ -12,15 +12,6 @@ refused c = c .before .before .before .before .before
 abbrev counted : tie.After-slice-known3 → tie.After-reply2
 counted c = c .before .before .before .before .before
 
-enum-known-reply : tie.Need-enum-known-reply
-enum-known-reply c = search needs
-
-refusal-line-requires : tie.Need-refusal-line-requires
-refusal-line-requires c κs = search needs
-
-enum-known-reply-2 : tie.Need-enum-known-reply-2
-enum-known-reply-2 c = search needs
-
 columns-line-requires : tie.Need-columns-line-requires
 columns-line-requires c κs =
     let start = c .before .before .before .before .before in
@@ -30,16 +21,10 @@ columns-line-requires c κs =
       few-marks = start .pre .few-marks;
     }
 
-same-length : tie.Need-same-length
-same-length c = search needs
-
 returns : tie.Need-returns
 returns c =
     let start = refused c .before .before .before in
     line-as _ _ _ _ _ _ (refusal-replied (start .args .reply) _ _ (refused c .reply .given .1)) (c .before .before .refusal-line .ensures)
-
-same-length-2 : tie.Need-same-length-2
-same-length-2 c = search needs
 
 returns-2 : tie.Need-returns-2
 returns-2 c =
@@ -50,11 +35,11 @@ pub reply-line-spec : {M : Type 1} → statement M
 reply-line-spec =
     tie.close
     (tie.spec
-    enum-known-reply
-    refusal-line-requires
-    enum-known-reply-2
+    (λ c. search needs)
+    (λ c κs. search needs)
+    (λ c. search needs)
     columns-line-requires
-    same-length
+    (λ c. search needs)
     returns
-    same-length-2
+    (λ c. search needs)
     returns-2)

@@ -21,27 +21,6 @@ mark-put c = taps-put c .before .before .before .before
 abbrev head-put : tie.After-slice-known5 → tie.After-put-head
 head-put c = mark-put c .before .before .before .before .before
 
-cast-put-head : tie.Need-cast-put-head
-cast-put-head c = search needs
-
-put-head-requires : tie.Need-put-head-requires
-put-head-requires c κs = search needs
-
-mark-of-requires : tie.Need-mark-of-requires
-mark-of-requires c κs = search needs
-
-put-number-requires : tie.Need-put-number-requires
-put-number-requires c κs = search needs
-
-put-numbers-requires : tie.Need-put-numbers-requires
-put-numbers-requires c κs = search needs
-
-put-byte-requires : tie.Need-put-byte-requires
-put-byte-requires c κs = search needs
-
-same-length : tie.Need-same-length
-same-length c = search needs
-
 returns : tie.Need-returns
 unfolding registerLine
 returns c =
@@ -60,11 +39,11 @@ pub taps-line-spec : {M : Type 1} → statement M
 taps-line-spec =
     tie.close
     (tie.spec
-    cast-put-head
-    put-head-requires
-    mark-of-requires
-    put-number-requires
-    put-numbers-requires
-    put-byte-requires
-    same-length
+    (λ c. search needs)
+    (λ c κs. search needs)
+    (λ c κs. search needs)
+    (λ c κs. search needs)
+    (λ c κs. search needs)
+    (λ c κs. search needs)
+    (λ c. search needs)
     returns)

@@ -26,62 +26,20 @@ no-kind c = c .before .before .before .before
 abbrev start-of : tie.After-shared-slice-known2 → tie.Start
 start-of c = c .before .before .before .before
 
-refusal-line-requires : tie.Need-refusal-line-requires
-refusal-line-requires c κs = search needs
-
-same-length : tie.Need-same-length
-same-length c = search needs
-
 returns : tie.Need-returns
 returns c =
     let xs = too-short c .before .before .before .args .xs .now in
     line-as _ _ _ _ _ _ (bad-line (bodyOf xs) (body-short xs (omega arith))) (c .before .before .refusal-line .ensures)
-
-shared-slice-read-if2 : tie.Need-shared-slice-read-if2
-shared-slice-read-if2 c = search needs
-
-shared-slice-read-counted-line : tie.Need-shared-slice-read-counted-line
-shared-slice-read-counted-line c = search needs
-
-shared-slice-read-counted-line-2 : tie.Need-shared-slice-read-counted-line-2
-shared-slice-read-counted-line-2 c = search needs
-
-counted-line-requires : tie.Need-counted-line-requires
-counted-line-requires c κs = search needs
-
-same-length-2 : tie.Need-same-length-2
-same-length-2 c = search needs
 
 returns-2 : tie.Need-returns-2
 returns-2 c =
     let xs = start-of (kind-one c .before) .args .xs .now in
     line-as _ _ _ _ _ _ (ap outputOf (body-sequences xs (search needs))) (c .before .before .counted-line .ensures)
 
-shared-slice-read-if3 : tie.Need-shared-slice-read-if3
-shared-slice-read-if3 c = search needs
-
-shared-slice-read-counted-line-3 : tie.Need-shared-slice-read-counted-line-3
-shared-slice-read-counted-line-3 c = search needs
-
-shared-slice-read-counted-line-4 : tie.Need-shared-slice-read-counted-line-4
-shared-slice-read-counted-line-4 c = search needs
-
-counted-line-requires-2 : tie.Need-counted-line-requires-2
-counted-line-requires-2 c κs = search needs
-
-same-length-3 : tie.Need-same-length-3
-same-length-3 c = search needs
-
 returns-3 : tie.Need-returns-3
 returns-3 c =
     let xs = start-of (kind-two c .before .before .before) .args .xs .now in
     line-as _ _ _ _ _ _ (ap outputOf (body-frame xs (search needs))) (c .before .before .counted-line2 .ensures)
-
-refusal-line-requires-2 : tie.Need-refusal-line-requires-2
-refusal-line-requires-2 c κs = search needs
-
-same-length-4 : tie.Need-same-length-4
-same-length-4 c = search needs
 
 returns-4 : tie.Need-returns-4
 returns-4 c =
@@ -92,21 +50,21 @@ pub body-line-spec : {M : Type 1} → statement M
 body-line-spec =
     tie.close
     (tie.spec
-    refusal-line-requires
-    same-length
+    (λ c κs. search needs)
+    (λ c. search needs)
     returns
-    shared-slice-read-if2
-    shared-slice-read-counted-line
-    shared-slice-read-counted-line-2
-    counted-line-requires
-    same-length-2
+    (λ c. search needs)
+    (λ c. search needs)
+    (λ c. search needs)
+    (λ c κs. search needs)
+    (λ c. search needs)
     returns-2
-    shared-slice-read-if3
-    shared-slice-read-counted-line-3
-    shared-slice-read-counted-line-4
-    counted-line-requires-2
-    same-length-3
+    (λ c. search needs)
+    (λ c. search needs)
+    (λ c. search needs)
+    (λ c κs. search needs)
+    (λ c. search needs)
     returns-3
-    refusal-line-requires-2
-    same-length-4
+    (λ c κs. search needs)
+    (λ c. search needs)
     returns-4)

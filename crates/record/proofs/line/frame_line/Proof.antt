@@ -6,21 +6,6 @@ use Rattle.record.proofs.Writing.{line-as}
 use Rattle.record.proofs.line.frame_line.Statement.{statement}
 use Rattle.record.proofs.line.frame_line.Tie as tie
 
-empty-requires : tie.Need-empty-requires
-empty-requires c κs = search needs
-
-shape-requires : tie.Need-shape-requires
-shape-requires c κs = search needs
-
-enum-known-checked : tie.Need-enum-known-checked
-enum-known-checked c = search needs
-
-refusal-line-requires : tie.Need-refusal-line-requires
-refusal-line-requires c κs = search needs
-
-same-length : tie.Need-same-length
-same-length c = search needs
-
 returns : tie.Need-returns
 returns c =
     let checked = c .before .before .before .before .before in
@@ -28,19 +13,10 @@ returns c =
     let refused = frame-refused _ _ _ _ (shaped .before .empty .ensures) (shaped .shape .result) (shaped .shape .ensures) _ (checked .checked .given .1) in
     line-as _ _ _ _ _ _ refused (c .before .before .refusal-line .ensures)
 
-enum-told : tie.Need-enum-told
-enum-told c = search needs
-
-locate-requires : tie.Need-locate-requires
-locate-requires c κs = search needs
-
 reply-line-requires : tie.Need-reply-line-requires
 reply-line-requires c κs =
     let few = few-marks _ _ _ (c .before .locate .result) (c .before .locate .ensures noArrays) in
     record { room = search needs; few = few .0; few-marks = few .1 }
-
-same-length-2 : tie.Need-same-length-2
-same-length-2 c = search needs
 
 returns-2 : tie.Need-returns-2
 returns-2 c =
@@ -57,14 +33,14 @@ pub frame-line-spec : {M : Type 1} → statement M
 frame-line-spec =
     tie.close
     (tie.spec
-    empty-requires
-    shape-requires
-    enum-known-checked
-    refusal-line-requires
-    same-length
+    (λ c κs. search needs)
+    (λ c κs. search needs)
+    (λ c. search needs)
+    (λ c κs. search needs)
+    (λ c. search needs)
     returns
-    enum-told
-    locate-requires
+    (λ c. search needs)
+    (λ c κs. search needs)
     reply-line-requires
-    same-length-2
+    (λ c. search needs)
     returns-2)

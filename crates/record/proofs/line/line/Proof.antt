@@ -13,15 +13,6 @@ fields-lent c = c .before .before .before .before .before
 abbrev fields-read : tie.After-slice-known5 → tie.After-fields
 fields-read c = fields-lent c .before .before .before
 
-whole-requires : tie.Need-whole-requires
-whole-requires c κs = search needs
-
-refusal-line-requires : tie.Need-refusal-line-requires
-refusal-line-requires c κs = search needs
-
-same-length : tie.Need-same-length
-same-length c = search needs
-
 returns : tie.Need-returns
 returns c =
     let line = c .before .before .refusal-line .ensures in
@@ -37,30 +28,6 @@ sub-fields c = c .before .whole .ensures .1 (not-false _ (c .if1 .left)) .0
 
 part-fields-start : tie.Need-part-fields-start
 part-fields-start c = c .before .whole .ensures .1 (not-false _ (c .if1 .left)) .0
-
-part-fields-end : tie.Need-part-fields-end
-part-fields-end c = search needs
-
-fields-requires : tie.Need-fields-requires
-fields-requires c κs = search needs
-
-sub-body-line : tie.Need-sub-body-line
-sub-body-line c = search needs
-
-part-body-line-start : tie.Need-part-body-line-start
-part-body-line-start c = search needs
-
-part-body-line-end : tie.Need-part-body-line-end
-part-body-line-end c = search needs
-
-body-line-requires : tie.Need-body-line-requires
-body-line-requires c κs = search needs
-
-same-length-2 : tie.Need-same-length-2
-same-length-2 c = search needs
-
-same-length-3 : tie.Need-same-length-3
-same-length-3 c = search needs
 
 returns-2 : tie.Need-returns-2
 returns-2 c =
@@ -79,18 +46,18 @@ pub line-spec : {M : Type 1} → statement M
 line-spec =
     tie.close
     (tie.spec
-    whole-requires
-    refusal-line-requires
-    same-length
+    (λ c κs. search needs)
+    (λ c κs. search needs)
+    (λ c. search needs)
     returns
     sub-fields
     part-fields-start
-    part-fields-end
-    fields-requires
-    sub-body-line
-    part-body-line-start
-    part-body-line-end
-    body-line-requires
-    same-length-2
-    same-length-3
+    (λ c. search needs)
+    (λ c κs. search needs)
+    (λ c. search needs)
+    (λ c. search needs)
+    (λ c. search needs)
+    (λ c κs. search needs)
+    (λ c. search needs)
+    (λ c. search needs)
     returns-2)

@@ -14,22 +14,10 @@ kind-one c = c .before .before .before .before
 abbrev kind-two : tie.After-slice-known3 → tie.Else1
 kind-two c = c .before .before .before .before
 
-register-line-requires : tie.Need-register-line-requires
-register-line-requires c κs = search needs
-
-same-length : tie.Need-same-length
-same-length c = search needs
-
 returns : tie.Need-returns
 returns c =
     let start = kind-one c .before .before .before .before in
     line-as _ _ _ _ _ _ (ap outputOf (kind-sequences (start .args .kind) _ _ _ (search needs))) (c .before .before .register-line .ensures)
-
-frame-line-requires : tie.Need-frame-line-requires
-frame-line-requires c κs = search needs
-
-same-length-2 : tie.Need-same-length-2
-same-length-2 c = search needs
 
 returns-2 : tie.Need-returns-2
 returns-2 c =
@@ -40,9 +28,9 @@ pub parts-line-spec : {M : Type 1} → statement M
 parts-line-spec =
     tie.close
     (tie.spec
-    register-line-requires
-    same-length
+    (λ c κs. search needs)
+    (λ c. search needs)
     returns
-    frame-line-requires
-    same-length-2
+    (λ c κs. search needs)
+    (λ c. search needs)
     returns-2)

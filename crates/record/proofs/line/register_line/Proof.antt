@@ -7,15 +7,6 @@ use Rattle.record.proofs.Writing.{line-as}
 use Rattle.record.proofs.line.register_line.Statement.{statement}
 use Rattle.record.proofs.line.register_line.Tie as tie
 
-slice-aggregate-find : tie.Need-slice-aggregate-find
-slice-aggregate-find c = search needs
-
-find-requires : tie.Need-find-requires
-find-requires c κs = search needs
-
-slice-aggregate-found-line : tie.Need-slice-aggregate-found-line
-slice-aggregate-found-line c = search needs
-
 found-line-requires : tie.Need-found-line-requires
 found-line-requires c κs =
     let found = c .before .before .before .find in
@@ -24,9 +15,6 @@ found-line-requires c κs =
       few = omega (arith, found .kept .1 .1 .1 .0);
       held = found-taps _ _ _ _ _ refl (found .kept .1 .1 .1 .0) (found .ensures .leaves) (found .result) (found .ensures .answers);
     }
-
-same-length : tie.Need-same-length
-same-length c = search needs
 
 returns : tie.Need-returns
 returns c =
@@ -38,9 +26,9 @@ pub register-line-spec : {M : Type 1} → statement M
 register-line-spec =
     tie.close
     (tie.spec
-    slice-aggregate-find
-    find-requires
-    slice-aggregate-found-line
+    (λ c. search needs)
+    (λ c κs. search needs)
+    (λ c. search needs)
     found-line-requires
-    same-length
+    (λ c. search needs)
     returns)

@@ -28,16 +28,10 @@ next-requires c κs = tt
 loop-holds : tie.Need-loop-holds Inv-loop μ-loop
 loop-holds c = (0, walk-start _ _ (c .next .ensures), spaced-none _ _ _)
 
-cast-put-number : tie.Need-cast-put-number Inv-loop μ-loop
-cast-put-number c = search needs
-
 put-number-requires : tie.Need-put-number-requires Inv-loop μ-loop
 put-number-requires c κs =
     let v = c .before .before .loop .inv in
     spaced-room _ _ _ (start-of (c .before .before) .pre) _ _ _ (v .2) (walk-member _ _ _ (v .1) (omega arith) .0)
-
-add-next : tie.Need-add-next Inv-loop μ-loop
-add-next c = search needs
 
 next-requires-2 : tie.Need-next-requires-2 Inv-loop μ-loop
 next-requires-2 c κs = tt
@@ -73,9 +67,9 @@ put-columns-spec =
     μ-loop
     next-requires
     loop-holds
-    cast-put-number
+    (λ c. search needs)
     put-number-requires
-    add-next
+    (λ c. search needs)
     next-requires-2
     loop-less
     loop-again

@@ -17,60 +17,18 @@ Inv-loop p taps₀ q e m saved h modulus factor ratio at i₀ taps i =
 abbrev μ-loop : tie.MeasureT-loop
 μ-loop p taps₀ q e m saved h modulus factor ratio at i₀ taps i = suc m - i
 
-cast-modulus : tie.Need-cast-modulus Inv-loop μ-loop
-cast-modulus c = search needs
-
-cast-factor : tie.Need-cast-factor Inv-loop μ-loop
-cast-factor c = search needs
-
-ratio-requires : tie.Need-ratio-requires Inv-loop μ-loop
-ratio-requires c κs = search needs
-
-mul-at : tie.Need-mul-at Inv-loop μ-loop
-mul-at c = search needs
-
 loop-holds : tie.Need-loop-holds Inv-loop μ-loop
 loop-holds c = (search needs, reduced-none _ 128 _ _ _ (c .before .pre .width) (c .before .pre .residues))
-
-add-k : tie.Need-add-k Inv-loop μ-loop
-add-k c = search needs
-
-add-multiple : tie.Need-add-multiple Inv-loop μ-loop
-add-multiple c = search needs
-
-mul-multiple : tie.Need-mul-multiple Inv-loop μ-loop
-mul-multiple c = search needs
-
-element-copy-out-multiple : tie.Need-element-copy-out-multiple Inv-loop μ-loop
-element-copy-out-multiple c = search needs
 
 multiple-requires : tie.Need-multiple-requires Inv-loop μ-loop
 multiple-requires c κs =
     let ratio = c .before .before .before in
     (ratio .before .pre .factor, ratio .ratio .ensures)
 
-mul-difference : tie.Need-mul-difference Inv-loop μ-loop
-mul-difference c = search needs
-
-element-copy-out-difference : tie.Need-element-copy-out-difference Inv-loop μ-loop
-element-copy-out-difference c = search needs
-
 difference-requires : tie.Need-difference-requires Inv-loop μ-loop
 difference-requires c κs =
     let at = c .before .before .before .before in
     (tap-less (at .before .before .pre) (at .loop .i) (omega arith) (at .loop .inv .1), c .before .multiple .ensures .1)
-
-mul-taps : tie.Need-mul-taps Inv-loop μ-loop
-mul-taps c = search needs
-
-element-write-taps : tie.Need-element-write-taps Inv-loop μ-loop
-element-write-taps c = search needs
-
-add-i : tie.Need-add-i Inv-loop μ-loop
-add-i c = search needs
-
-loop-less : tie.Need-loop-less Inv-loop μ-loop
-loop-less c = search needs
 
 loop-again : tie.Need-loop-again Inv-loop μ-loop
 loop-again c =
@@ -90,22 +48,22 @@ reduce-spec =
     (tie.spec
     Inv-loop
     μ-loop
-    cast-modulus
-    cast-factor
-    ratio-requires
-    mul-at
+    (λ c. search needs)
+    (λ c. search needs)
+    (λ c κs. search needs)
+    (λ c. search needs)
     loop-holds
-    add-k
-    add-multiple
-    mul-multiple
-    element-copy-out-multiple
+    (λ c. search needs)
+    (λ c. search needs)
+    (λ c. search needs)
+    (λ c. search needs)
     multiple-requires
-    mul-difference
-    element-copy-out-difference
+    (λ c. search needs)
+    (λ c. search needs)
     difference-requires
-    mul-taps
-    element-write-taps
-    add-i
-    loop-less
+    (λ c. search needs)
+    (λ c. search needs)
+    (λ c. search needs)
+    (λ c. search needs)
     loop-again
     returns)

@@ -24,33 +24,6 @@ lengths c = (search needs, search needs, search needs, search needs)
 
 -- ---- the needs
 
-mul-place : tie.Need-mul-place
-mul-place c = search needs
-
-element-copy-out-place : tie.Need-element-copy-out-place
-element-copy-out-place c = search needs
-
-cast-place : tie.Need-cast-place
-cast-place c = search needs
-
-mul-size : tie.Need-mul-size
-mul-size c = search needs
-
-element-copy-out-size : tie.Need-element-copy-out-size
-element-copy-out-size c = search needs
-
-cast-size : tie.Need-cast-size
-cast-size c = search needs
-
-mul-product : tie.Need-mul-product
-mul-product c = search needs
-
-element-copy-out-product : tie.Need-element-copy-out-product
-element-copy-out-product c = search needs
-
-cast-product : tie.Need-cast-product
-cast-product c = search needs
-
 product-requires : tie.Need-product-requires
 unfolding stateOf
 product-requires c κs =
@@ -99,9 +72,6 @@ keep-requires : tie.Need-keep-requires
 unfolding stateOf
 keep-requires c κs = search needs
 
-inverse-requires : tie.Need-inverse-requires
-inverse-requires c κs = search needs
-
 numbers-saved-requires : tie.Need-numbers-saved-requires
 unfolding stateOf
 numbers-saved-requires c κs =
@@ -133,15 +103,15 @@ pub change-spec : {M : Type 1} → statement M
 change-spec =
     tie.close
     (tie.spec
-    mul-place
-    element-copy-out-place
-    cast-place
-    mul-size
-    element-copy-out-size
-    cast-size
-    mul-product
-    element-copy-out-product
-    cast-product
+    (λ c. search needs)
+    (λ c. search needs)
+    (λ c. search needs)
+    (λ c. search needs)
+    (λ c. search needs)
+    (λ c. search needs)
+    (λ c. search needs)
+    (λ c. search needs)
+    (λ c. search needs)
     product-requires
     sub-e
     add-if1
@@ -151,6 +121,6 @@ change-spec =
     reduce-requires-2
     slice-aggregate-keep
     keep-requires
-    inverse-requires
+    (λ c κs. search needs)
     numbers-saved-requires
     returns-2)

@@ -40,15 +40,9 @@ past-four : (c : tie.After-below) →
     outcome (tests (args .p) (args .lengths .now) (args .symbols .now) (args .room)) ≡ cond (not (c .below .result)) (refused 4) passed
 past-four c = past-three (c .before .before) ∙ rw (room-enough (c .before .if4 .left), ← c .below .ensures)
 
-is-modulus-requires : tie.Need-is-modulus-requires
-is-modulus-requires c κs = search needs
-
 returns : tie.Need-returns
 unfolding tests
 returns c = rw (← c .before .is-modulus .ensures, c .if1 .taken)
-
-counted-requires : tie.Need-counted-requires
-counted-requires c κs = search needs
 
 returns-2 : tie.Need-returns-2
 unfolding tests
@@ -71,14 +65,8 @@ returns-3 c =
       c .if3 .taken,
     )
 
-longest-requires : tie.Need-longest-requires
-longest-requires c κs = search needs
-
 returns-4 : tie.Need-returns-4
 returns-4 c = sym (past-three (c .before) ∙ rw (room-short (c .if4 .taken)))
-
-below-requires : tie.Need-below-requires
-below-requires c κs = search needs
 
 returns-5 : tie.Need-returns-5
 returns-5 c = sym (past-four (c .before) ∙ rw (c .if5 .taken))
@@ -90,14 +78,14 @@ pub check-spec : {M : Type 1} → statement M
 check-spec =
     tie.close
     (tie.spec
-    is-modulus-requires
+    (λ c κs. search needs)
     returns
-    counted-requires
+    (λ c κs. search needs)
     returns-2
     measured-requires
     returns-3
-    longest-requires
+    (λ c κs. search needs)
     returns-4
-    below-requires
+    (λ c κs. search needs)
     returns-5
     returns-6)

@@ -19,23 +19,14 @@ by-checks c b e =
     shape-outcome _ _ true true b (sym (rows .before .rows-in-range .ensures) ∙ not-false _ (rows .if1 .left))
     (sym (columns .before .columns-in-range .ensures) ∙ not-false _ (columns .if2 .left)) (sym (c .checks-in-range .ensures) ∙ e)
 
-rows-in-range-requires : tie.Need-rows-in-range-requires
-rows-in-range-requires c κs = search needs
-
 returns : tie.Need-returns
 returns c = shape-outcome _ _ false _ _ (sym (c .before .rows-in-range .ensures) ∙ not-true _ (c .if1 .taken)) refl refl
-
-columns-in-range-requires : tie.Need-columns-in-range-requires
-columns-in-range-requires c κs = search needs
 
 returns-2 : tie.Need-returns-2
 returns-2 c =
     let tested = c .before .before in
     shape-outcome _ _ true false _ (sym (tested .before .rows-in-range .ensures) ∙ not-false _ (tested .if1 .left))
     (sym (c .before .columns-in-range .ensures) ∙ not-true _ (c .if2 .taken)) refl
-
-checks-in-range-requires : tie.Need-checks-in-range-requires
-checks-in-range-requires c κs = search needs
 
 returns-3 : tie.Need-returns-3
 returns-3 c = by-checks (c .before) false (not-true _ (c .if3 .taken))
@@ -47,10 +38,10 @@ pub check-shape-spec : {M : Type 1} → statement M
 check-shape-spec =
     tie.close
     (tie.spec
-    rows-in-range-requires
+    (λ c κs. search needs)
     returns
-    columns-in-range-requires
+    (λ c κs. search needs)
     returns-2
-    checks-in-range-requires
+    (λ c κs. search needs)
     returns-3
     returns-4)

@@ -10,14 +10,8 @@ use borrow.Author.Needs.{needs}
 use Rattle.shapes.proofs.shape.is_shape.Statement.{statement}
 use Rattle.shapes.proofs.shape.is_shape.Tie as tie
 
-rows-in-range-requires : tie.Need-rows-in-range-requires
-rows-in-range-requires c κs = search needs
-
 returns : tie.Need-returns
 returns c = is-shape-by _ false _ _ (sym (c .before .rows-in-range .ensures) ∙ not-true _ (c .if1 .taken)) refl refl
-
-columns-in-range-requires : tie.Need-columns-in-range-requires
-columns-in-range-requires c κs = search needs
 
 returns-2 : tie.Need-returns-2
 returns-2 c =
@@ -43,9 +37,9 @@ pub is-shape-spec : {M : Type 1} → statement M
 is-shape-spec =
     tie.close
     (tie.spec
-    rows-in-range-requires
+    (λ c κs. search needs)
     returns
-    columns-in-range-requires
+    (λ c κs. search needs)
     returns-2
     checks-in-range-requires
     returns-3)

@@ -46,9 +46,6 @@ mul-wide c = let p = place c in omega arith
 element-copy-out-wide : tie.Need-element-copy-out-wide Inv-loop μ-loop
 element-copy-out-wide c = let p = place c in omega arith
 
-wide-requires : tie.Need-wide-requires Inv-loop μ-loop
-wide-requires c κs = search needs
-
 cast-from : tie.Need-cast-from Inv-loop μ-loop
 cast-from c = let p = place (c .before .before) in let w = c .wide .ensures in omega arith
 
@@ -73,20 +70,11 @@ part-all-below-start c = let p = place (c .before .before) in let w = c .wide .e
 part-all-below-end : tie.Need-part-all-below-end Inv-loop μ-loop
 part-all-below-end c = let p = place (c .before .before) in let w = c .wide .ensures in omega arith
 
-all-below-requires : tie.Need-all-below-requires Inv-loop μ-loop
-all-below-requires c κs = search needs
-
 returns : tie.Need-returns Inv-loop μ-loop
 unfolding dataBelow
 returns c =
     let inside = c .before .before .before .before .before in
     tested-out _ _ (inside .before .loop .h) (inside .loop-test .taken) (tested (c .before) ∙ not-true _ (c .if1 .taken))
-
-add-h : tie.Need-add-h Inv-loop μ-loop
-add-h c = omega arith
-
-loop-less : tie.Need-loop-less Inv-loop μ-loop
-loop-less c = omega arith
 
 loop-again : tie.Need-loop-again Inv-loop μ-loop
 loop-again c =
@@ -108,7 +96,7 @@ data-below-spec =
     mul-from
     mul-wide
     element-copy-out-wide
-    wide-requires
+    (λ c κs. search needs)
     cast-from
     add-from
     mul-to
@@ -117,9 +105,9 @@ data-below-spec =
     sub-all-below
     part-all-below-start
     part-all-below-end
-    all-below-requires
+    (λ c κs. search needs)
     returns
-    add-h
-    loop-less
+    (λ c. omega arith)
+    (λ c. omega arith)
     loop-again
     returns-2)

@@ -20,9 +20,6 @@ Inv-loop buffer₀ w short₀ buffer r short =
 abbrev μ-loop : tie.MeasureT-loop
 μ-loop buffer₀ w short₀ buffer r short = left (length buffer₀) r
 
-lacking-requires : tie.Need-lacking-requires Inv-loop μ-loop
-lacking-requires c κs = search needs
-
 loop-holds : tie.Need-loop-holds Inv-loop μ-loop
 loop-holds c =
     let start = c .before .before .before in
@@ -74,7 +71,7 @@ filled-spec =
     (tie.spec
     Inv-loop
     μ-loop
-    lacking-requires
+    (λ c κs. search needs)
     loop-holds
     refilled-requires
     lacking-requires-2

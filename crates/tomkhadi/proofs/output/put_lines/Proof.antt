@@ -37,35 +37,14 @@ within-of c =
 loop-holds : tie.Need-loop-holds Inv-loop μ-loop
 loop-holds c = (putting-none _ _ _ _ _ (c .before .before .before .pre .inside .ordered), refl, refl)
 
-sub-loop : tie.Need-sub-loop Inv-loop μ-loop
-sub-loop c = search needs
-
 sub-next-size : tie.Need-sub-next-size Inv-loop μ-loop
 sub-next-size c = c .before .loop .inv .0 .within
-
-part-next-size-start : tie.Need-part-next-size-start Inv-loop μ-loop
-part-next-size-start c = search needs
-
-part-next-size-end : tie.Need-part-next-size-end Inv-loop μ-loop
-part-next-size-end c = search needs
-
-next-size-requires : tie.Need-next-size-requires Inv-loop μ-loop
-next-size-requires c κs = search needs
 
 add-next : tie.Need-add-next Inv-loop μ-loop
 add-next c = let e = within-of c in search needs
 
-sub-line : tie.Need-sub-line Inv-loop μ-loop
-sub-line c = omega arith
-
-part-line-start : tie.Need-part-line-start Inv-loop μ-loop
-part-line-start c = search needs
-
 part-line-end : tie.Need-part-line-end Inv-loop μ-loop
 part-line-end c = let e = within-of c in search needs
-
-line-requires : tie.Need-line-requires Inv-loop μ-loop
-line-requires c κs = search needs
 
 loop-less : tie.Need-loop-less Inv-loop μ-loop
 loop-less c = let e = within-of (found-one c) in let n = found-one c .if1 .left in omega arith
@@ -115,16 +94,16 @@ put-lines-spec =
     Inv-loop
     μ-loop
     loop-holds
-    sub-loop
+    (λ c. search needs)
     sub-next-size
-    part-next-size-start
-    part-next-size-end
-    next-size-requires
+    (λ c. search needs)
+    (λ c. search needs)
+    (λ c κs. search needs)
     add-next
-    sub-line
-    part-line-start
+    (λ c. omega arith)
+    (λ c. search needs)
     part-line-end
-    line-requires
+    (λ c κs. search needs)
     loop-less
     loop-again
     same-length
