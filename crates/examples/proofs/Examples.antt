@@ -16,7 +16,7 @@ use Rattle.frame.specs.Shape.{shapeOf, rowsInRange, columnsInRange, checksInRan
 use Rattle.job.specs.Calls.{registerTests, step, late}
 use Rattle.job.specs.Job.{noColumns, phaseSound, headSound, countsEmpty}
 use Rattle.lists.specs.Tabulate.{tabulate, every, joined}
-use Rattle.register.specs.Algorithm4.{start, replaced, changed, turn, rounds, isAlone, found, foundAlone, step as stepAt}
+use Rattle.register.specs.Algorithm4.{start, withSaved, changed, turn, rounds, isAlone, found, foundAlone, step as stepAt}
 use Rattle.register.specs.Register.{discrepancy}
 use Rattle.register.specs.Sequences.{largest, placed, ordered, split}
 use Rattle.examples.specs.Enumeration.{residueLists, doesGenerate, kept, registers}
@@ -24,7 +24,7 @@ use Rattle.examples.specs.Examples.{lengthOf, computed, table, Examples}
 use Rattle.examples.specs.Literals.{marked, refusals, Literals}
 
 pub examples : Examples
-unfolding table computed lengthOf registers kept doesGenerate residueLists split ordered placed largest discrepancy stepAt start replaced changed turn
+unfolding table computed lengthOf registers kept doesGenerate residueLists split ordered placed largest discrepancy stepAt start withSaved changed turn
     rounds isAlone found foundAlone tabulate every joined noColumns phaseSound headSound countsEmpty step registerTests shapeOf rowsInRange
     columnsInRange checksInRange isShape shapeTests weight checkSum checkSums rowSums sequences heldSums heldSequences frameTests eachRow encoded
     dataBelow encodeTests without locatorPolynomial cleared completion completed tests answer tapsLeft total noDivisor isPrime isModulus shifted

@@ -14,7 +14,7 @@ use Rattle.frame.specs.Shape.{shapeOf, rowsInRange, columnsInRange, checksInRan
 use Rattle.job.specs.Calls.{registerTests, step}
 use Rattle.job.specs.Job.{noColumns, phaseSound, headSound, countsEmpty}
 use Rattle.lists.specs.Tabulate.{tabulate, every, joined}
-use Rattle.register.specs.Algorithm4.{start, replaced, changed, turn, rounds, isAlone, found, foundAlone}
+use Rattle.register.specs.Algorithm4.{start, withSaved, changed, turn, rounds, isAlone, found, foundAlone}
 use Rattle.register.specs.Algorithm4.{step as stepAt}
 use Rattle.register.specs.Register.{discrepancy}
 use Rattle.register.specs.Sequences.{largest, placed, ordered, split}
@@ -28,7 +28,7 @@ use Rattle.lines.specs.Lines.{startsWhole, wholesUpTo, restUpTo, wholesO
 pub examples : map written table ≡ table
 unfolding table startsWhole wholesUpTo restUpTo wholesOf restOf linesOfAll wholeLines linesOf fieldOf fieldsOf refusalLine registerLine columnsLine
     frameLine outputOf lineOf claimedBy isWhole countedOf bodyOf recordOf decimalUpTo decimal spaced line split ordered placed largest discrepancy
-    stepAt start replaced changed turn rounds isAlone found foundAlone tabulate every joined noColumns phaseSound headSound countsEmpty step
+    stepAt start withSaved changed turn rounds isAlone found foundAlone tabulate every joined noColumns phaseSound headSound countsEmpty step
     registerTests shapeOf rowsInRange columnsInRange checksInRange isShape shapeTests weight checkSum checkSums rowSums sequences heldSums heldSequences
     frameTests tests answer total noDivisor isPrime isModulus shifted reduced value sizeOf tapsOf aloneOf rowsReach named namedColumns namesAll count
     listed columnsOf has number
