@@ -23,12 +23,6 @@ abbrev μ-loop : tie.MeasureT-loop
 loop-holds : tie.Need-loop-holds Inv-loop μ-loop
 loop-holds c = (omega arith, each-none _ _)
 
-contains-requires : tie.Need-contains-requires Inv-loop μ-loop
-contains-requires c κs = search needs
-
-get-requires : tie.Need-get-requires Inv-loop μ-loop
-get-requires c κs = search needs
-
 marked-told : (set : Columns) (i : ℕ) (b : Bool) → b ≡ has set i → Tells b (marked (set .words) i ≡ 1)
 unfolding has
 marked-told set i b e = subst (λ (x : Bool). Tells x (marked (set .words) i ≡ 1)) (sym e) (eqb-told _ _ 1 refl)
@@ -36,12 +30,6 @@ marked-told set i b e = subst (λ (x : Bool). Tells x (marked (set .words) i ≡
 returns : tie.Need-returns Inv-loop μ-loop
 returns c = let at = c .before .before .before .before in each-fails _ _ _ (at .loop .i) (omega arith) (omega arith)
     (flags-differ _ _ (marked-told _ _ _ (c .before .before .contains .ensures)) (eqb-told _ _ 1 (c .before .get .ensures)) (c .if1 .taken))
-
-add-i : tie.Need-add-i Inv-loop μ-loop
-add-i c = search needs
-
-loop-less : tie.Need-loop-less Inv-loop μ-loop
-loop-less c = search needs
 
 loop-again : tie.Need-loop-again Inv-loop μ-loop
 loop-again c = let at = c .before .before .before .before in (
@@ -60,10 +48,10 @@ same-columns-spec =
     Inv-loop
     μ-loop
     loop-holds
-    contains-requires
-    get-requires
+    (λ c κs. search needs)
+    (λ c κs. search needs)
     returns
-    add-i
-    loop-less
+    (λ c. search needs)
+    (λ c. search needs)
     loop-again
     returns-2)

@@ -20,45 +20,6 @@ mixed-of c = c .before .before .before .before .before .before
 abbrev cut-of : tie.After-damage-columns → tie.After-part
 cut-of c = c .before .before .before .before .before
 
-slice-aggregate-number : tie.Need-slice-aggregate-number
-slice-aggregate-number c = search needs
-
-number-requires : tie.Need-number-requires
-number-requires c κs = search needs
-
-slice-aggregate-mix : tie.Need-slice-aggregate-mix
-slice-aggregate-mix c = search needs
-
-mix-requires : tie.Need-mix-requires
-mix-requires c κs = search needs
-
-draw-requires : tie.Need-draw-requires
-draw-requires c κs = search needs
-
-slice-aggregate-draw-factors : tie.Need-slice-aggregate-draw-factors
-slice-aggregate-draw-factors c = search needs
-
-draw-factors-requires : tie.Need-draw-factors-requires
-draw-factors-requires c κs = search needs
-
-slice-aggregate-part : tie.Need-slice-aggregate-part
-slice-aggregate-part c = search needs
-
-part-requires : tie.Need-part-requires
-part-requires c κs = search needs
-
-slice-aggregate-damage-columns : tie.Need-slice-aggregate-damage-columns
-slice-aggregate-damage-columns c = search needs
-
-at-most-eight-requires : tie.Need-at-most-eight-requires
-at-most-eight-requires c κs = search needs
-
-damage-columns-requires : tie.Need-damage-columns-requires
-damage-columns-requires c κs = search needs
-
-same-length : tie.Need-same-length
-same-length c = search needs
-
 returns : tie.Need-returns
 returns c =
     let damaged = c .before .before in
@@ -92,17 +53,17 @@ pub damage-spec : {M : Type 1} → statement M
 damage-spec =
     tie.close
     (tie.spec
-    slice-aggregate-number
-    number-requires
-    slice-aggregate-mix
-    mix-requires
-    draw-requires
-    slice-aggregate-draw-factors
-    draw-factors-requires
-    slice-aggregate-part
-    part-requires
-    slice-aggregate-damage-columns
-    at-most-eight-requires
-    damage-columns-requires
-    same-length
+    (λ c. search needs)
+    (λ c κs. search needs)
+    (λ c. search needs)
+    (λ c κs. search needs)
+    (λ c κs. search needs)
+    (λ c. search needs)
+    (λ c κs. search needs)
+    (λ c. search needs)
+    (λ c κs. search needs)
+    (λ c. search needs)
+    (λ c κs. search needs)
+    (λ c κs. search needs)
+    (λ c. search needs)
     returns)

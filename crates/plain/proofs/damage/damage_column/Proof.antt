@@ -22,41 +22,8 @@ error-of c = c .before .before .before .before .before
 abbrev product-of : tie.After-error Inv-loop μ-loop → tie.After-product Inv-loop μ-loop
 product-of c = c .before .before .before
 
-draw-from-requires : tie.Need-draw-from-requires Inv-loop μ-loop
-draw-from-requires c κs = search needs
-
 loop-holds : tie.Need-loop-holds Inv-loop μ-loop
 loop-holds c = (omega arith, struck-none _ _ _ _)
-
-product-requires : tie.Need-product-requires Inv-loop μ-loop
-product-requires c κs = search needs
-
-add-at : tie.Need-add-at Inv-loop μ-loop
-add-at c = search needs
-
-cast-get : tie.Need-cast-get Inv-loop μ-loop
-cast-get c = search needs
-
-get-requires : tie.Need-get-requires Inv-loop μ-loop
-get-requires c κs = search needs
-
-error-requires : tie.Need-error-requires Inv-loop μ-loop
-error-requires c κs = search needs
-
-get-requires-2 : tie.Need-get-requires-2 Inv-loop μ-loop
-get-requires-2 c κs = search needs
-
-plus-product-requires : tie.Need-plus-product-requires Inv-loop μ-loop
-plus-product-requires c κs = search needs
-
-put-requires : tie.Need-put-requires Inv-loop μ-loop
-put-requires c κs = search needs
-
-add-h : tie.Need-add-h Inv-loop μ-loop
-add-h c = search needs
-
-loop-less : tie.Need-loop-less Inv-loop μ-loop
-loop-less c = search needs
 
 loop-again : tie.Need-loop-again Inv-loop μ-loop
 loop-again c =
@@ -70,9 +37,6 @@ loop-again c =
     let some = error-nonzero _ _ _ (error .before .get .ensures) (error .error .ensures) (drawn-nonzero _ (at .before .draw-from .ensures .1)) in
     (omega arith, struck-more _ (at .loop .inv .1) place some (sum .before .get2 .ensures) (sum .plus-product .ensures) (put .put .ensures))
 
-same-length : tie.Need-same-length Inv-loop μ-loop
-same-length c = search needs
-
 returns : tie.Need-returns Inv-loop μ-loop
 returns c = struck-all _ _ _ _ (c .before .loop .inv .1) (c .before .loop .inv .0) (omega arith)
 
@@ -82,18 +46,18 @@ damage-column-spec =
     (tie.spec
     Inv-loop
     μ-loop
-    draw-from-requires
+    (λ c κs. search needs)
     loop-holds
-    product-requires
-    add-at
-    cast-get
-    get-requires
-    error-requires
-    get-requires-2
-    plus-product-requires
-    put-requires
-    add-h
-    loop-less
+    (λ c κs. search needs)
+    (λ c. search needs)
+    (λ c. search needs)
+    (λ c κs. search needs)
+    (λ c κs. search needs)
+    (λ c κs. search needs)
+    (λ c κs. search needs)
+    (λ c κs. search needs)
+    (λ c. search needs)
+    (λ c. search needs)
     loop-again
-    same-length
+    (λ c. search needs)
     returns)

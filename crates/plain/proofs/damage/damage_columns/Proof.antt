@@ -22,27 +22,12 @@ read-of c = c .before .before .before
 loop-holds : tie.Need-loop-holds Inv-loop μ-loop
 loop-holds c = (omega arith, refl, damaged-none _ _ _ _ _)
 
-get-requires : tie.Need-get-requires Inv-loop μ-loop
-get-requires c κs = search needs
-
-damage-column-requires : tie.Need-damage-column-requires Inv-loop μ-loop
-damage-column-requires c κs = search needs
-
-add-k : tie.Need-add-k Inv-loop μ-loop
-add-k c = search needs
-
-loop-less : tie.Need-loop-less Inv-loop μ-loop
-loop-less c = search needs
-
 loop-again : tie.Need-loop-again Inv-loop μ-loop
 loop-again c =
     let struck = c .before .before in
     let read = read-of struck in
     let at = read .before .before in
     (omega arith, refl, damaged-more _ _ _ _ _ _ (at .loop .inv .2) (read .get .ensures) (struck .damage-column .ensures))
-
-same-length : tie.Need-same-length Inv-loop μ-loop
-same-length c = search needs
 
 returns : tie.Need-returns Inv-loop μ-loop
 returns c = damaged-all _ _ _ _ _ _ (c .before .loop .inv .2) (omega arith) (omega arith)
@@ -54,10 +39,10 @@ damage-columns-spec =
     Inv-loop
     μ-loop
     loop-holds
-    get-requires
-    damage-column-requires
-    add-k
-    loop-less
+    (λ c κs. search needs)
+    (λ c κs. search needs)
+    (λ c. search needs)
+    (λ c. search needs)
     loop-again
-    same-length
+    (λ c. search needs)
     returns)

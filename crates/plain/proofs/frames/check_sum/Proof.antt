@@ -17,26 +17,8 @@ Inv-loop row j step weight₀ sum₀ i₀ i-end weight sum i =
 abbrev μ-loop : tie.MeasureT-loop
 μ-loop row j step weight₀ sum₀ i₀ i-end weight sum i = i-end - i
 
-power-requires : tie.Need-power-requires Inv-loop μ-loop
-power-requires c κs = search needs
-
 loop-holds : tie.Need-loop-holds Inv-loop μ-loop
 loop-holds c = (omega arith, refl, weight-none 3 (c .before .before .args .j), weighed-none _)
-
-get-requires : tie.Need-get-requires Inv-loop μ-loop
-get-requires c κs = search needs
-
-plus-product-requires : tie.Need-plus-product-requires Inv-loop μ-loop
-plus-product-requires c κs = search needs
-
-times-requires : tie.Need-times-requires Inv-loop μ-loop
-times-requires c κs = search needs
-
-add-i : tie.Need-add-i Inv-loop μ-loop
-add-i c = search needs
-
-loop-less : tie.Need-loop-less Inv-loop μ-loop
-loop-less c = search needs
 
 loop-again : tie.Need-loop-again Inv-loop μ-loop
 loop-again c =
@@ -67,12 +49,12 @@ check-sum-spec =
     (tie.spec
     Inv-loop
     μ-loop
-    power-requires
+    (λ c κs. search needs)
     loop-holds
-    get-requires
-    plus-product-requires
-    times-requires
-    add-i
-    loop-less
+    (λ c κs. search needs)
+    (λ c κs. search needs)
+    (λ c κs. search needs)
+    (λ c. search needs)
+    (λ c. search needs)
     loop-again
     returns)

@@ -24,24 +24,6 @@ loop-of c = c .before .before .before .before
 loop-holds : tie.Need-loop-holds Inv-loop μ-loop
 loop-holds c = (omega arith, refl, summed-none _ _ _ _)
 
-start-requires : tie.Need-start-requires Inv-loop μ-loop
-start-requires c κs = search needs
-
-row-requires : tie.Need-row-requires Inv-loop μ-loop
-row-requires c κs = search needs
-
-get-requires : tie.Need-get-requires Inv-loop μ-loop
-get-requires c κs = search needs
-
-row-sums-requires : tie.Need-row-sums-requires Inv-loop μ-loop
-row-sums-requires c κs = search needs
-
-add-h : tie.Need-add-h Inv-loop μ-loop
-add-h c = search needs
-
-loop-less : tie.Need-loop-less Inv-loop μ-loop
-loop-less c = search needs
-
 loop-again : tie.Need-loop-again Inv-loop μ-loop
 loop-again c =
     let at = loop-of (got-of (c .before .before)) in (
@@ -66,9 +48,6 @@ loop-again c =
           (omega arith),
     )
 
-same-length : tie.Need-same-length Inv-loop μ-loop
-same-length c = search needs
-
 returns : tie.Need-returns Inv-loop μ-loop
 returns c = summed-all _ _ _ _ _ _ _ (c .before .loop .inv .2) (omega arith) (omega arith)
 
@@ -79,12 +58,12 @@ check-sums-spec =
     Inv-loop
     μ-loop
     loop-holds
-    start-requires
-    row-requires
-    get-requires
-    row-sums-requires
-    add-h
-    loop-less
+    (λ c κs. search needs)
+    (λ c κs. search needs)
+    (λ c κs. search needs)
+    (λ c κs. search needs)
+    (λ c. search needs)
+    (λ c. search needs)
     loop-again
-    same-length
+    (λ c. search needs)
     returns)

@@ -18,24 +18,6 @@ abbrev μ-loop : tie.MeasureT-loop
 loop-holds : tie.Need-loop-holds Inv-loop μ-loop
 loop-holds c = (omega arith, wrote-all _ _ _ (wrote-none _ _ _) (omega arith) (omega arith))
 
-cast-i : tie.Need-cast-i Inv-loop μ-loop
-cast-i c = search needs
-
-add-check-sum : tie.Need-add-check-sum Inv-loop μ-loop
-add-check-sum c = search needs
-
-check-sum-requires : tie.Need-check-sum-requires Inv-loop μ-loop
-check-sum-requires c κs = search needs
-
-put-at-requires : tie.Need-put-at-requires Inv-loop μ-loop
-put-at-requires c κs = search needs
-
-add-j : tie.Need-add-j Inv-loop μ-loop
-add-j c = search needs
-
-loop-less : tie.Need-loop-less Inv-loop μ-loop
-loop-less c = search needs
-
 loop-again : tie.Need-loop-again Inv-loop μ-loop
 loop-again c =
     let at = c .before .before .before .before .before .before in
@@ -59,9 +41,6 @@ loop-again c =
           (omega arith),
     )
 
-same-length : tie.Need-same-length Inv-loop μ-loop
-same-length c = search needs
-
 returns : tie.Need-returns Inv-loop μ-loop
 returns c = wrote-all _ _ _ (c .before .loop .inv .1) (omega arith) (omega arith)
 
@@ -72,12 +51,12 @@ row-sums-spec =
     Inv-loop
     μ-loop
     loop-holds
-    cast-i
-    add-check-sum
-    check-sum-requires
-    put-at-requires
-    add-j
-    loop-less
+    (λ c. search needs)
+    (λ c. search needs)
+    (λ c κs. search needs)
+    (λ c κs. search needs)
+    (λ c. search needs)
+    (λ c. search needs)
     loop-again
-    same-length
+    (λ c. search needs)
     returns)

@@ -22,18 +22,6 @@ loop-of c = c .before .before .before .before
 loop-holds : tie.Need-loop-holds Inv-loop μ-loop
 loop-holds c = (omega arith, later-zero _, wrote-none _ 0 _)
 
-draw-from-requires : tie.Need-draw-from-requires Inv-loop μ-loop
-draw-from-requires c κs = search needs
-
-put-requires : tie.Need-put-requires Inv-loop μ-loop
-put-requires c κs = search needs
-
-add-i : tie.Need-add-i Inv-loop μ-loop
-add-i c = search needs
-
-loop-less : tie.Need-loop-less Inv-loop μ-loop
-loop-less c = search needs
-
 loop-again : tie.Need-loop-again Inv-loop μ-loop
 loop-again c =
     let drawn = c .before .before .before in
@@ -51,9 +39,6 @@ loop-again c =
           (drawn-more _ _ (args .least) (args .p) (at .loop .inv .1) (drawn .draw-from .ensures .1)),
     )
 
-same-length : tie.Need-same-length Inv-loop μ-loop
-same-length c = search needs
-
 returns : tie.Need-returns Inv-loop μ-loop
 returns c =
     let args = c .before .before .before .args in
@@ -69,10 +54,10 @@ fill-from-spec =
     Inv-loop
     μ-loop
     loop-holds
-    draw-from-requires
-    put-requires
-    add-i
-    loop-less
+    (λ c κs. search needs)
+    (λ c κs. search needs)
+    (λ c. search needs)
+    (λ c. search needs)
     loop-again
-    same-length
+    (λ c. search needs)
     returns)

@@ -10,27 +10,6 @@ use borrow.Author.Needs.{needs}
 use Rattle.plain.proofs.tally.count.Statement.{statement}
 use Rattle.plain.proofs.tally.count.Tie as tie
 
-mul-wrapping-add-u64 : tie.Need-mul-wrapping-add-u64
-mul-wrapping-add-u64 c = search needs
-
-slice-read-wrapping-add-u64 : tie.Need-slice-read-wrapping-add-u64
-slice-read-wrapping-add-u64 c = search needs
-
-cast-wrapping-add-u64 : tie.Need-cast-wrapping-add-u64
-cast-wrapping-add-u64 c = search needs
-
-wrapping-add-u64-requires : tie.Need-wrapping-add-u64-requires
-wrapping-add-u64-requires c κs = search needs
-
-mul-counts : tie.Need-mul-counts
-mul-counts c = search needs
-
-slice-write-counts : tie.Need-slice-write-counts
-slice-write-counts c = search needs
-
-same-length : tie.Need-same-length
-same-length c = search needs
-
 byte-of : (b : Bool) → boolByte b ≡ cond b 1 0
 byte-of true = refl
 byte-of false = refl
@@ -48,12 +27,12 @@ pub count-spec : {M : Type 1} → statement M
 count-spec =
     tie.close
     (tie.spec
-    mul-wrapping-add-u64
-    slice-read-wrapping-add-u64
-    cast-wrapping-add-u64
-    wrapping-add-u64-requires
-    mul-counts
-    slice-write-counts
-    same-length
+    (λ c. search needs)
+    (λ c. search needs)
+    (λ c. search needs)
+    (λ c κs. search needs)
+    (λ c. search needs)
+    (λ c. search needs)
+    (λ c. search needs)
     returns
     returns-2)

@@ -9,24 +9,6 @@ use Rattle.plain.proofs.values.cross.Tie as tie
 returns : tie.Need-returns
 returns c = let z = c .if1 .taken in (rw z (rem-zero _ ∙ sym (rem-zero _)), rw z (sym (rem-zero _)))
 
-product-requires : tie.Need-product-requires
-product-requires c κs = search needs
-
-mul-remainder : tie.Need-mul-remainder
-mul-remainder c = search needs
-
-add-remainder : tie.Need-add-remainder
-add-remainder c = search needs
-
-product-requires-2 : tie.Need-product-requires-2
-product-requires-2 c κs = search needs
-
-sub-remainder : tie.Need-sub-remainder
-sub-remainder c = search needs
-
-remainder-requires : tie.Need-remainder-requires
-remainder-requires c κs = search needs
-
 returns-2 : tie.Need-returns-2
 returns-2 c =
     let args = c .before .before .before .before .args in
@@ -50,10 +32,10 @@ cross-spec =
     tie.close
     (tie.spec
     returns
-    product-requires
-    mul-remainder
-    add-remainder
-    product-requires-2
-    sub-remainder
-    remainder-requires
+    (λ c κs. search needs)
+    (λ c. search needs)
+    (λ c. search needs)
+    (λ c κs. search needs)
+    (λ c. search needs)
+    (λ c κs. search needs)
     returns-2)
