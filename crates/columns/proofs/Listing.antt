@@ -95,7 +95,7 @@ unfolding count
 count-all zero P h = refl
 count-all (suc n) P h = count-pass n P (h n (omega arith)) ∙ ap suc (count-all n P (λ k l. h k (omega arith)))
 
-pub count-mono : (a b : ℕ) (P : ℕ → Bool) → a ≤ b → count a P ≤ count b P
+count-mono : (a b : ℕ) (P : ℕ → Bool) → a ≤ b → count a P ≤ count b P
 count-mono a b P h =
     let d = le-dest h in
     let e : count b P ≡ count a P + count (d .0) (λ k. P (a + k)) = ap (λ (k : ℕ). count k P) (sym (d .1)) ∙ count-split a (d .0) P in

@@ -108,7 +108,7 @@ module _ (s : Shape) (shape : isShape s ≡ true) (f : List ℕ) where
         omega (arith, within-le n (differs s e f) (named s σ) differs-named)
 
     -- it differs from f in all columns that are named, and in no other
-    pub completes-differs : (i : ℕ) → i < n → differs s e f i ≡ named s σ i
+    completes-differs : (i : ℕ) → i < n → differs s e f i ≡ named s σ i
     unfolding distance
     completes-differs = within-same n (differs s e f) (named s σ) differs-named (completes-distance ∙ sym all)
 

@@ -44,7 +44,7 @@ scale-nonzero i =
     mul-nonzero F257 _ _ (power-nonzero F257 (locatorAt i) (locator-nonzero i) firstExponent) (inv-nonzero F257 (locatorAt i) (locator-nonzero i))
 
 -- the symbol of row h at column i, scaled
-pub word : (n : ℕ) (f : List ℕ) (h i : ℕ) → car
+word : (n : ℕ) (f : List ℕ) (h i : ℕ) → car
 word n f h i = res257 (cell n f h i) ⊗ scale i
 
 pub sums : (n : ℕ) (f : List ℕ) (h : ℕ) → ℕ → car
@@ -105,14 +105,14 @@ module _ (s : Shape) (f : List ℕ) (h : ℕ) (below : h < s .rows) where
   abbrev n : ℕ
   n = s .columns
 
-  pub sequence-at : getD (sequences s f) h [] ≡ rowSums s f h
+  sequence-at : getD (sequences s f) h [] ≡ rowSums s f h
   unfolding sequences
   sequence-at = getD-tabulate (s .rows) (rowSums s f) h [] below
 
   pub sequence-length : length (getD (sequences s f) h []) ≡ checksOf s h
   sequence-length = ap length sequence-at ∙ length-rowSums s f h
 
-  pub sequence-symbol : (j : ℕ) → 1 ≤ j → j ≤ checksOf s h → symbol (getD (sequences s f) h []) j ≡ checkSum n (row n f h) j
+  sequence-symbol : (j : ℕ) → 1 ≤ j → j ≤ checksOf s h → symbol (getD (sequences s f) h []) j ≡ checkSum n (row n f h) j
   unfolding rowSums checkSums
   sequence-symbol j one within =
       ap (λ x. symbol x j) sequence-at

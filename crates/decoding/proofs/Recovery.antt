@@ -35,7 +35,7 @@ pub record Recovers (s : Shape) (g f : List ℕ) : Type 0 where
   pub frame : repaired s (namedColumns s (tapsOf (sequences s f))) f ≡ g
 
 -- where every row has twice as many checks as columns are damaged, the rows show the damage
-pub all-rows : (s : Shape) (g f : List ℕ) → ((h : ℕ) → h < s .rows → 2 * distance s g f ≤ checksOf s h) → Shown s g f (λ h. h < s .rows)
+all-rows : (s : Shape) (g f : List ℕ) → ((h : ℕ) → h < s .rows → 2 * distance s g f ≤ checksOf s h) → Shown s g f (λ h. h < s .rows)
 all-rows s g f twice =
     record {
       reach = λ h below. (let t = twice h below in omega arith);
@@ -74,7 +74,7 @@ module _ (s : Shape) (shape : isShape s ≡ true) (g f : List ℕ) (legal : Lega
   unfolding rowsReach
   reaches = every-of (s .rows) _ (λ h below. le-leb c (checksOf s h) (let q = size-w in omega (arith, shown .reach h below)))
 
-  pub recovers : Recovers s g f
+  recovers : Recovers s g f
   recovers =
       record {
         size = size-w;

@@ -62,7 +62,7 @@ module _ (l : ℕ) (τ : List ℕ) (register : Register 257 l τ) where
     pub generates-products : Generates 257 l τ x → Vanish l (length x) (poly257 τ) S
     generates-products g j after within = sym (res-discrepancy j after within) ∙ ap res257 (g j after within) ∙ res-zero 257 prime-257
 
-    pub products-generate : Vanish l (length x) (poly257 τ) S → Generates 257 l τ x
+    products-generate : Vanish l (length x) (poly257 τ) S → Generates 257 l τ x
     products-generate zeros j after within =
         res-tells-zero _ (discrepancy-less 257 l τ x j (omega arith)) (res-discrepancy j after within ∙ zeros j after within)
 

@@ -69,7 +69,7 @@ module _ (p a b : ℕ) where
     abbrev front : List ℕ
     front = midOf 0 n f
 
-    pub length-front : length front ≡ n
+    length-front : length front ≡ n
     length-front = length-take-le n f room
 
     front-entry : (k : ℕ) → k < n → getD front k 0 ≡ getD f k 0

@@ -19,7 +19,7 @@ pub length-rowSums : (s : Shape) (f : List ℕ) (h : ℕ) → length (rowSums s 
 unfolding rowSums checkSums
 length-rowSums s f h = length-tabulate (checksOf s h) _
 
-pub rowSums-below : (s : Shape) (f : List ℕ) (h i : ℕ) → getD (rowSums s f h) i 0 < 257
+rowSums-below : (s : Shape) (f : List ℕ) (h i : ℕ) → getD (rowSums s f h) i 0 < 257
 unfolding rowSums checkSums checkSum
 rowSums-below s f h i = tabulate-each (λ x. x < 257) 0 (omega arith) (checksOf s h) _ (λ j. mod-lt _ (omega arith)) i
 

@@ -15,7 +15,7 @@ use Rattle.job.proofs.AfterRefusal.{gives-no-refusal}
 use Rattle.job.proofs.Cases.{by-call, step-gives}
 use Rattle.job.proofs.Left.{shape-given}
 
-pub taken-shape : (j : Job) (n : ℕ) (checks : List ℕ) → Taken (step j (shape n checks)) → Pass (shapeTests n checks)
+taken-shape : (j : Job) (n : ℕ) (checks : List ℕ) → Taken (step j (shape n checks)) → Pass (shapeTests n checks)
 taken-shape j n checks =
     by-call j (shape n checks) (λ o. Taken o → Pass (shapeTests n checks)) (λ k a taken. absurd (taken (k, refl))) (λ k p a. absurd a) (λ p q taken. p)
 

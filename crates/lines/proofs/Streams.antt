@@ -56,7 +56,7 @@ ends-inside r e = pick (decLt (length r) 2)
     pick (yes l) = inl l
     pick (no l) = inr (omega (arith, short, claimed-said r (omega arith)))
 
-pub ends-short : (r : List ℕ) → EndsInside r → length r < 2 + claimedBy r
+ends-short : (r : List ℕ) → EndsInside r → length r < 2 + claimedBy r
 ends-short r (inl l) = omega arith
 ends-short r (inr l) = pick (decLt (length r) 2)
   where
@@ -122,22 +122,22 @@ cut-up-to (suc k) x h = pick (startsWhole x) refl (cut-up-to k (drop (2 + claime
     pick true e c = more-cut x e W R c
     pick false e c = none-cut x e
 
-pub cut : (x : List ℕ) → Cut x (wholesOf x) (restOf x)
+cut : (x : List ℕ) → Cut x (wholesOf x) (restOf x)
 unfolding wholesOf restOf
 cut x = cut-up-to (length x) x (le-refl (length x))
 
-pub only : (x : List ℕ) (ws : List (List ℕ)) (r : List ℕ) → Cut x ws r → (ws ≡ wholesOf x) × (r ≡ restOf x)
+only : (x : List ℕ) (ws : List (List ℕ)) (r : List ℕ) → Cut x ws r → (ws ≡ wholesOf x) × (r ≡ restOf x)
 only x ws r c =
     let d = cut x in
     same-cut ws (wholesOf x) r (restOf x) (c .wholes) (d .wholes) (c .rest) (d .rest) (c .parts ∙ sym (d .parts))
 
 -- ---- lines one after the other
 
-pub lines-more : (w : List ℕ) (ws : List (List ℕ)) → linesOfAll (w ∷ ws) ≡ lineOf w ++ linesOfAll ws
+lines-more : (w : List ℕ) (ws : List (List ℕ)) → linesOfAll (w ∷ ws) ≡ lineOf w ++ linesOfAll ws
 unfolding linesOfAll joined
 lines-more w ws = refl
 
-pub lines-none : linesOfAll [] ≡ []
+lines-none : linesOfAll [] ≡ []
 unfolding linesOfAll joined
 lines-none = refl
 
@@ -201,7 +201,7 @@ module _ (x y : List ℕ) where
       ap₂ (λ (t u : List ℕ). t ++ lastLine u) pieces rest-of-pieces ∙
       append-assoc (wholeLines x) (wholeLines (restOf x ++ y)) (lastLine (restOf (restOf x ++ y)))
 
-pub all-after : (x : List ℕ) (ps : List (List ℕ)) → writtenAfter x ps ≡ linesOf (x ++ joined ps)
+all-after : (x : List ℕ) (ps : List (List ℕ)) → writtenAfter x ps ≡ linesOf (x ++ joined ps)
 unfolding writtenAfter joined
 all-after x [] = ap linesOf (sym (append-nil x))
 all-after x (p ∷ ps) =
@@ -228,7 +228,7 @@ pub ended : (x : List ℕ) → restOf x ≡ [] → linesOf x ≡ wholeLines x
 unfolding linesOf
 ended x e = ap (λ (r : List ℕ). wholeLines x ++ lastLine r) e ∙ append-nil (wholeLines x)
 
-pub ended-inside : (x : List ℕ) → (restOf x ≡ [] → ⊥) → linesOf x ≡ wholeLines x ++ refusalLine 9
+ended-inside : (x : List ℕ) → (restOf x ≡ [] → ⊥) → linesOf x ≡ wholeLines x ++ refusalLine 9
 unfolding linesOf
 ended-inside x n = pick (restOf x) n
   where

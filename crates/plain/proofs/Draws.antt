@@ -11,7 +11,7 @@ pub later-zero : (s : ℕ) → s ≡ later 0 s
 unfolding later
 later-zero s = refl
 
-pub later-suc : (n s : ℕ) → later (suc n) s ≡ advanced (later n s)
+later-suc : (n s : ℕ) → later (suc n) s ≡ advanced (later n s)
 unfolding later
 later-suc n s = refl
 

@@ -51,7 +51,7 @@ rem-add-mul a b c (suc p) =
     ∙ add-mod-mod a (b * c) (suc p)
 
 -- x stands for the sum of y and a multiple of p, less z
-pub rem-difference : (p m y z r : ℕ) → 0 < p → z ≤ m * p → r ≡ rem (y + m * p - z) p → rem (r + z) p ≡ rem y p
+rem-difference : (p m y z r : ℕ) → 0 < p → z ≤ m * p → r ≡ rem (y + m * p - z) p → rem (r + z) p ≡ rem y p
 rem-difference p m y z r h le e =
     ap (λ (q : ℕ). rem (q + z) p) e ∙ rem-add (y + m * p - z) z p
     ∙ ap (λ (q : ℕ). rem q p) (let s : y + m * p - z + z ≡ y + m * p = omega arith in s)

@@ -18,7 +18,7 @@ wrote-none l a f = record {
 }
 
 module _ (old new : List ℕ) (a b : ℕ) (f : ℕ → ℕ) (w : Wrote old new a b f) (low : a ≤ b) where
-  pub wrote-more : (v : ℕ) → v ≡ f b → Wrote old (set new b v) a (b + 1) f
+  wrote-more : (v : ℕ) → v ≡ f b → Wrote old (set new b v) a (b + 1) f
   wrote-more v e = record {
     size = length-set new b v ∙ w .size;
     within = λ k l h less. at k l h less (ℕ-discrete k b);

@@ -14,7 +14,7 @@ module _ (bytes : List ℕ) where
   unfolding fieldsOf
   length-fields = length-tabulate (length bytes / 2) (fieldOf bytes)
 
-  pub field-of : (k : ℕ) → k < length bytes / 2 → getD (fieldsOf bytes) k 0 ≡ fieldOf bytes k
+  field-of : (k : ℕ) → k < length bytes / 2 → getD (fieldsOf bytes) k 0 ≡ fieldOf bytes k
   unfolding fieldsOf
   field-of k h = getD-tabulate (length bytes / 2) (fieldOf bytes) k 0 h
 

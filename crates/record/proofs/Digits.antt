@@ -71,7 +71,7 @@ spaced-append (x ∷ xs) ys =
     ap (λ (t : List ℕ). 32 ∷ t) (sym (append-assoc (decimal x) (spaced xs) (spaced ys)))
 
 -- six bytes are enough for each number of 16 bits
-pub spaced-length : (xs : List ℕ) → ((i : ℕ) → getD xs i 0 < 2 ^ 16) → length (spaced xs) ≤ 6 * length xs
+spaced-length : (xs : List ℕ) → ((i : ℕ) → getD xs i 0 < 2 ^ 16) → length (spaced xs) ≤ 6 * length xs
 unfolding spaced
 spaced-length [] h = omega arith
 spaced-length (x ∷ xs) h =

@@ -34,7 +34,7 @@ module _ (l : List ℕ) (at : ℕ) where
     pub before-end : take e m ≡ take at l ++ s
     before-end = ap (take e) split ∙ take-at (take at l ++ s) (drop e l) e head-length
 
-    pub after-end : drop e m ≡ drop e l
+    after-end : drop e m ≡ drop e l
     after-end = ap (drop e) split ∙ drop-at (take at l ++ s) (drop e l) e head-length
 
     pub same-length : length m ≡ length l

@@ -33,12 +33,12 @@ unfolding discrepancy
 discrepancy-less p l σ s j pos = mod-lt (total (suc l) (λ i. getD σ i 0 * symbol s (j - i))) pos
 
 -- what holds of what is put in and of what was there holds of all that is kept
-pub replaced-all : (P : Saved → Type 0) (saved : ℕ → Saved) (h : ℕ) (v : Saved) (g : ℕ) → P v → P (saved g) → P (withSaved saved h v g)
+with-saved-all : (P : Saved → Type 0) (saved : ℕ → Saved) (h : ℕ) (v : Saved) (g : ℕ) → P v → P (saved g) → P (withSaved saved h v g)
 unfolding withSaved
-replaced-all P saved h v g new old = cond-cases P (eqb g h) v (saved g) (λ _. new) (λ _. old)
+with-saved-all P saved h v g new old = cond-cases P (eqb g h) v (saved g) (λ _. new) (λ _. old)
 
 module _ (p N : ℕ) (ss : List (List ℕ)) (two : 2 ≤ p) where
-  pub bounded-start : Bounded p N ss 0 (start N ss)
+  bounded-start : Bounded p N ss 0 (start N ss)
   unfolding start
   bounded-start =
       record {
@@ -70,9 +70,9 @@ module _ (p N : ℕ) (ss : List (List ℕ)) (two : 2 ≤ p) where
           size = omega (arith, b .saved-size h);
           taps = length-reduced p _ (st .taps) _ _ _;
           residues = reduced-residues p _ (st .taps) _ _ _ (omega arith);
-          saved-size = λ g. replaced-all (λ w. w .size ≤ w .place) (st .saved) h v g (b .size) (b .saved-size g);
-          place = λ g. replaced-all (λ w. w .place ≤ max n (N - length (getD ss g []))) (st .saved) h v g (omega arith) (b .place g);
-          saved-taps = λ g. replaced-all (λ w. length (w .taps) ≡ suc (w .size)) (st .saved) h v g (b .taps) (b .saved-taps g);
+          saved-size = λ g. with-saved-all (λ w. w .size ≤ w .place) (st .saved) h v g (b .size) (b .saved-size g);
+          place = λ g. with-saved-all (λ w. w .place ≤ max n (N - length (getD ss g []))) (st .saved) h v g (omega arith) (b .place g);
+          saved-taps = λ g. with-saved-all (λ w. length (w .taps) ≡ suc (w .size)) (st .saved) h v g (b .taps) (b .saved-taps g);
         }
 
     bounded-stayed : (d : ℕ) → Bounded p N ss n (stayed p n h d st)
@@ -86,7 +86,7 @@ module _ (p N : ℕ) (ss : List (List ℕ)) (two : 2 ≤ p) where
           saved-taps = b .saved-taps;
         }
 
-    pub bounded-step : (s : List ℕ) → Bounded p N ss n (step p N s n h st)
+    bounded-step : (s : List ℕ) → Bounded p N ss n (step p N s n h st)
     bounded-step s =
         let d : ℕ = discrepancy p (st .size) (st .taps) s (n + length s - N) in
         step-cases p N s n h st (Bounded p N ss n) (λ _. b) (λ _ _. b)

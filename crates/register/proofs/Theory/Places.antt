@@ -7,10 +7,10 @@ use native.Mathlib.Omega.{arith}
 
 module _ (t : ℕ) where
   -- all places of a position come before those of a later one
-  pub later-position : {m n : ℕ} → m < n → m * t + t ≤ n * t
+  later-position : {m n : ℕ} → m < n → m * t + t ≤ n * t
   later-position {m} {n} h = omega (arith, mul-le-mul-right t h, suc-mul m t)
 
-  pub position-le : (m n g h : ℕ) → h < t → m * t + g ≤ n * t + h → m ≤ n
+  position-le : (m n g h : ℕ) → h < t → m * t + g ≤ n * t + h → m ≤ n
   position-le m n g h l e = go (decLe m n)
     where
       go : Dec (m ≤ n) → m ≤ n

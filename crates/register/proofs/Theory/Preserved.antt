@@ -86,7 +86,7 @@ module _ (F : Field) (Q : Sequences (F .ring .car)) where
             let enough : n + v .size ≤ v .place + l = ltb-false (v .place + l) (n + v .size) e in
             stays st σ' s I (now l (omega arith) (omega arith))
 
-    pub step-keeps : Invariant F Q (step F Q n h st) (suc s)
+    step-keeps : Invariant F Q (step F Q n h st) (suc s)
     unfolding step
     step-keeps = asks (ltb (l + lag h) n) refl
       where
@@ -109,7 +109,7 @@ module _ (F : Field) (Q : Sequences (F .ring .car)) where
             let q : n ≤ l + lag h = ltb-false (l + lag h) n e in
             idle (λ r. absurd (let z : ⊥ = omega arith in z))
 
-  pub start-keeps : Invariant F Q (start F Q) (1 * t + 0)
+  start-keeps : Invariant F Q (start F Q) (1 * t + 0)
   unfolding start unit
   start-keeps =
       record {
@@ -144,7 +144,7 @@ module _ (F : Field) (Q : Sequences (F .ring .car)) where
       none L q = absurd (let z : ⊥ = omega arith in z)
 
   -- after h steps of round n
-  pub turn-keeps : (n h : ℕ) (st : State car) → h ≤ t → Invariant F Q st (n * t + 0) → Invariant F Q (turn F Q n h st) (n * t + h)
+  turn-keeps : (n h : ℕ) (st : State car) → h ≤ t → Invariant F Q st (n * t + 0) → Invariant F Q (turn F Q n h st) (n * t + h)
   unfolding turn
   turn-keeps n zero st q I = I
   turn-keeps n (suc h) st q I =
