@@ -17,22 +17,22 @@ use Rattle.brute.specs.Equations.{Echelon, LeadsRow, Numbers, Solves, So
 use Rattle.plain.specs.Plain.{Each, rem}
 
 -- t with v for unknown m
-abbrev replaced : (t : ℕ → ℕ) (m v : ℕ) → ℕ → ℕ
-replaced t m v k = cond (eqb k m) v (t k)
+abbrev changedAt : (t : ℕ → ℕ) (m v : ℕ) → ℕ → ℕ
+changedAt t m v k = cond (eqb k m) v (t k)
 
 module _ (t : ℕ → ℕ) (m v : ℕ) where
-  replaced-at : (k : ℕ) → k ≡ m → replaced t m v k ≡ v
-  replaced-at k e = ap (λ (b : Bool). cond b v (t k)) (eq-eqb k m e)
+  changed-at : (k : ℕ) → k ≡ m → changedAt t m v k ≡ v
+  changed-at k e = ap (λ (b : Bool). cond b v (t k)) (eq-eqb k m e)
 
-  replaced-elsewhere : (k : ℕ) → (k ≡ m → ⊥) → replaced t m v k ≡ t k
-  replaced-elsewhere k n = ap (λ (b : Bool). cond b v (t k)) (ne-eqb k m n)
+  changed-elsewhere : (k : ℕ) → (k ≡ m → ⊥) → changedAt t m v k ≡ t k
+  changed-elsewhere k n = ap (λ (b : Bool). cond b v (t k)) (ne-eqb k m n)
 
-  numbers-replaced : {p : ℕ} → Numbers p t → 1 ≤ m → v < p → Numbers p (replaced t m v)
-  numbers-replaced {p} w low small = record {
-    one = replaced-elsewhere 0 (λ e. let z : ⊥ = omega arith in z) ∙ w .one;
+  numbers-changed : {p : ℕ} → Numbers p t → 1 ≤ m → v < p → Numbers p (changedAt t m v)
+  numbers-changed {p} w low small = record {
+    one = changed-elsewhere 0 (λ e. let z : ⊥ = omega arith in z) ∙ w .one;
     below = λ k. elim (ℕ-discrete k m) [
-      | yes e ↦ subst (λ (x : ℕ). x < p) (sym (replaced-at k e)) small
-      | no e ↦ subst (λ (x : ℕ). x < p) (sym (replaced-elsewhere k e)) (w .below k)
+      | yes e ↦ subst (λ (x : ℕ). x < p) (sym (changed-at k e)) small
+      | no e ↦ subst (λ (x : ℕ). x < p) (sym (changed-elsewhere k e)) (w .below k)
     ];
   }
 
@@ -56,41 +56,41 @@ module _ (p n : ℕ) (table : List ℕ) (prime : Prime p) (echelon : Echelon p n
 
   -- a row after m does not have unknown m
   row-keeps : (t : ℕ → ℕ) (m v k : ℕ) → 1 ≤ m → m < k → k < n → LeadsRow table k → Solves p n (valueAt table k) t →
-      Solves p n (valueAt table k) (replaced t m v)
+      Solves p n (valueAt table k) (changedAt t m v)
   row-keeps t m v k low after high leads solved =
-      equal p (sum-ext n (λ j. valueAt table k j * replaced t m v j) (λ j. valueAt table k j * t j) (λ j h. term j (ℕ-discrete j m))) ∙ solved
+      equal p (sum-ext n (λ j. valueAt table k j * changedAt t m v j) (λ j. valueAt table k j * t j) (λ j h. term j (ℕ-discrete j m))) ∙ solved
     where
-      term : (j : ℕ) → Dec (j ≡ m) → valueAt table k j * replaced t m v j ≡ valueAt table k j * t j
+      term : (j : ℕ) → Dec (j ≡ m) → valueAt table k j * changedAt t m v j ≡ valueAt table k j * t j
       term j (yes e) =
           let z : valueAt table k j ≡ 0 = echelon .leads k j (omega arith) (omega arith) high leads in
-          ap (λ (x : ℕ). x * replaced t m v j) z ∙ zero-mul (replaced t m v j) ∙ sym (ap (λ (x : ℕ). x * t j) z ∙ zero-mul (t j))
-      term j (no e) = ap (λ (x : ℕ). valueAt table k j * x) (replaced-elsewhere t m v j e)
+          ap (λ (x : ℕ). x * changedAt t m v j) z ∙ zero-mul (changedAt t m v j) ∙ sym (ap (λ (x : ℕ). x * t j) z ∙ zero-mul (t j))
+      term j (no e) = ap (λ (x : ℕ). valueAt table k j * x) (changed-elsewhere t m v j e)
 
   pub lead-not-zero : (m : ℕ) → 1 ≤ m → m < n → LeadsRow table m → rem (valueAt table m m) p ≡ 0 → ⊥
   lead-not-zero m low less leads z = leads (sym (rem-small (valueAt table m m) p (echelon .below m m low less less leads)) ∙ z)
 
   -- some value for unknown m solves row m
-  row-solved : (t : ℕ → ℕ) (m : ℕ) → 1 ≤ m → m < n → LeadsRow table m → (v : ℕ) × (v < p) × Solves p n (valueAt table m) (replaced t m v)
+  row-solved : (t : ℕ → ℕ) (m : ℕ) → 1 ≤ m → m < n → LeadsRow table m → (v : ℕ) × (v < p) × Solves p n (valueAt table m) (changedAt t m v)
   row-solved t m low less leads =
       let (rest, parts) = sum-apart n m (λ j. valueAt table m j * t j) less in
       let (v, small, root) = solved-by p prime (valueAt table m m) rest (lead-not-zero m low less leads) in (
         v,
         small,
-        equal p (parts (λ j. valueAt table m j * replaced t m v j) (λ j h e. ap (λ (x : ℕ). valueAt table m j * x) (replaced-elsewhere t m v j e))
-            ∙ ap (λ (x : ℕ). rest + valueAt table m m * x) (replaced-at t m v m refl))
+        equal p (parts (λ j. valueAt table m j * changedAt t m v j) (λ j h e. ap (λ (x : ℕ). valueAt table m j * x) (changed-elsewhere t m v j e))
+            ∙ ap (λ (x : ℕ). rest + valueAt table m m * x) (changed-at t m v m refl))
             ∙ root,
       )
 
   chosen-led : (f : ℕ → ℕ) (m : ℕ) → 1 ≤ m → m < n → LeadsRow table m → From f (suc m) → From f m
   chosen-led f m low less leads (t, w) =
       let (v, small, here) = row-solved t m low less leads in (
-        replaced t m v,
+        changedAt t m v,
         record {
-          numbers = numbers-replaced t m v (w .numbers) low small;
+          numbers = numbers-changed t m v (w .numbers) low small;
           free = λ k idle.
-              replaced-elsewhere t m v k (λ e. idle (omega arith) (omega arith) (subst (LeadsRow table) (sym e) leads)) ∙ w .free k idle;
+              changed-elsewhere t m v k (λ e. idle (omega arith) (omega arith) (subst (LeadsRow table) (sym e) leads)) ∙ w .free k idle;
           solved = λ k l high leads. elim (ℕ-discrete k m) [
-            | yes e ↦ subst (λ (i : ℕ). Solves p n (valueAt table i) (replaced t m v)) (sym e) here
+            | yes e ↦ subst (λ (i : ℕ). Solves p n (valueAt table i) (changedAt t m v)) (sym e) here
             | no e ↦ row-keeps t m v k low (omega arith) high leads (w .solved k (omega arith) high leads)
           ];
         },
@@ -120,7 +120,7 @@ module _ (p n : ℕ) (table : List ℕ) (prime : Prime p) (echelon : Echelon p n
       (t u : ℕ → ℕ) × (Numbers p t × SolvesRows p n table t) × (Numbers p u × SolvesRows p n table u) × (t m ≡ u m → ⊥)
   two-solutions m low idle =
       let (t, w) = back-substitution (λ k. 1) ones in
-      let (u, x) = back-substitution (replaced (λ k. 1) m 0) (numbers-replaced (λ k. 1) m 0 ones low (omega (arith, prime .two-or-more))) in
+      let (u, x) = back-substitution (changedAt (λ k. 1) m 0) (numbers-changed (λ k. 1) m 0 ones low (omega (arith, prime .two-or-more))) in
       let et : t m ≡ 1 = w .free m (λ l h leads. leads idle) in
-      let eu : u m ≡ 0 = x .free m (λ l h leads. leads idle) ∙ replaced-at (λ k. 1) m 0 m refl in
+      let eu : u m ≡ 0 = x .free m (λ l h leads. leads idle) ∙ changed-at (λ k. 1) m 0 m refl in
       (t, u, (w .numbers, w .solved), (x .numbers, x .solved), λ e. let z : ⊥ = omega arith in z)

@@ -36,10 +36,10 @@ module _ (p : ℕ) (prime : Prime p) where
   poly-zero zero = res-zero p prime
   poly-zero (suc i) = res-zero p prime
 
-  abs-withSaved : (saved : ℕ → Saved) (h : ℕ) (v : Saved) (g : ℕ)
+  abs-with-saved : (saved : ℕ → Saved) (h : ℕ) (v : Saved) (g : ℕ)
       → absSaved (withSaved saved h v g) ≡ Step.withSaved (λ g. absSaved (saved g)) h (absSaved v) g
   unfolding withSaved Step.withSaved
-  abs-withSaved saved h v g = pick (eqb g h)
+  abs-with-saved saved h v g = pick (eqb g h)
     where
       pick : (b : Bool) → absSaved (cond b v (saved g)) ≡ cond b (absSaved v) (absSaved (saved g))
       pick true = refl
@@ -62,7 +62,7 @@ module _ (p : ℕ) (prime : Prime p) where
           (λ grow.
           let l : ℕ = n + st .saved h .size - st .saved h .place in
           ap₂ {C = Step.State (residues p prime .ring .car)} (λ t s. record { size = l; taps = t; saved = s }) (abs-taps l (omega arith) (omega arith))
-          (fun-ext (abs-withSaved (st .saved) h (record { place = n; size = st .size; disc = d; taps = st .taps })))
+          (fun-ext (abs-with-saved (st .saved) h (record { place = n; size = st .size; disc = d; taps = st .taps })))
           ∙ sym (grows (residues p prime) n h (abs st) (res p prime d) grow))
           (λ stay.
           ap (λ t. record { size = st .size; taps = t; saved = λ g. absSaved (st .saved g) }) (abs-taps (st .size) (omega arith) stay)
