@@ -1,4 +1,5 @@
 pub mod Completion
+pub mod DeclaredCells
 pub mod Demands
 pub mod Encode
 pub mod Frame

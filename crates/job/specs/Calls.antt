@@ -1,25 +1,27 @@
 -- What each call on a job answers and leaves, for every job and everything lent (SPECIFICATION.md, "Jobs", and the orders of "Refusals"). Each call is
 -- described once, and `step` carries out what is described.
-use mathlib.Core.Bool.{Bool, not, _||_}
+use mathlib.Core.Bool.{Bool, not, _&&_, _||_}
 use mathlib.Core.List.{List, [], _∷_, _++_}
 use Prim.Native.Nat.{ℕ}
 use lib.Dec.{eqb}
 use lib.ListN.{getD}
 use Rattle.columns.specs.declared.Columns.{Columns}
-use Rattle.decoding.specs.Locating.{sizeOf, tapsOf, aloneOf, rowsReach, namesAll, namedColumns, repaired}
+use Rattle.decoding.specs.Locating.{sizeOf, tapsOf, aloneOf, namesAll, namedColumns}
+use Rattle.decoding.specs.Remaining.{allRemaining, leftReach, completable, mended}
+use Rattle.frame.specs.DeclaredCells.{Declared, declaredBy, asRead, readTests, rereadTests}
 use Rattle.frame.specs.Encode.{encoded, encodeTests}
-use Rattle.frame.specs.Frame.{heldSums, heldSequences, frameTests}
+use Rattle.frame.specs.Frame.{heldSums, heldSequences}
 use Rattle.frame.specs.Shape.{shapeOf, shapeTests}
 use Rattle.frame.specs.declared.Shape.{Shape}
 use Rattle.lists.specs.Tabulate.{every}
 use Rattle.refusal.specs.Order.{Test, firstOf}
-use Rattle.job.specs.Job.{Arrays, Job, noColumns, shapedJob, locatedJob, isEmpty, isLocatedPhase, lengthOf}
+use Rattle.job.specs.Job.{Arrays, Job, noColumns, shapedJob, locatedJob, isEmpty, isLocated, lengthOf, declaredIn}
 
--- the calls, with what is lent
+-- the calls, with what is lent; to locate, 32 words of declared cells besides
 pub data Call : Type 0 where
   shape : (n : ℕ) (checks : List ℕ) → Call
   encode : (frame : List ℕ) → Call
-  locate : (frame : List ℕ) → Call
+  locate : (declared frame : List ℕ) → Call
   repair : (frame : List ℕ) → Call
 
 -- done; the number of columns to mend or mended; or the number of a refusal
@@ -58,22 +60,28 @@ abbrev pub emptyTest : Job → Test
 emptyTest j = record { number = 21; fails = isEmpty j }
 
 abbrev pub notLocatedTest : Job → Test
-notLocatedTest j = record { number = 22; fails = not (isLocatedPhase (j .head .phase)) }
+notLocatedTest j = record { number = 22; fails = not (isLocated j) }
 
 -- whether two lists of held sums are the same
 unfoldable pub sameSums : (a b : List ℕ) → Bool
 sameSums a b = every 512 (λ k. eqb (getD a k 0) (getD b k 0))
 
--- the frame's sums are not those located
+-- the sums of the frame, read with the cells that the job holds, are not those located
 abbrev pub sumsTest : Job → (f : List ℕ) → Test
-sumsTest j f = record { number = 23; fails = not (sameSums (heldSums (j .head .shape) f) (j .arrays .sums)) }
+sumsTest j f =
+    let s : Shape = j .head .shape in
+    record { number = 23; fails = not (sameSums (heldSums s (asRead s (declaredIn j) f)) (j .arrays .sums)) }
 
--- the refusals 24, 25, 26 of the sequences of a well-formed frame
-unfoldable pub registerTests : Shape → (ss : List (List ℕ)) → List Test
-registerTests s ss =
+-- the refusals 24, 25, 26 of the check sums of a well-formed frame, S being those of each row
+unfoldable pub registerTests : Shape → Declared → (S : List (List ℕ)) → List Test
+registerTests s D S =
+    let ss : List (List ℕ) = allRemaining s D S in
     record { number = 24; fails = not (aloneOf ss) } ∷
-    record { number = 25; fails = not (rowsReach s (sizeOf ss)) } ∷
-    record { number = 26; fails = not (namesAll s (tapsOf ss) (sizeOf ss)) } ∷
+    record { number = 25; fails = not (leftReach s D (sizeOf ss)) } ∷
+    record {
+      number = 26;
+      fails = not (namesAll s (tapsOf ss) (sizeOf ss) && completable s D (namedColumns s (tapsOf ss)) S);
+    } ∷
     []
 
 -- ---- what is given
@@ -84,18 +92,28 @@ shapes a n checks = record { answer = done; marks = noColumns; job = shapedJob (
 abbrev pub encodes : Job → (f : List ℕ) → Outcome
 encodes j f = record { answer = done; marks = noColumns; job = j; frame = encoded (j .head .shape) f }
 
--- the job that is located by the register of the sequences, which the sums hold
-abbrev pub locatedBy : Shape → Arrays → (ss : List (List ℕ)) (sums : List ℕ) → Job
-locatedBy s a ss sums = locatedJob s a (sizeOf ss) sums (tapsOf ss) (namedColumns s (tapsOf ss))
+-- the job that is located, with the cells that the words declare, by the register of the sequences ss; the sums are held
+abbrev pub locatedBy : Shape → Arrays → (words : List ℕ) (ss : List (List ℕ)) (sums : List ℕ) → Job
+locatedBy s a words ss sums = locatedJob s a (sizeOf ss) sums (tapsOf ss) words (namedColumns s (tapsOf ss))
 
-abbrev pub locates : Shape → Arrays → (ss : List (List ℕ)) (sums f : List ℕ) → Outcome
-locates s a ss sums f =
-    record { answer = columns (sizeOf ss); marks = namedColumns s (tapsOf ss); job = locatedBy s a ss sums; frame = f }
+abbrev pub locates : Shape → Arrays → (words : List ℕ) (ss : List (List ℕ)) (sums f : List ℕ) → Outcome
+locates s a words ss sums f =
+    record {
+      answer = columns (sizeOf ss);
+      marks = namedColumns s (tapsOf ss);
+      job = locatedBy s a words ss sums;
+      frame = f;
+    }
 
 abbrev pub repairs : Job → (f : List ℕ) → Outcome
 repairs j f =
-    let J : Columns = j .head .columns in
-    record { answer = columns (lengthOf (j .head .phase)); marks = J; job = reshaped j; frame = repaired (j .head .shape) J f }
+    let M : Columns = j .head .columns in
+    record {
+      answer = columns (lengthOf (j .head .phase));
+      marks = M;
+      job = reshaped j;
+      frame = mended (j .head .shape) (declaredIn j) M f;
+    }
 
 -- ---- the calls
 
@@ -104,19 +122,21 @@ describe j (shape n checks) =
     record { lent = []; keeping = shapeTests n checks; shaping = []; gives = shapes (j .arrays) n checks }
 describe j (encode f) =
     record { lent = f; keeping = emptyTest j ∷ encodeTests (j .head .shape) f; shaping = []; gives = encodes j f }
-describe j (locate f) =
+describe j (locate words f) =
     let s : Shape = j .head .shape in
-    let sums : List ℕ = heldSums s f in
+    let D : Declared = declaredBy words in
+    let sums : List ℕ = heldSums s (asRead s D f) in
+    let S : List (List ℕ) = heldSequences s sums in
     record {
       lent = f;
-      keeping = emptyTest j ∷ frameTests s f;
-      shaping = registerTests s (heldSequences s sums);
-      gives = locates s (j .arrays) (heldSequences s sums) sums f;
+      keeping = emptyTest j ∷ readTests s D f;
+      shaping = registerTests s D S;
+      gives = locates s (j .arrays) words (allRemaining s D S) sums f;
     }
 describe j (repair f) =
     record {
       lent = f;
-      keeping = emptyTest j ∷ notLocatedTest j ∷ (frameTests (j .head .shape) f ++ (sumsTest j f ∷ []));
+      keeping = emptyTest j ∷ notLocatedTest j ∷ (rereadTests (j .head .shape) (declaredIn j) f ++ (sumsTest j f ∷ []));
       shaping = [];
       gives = repairs j f;
     }

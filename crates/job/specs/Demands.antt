@@ -5,11 +5,13 @@ use mathlib.Core.Logic.{_↔_}
 use mathlib.Core.Bool.{true, false}
 use mathlib.Core.List.{List, [], _∷_, _++_}
 use mathlib.Core.Option.{Option, none, some}
-use Prim.Native.Nat.{ℕ, _*_, _≤_, _<_}
+use Prim.Native.Nat.{ℕ, _+_, _*_, _≤_, _<_}
 use lib.ListN.{length}
 use Rattle.columns.specs.Columns.{members}
+use Rattle.decoding.specs.Remaining.{readSequences}
+use Rattle.frame.specs.DeclaredCells.{Declared, declaredBy, erasures, checksLeft, asRead, WellFormedRead, distanceRead, differingRead}
 use Rattle.frame.specs.Encode.{OnlyLegal}
-use Rattle.frame.specs.Frame.{WellFormed, Legal, sequences, distance, differing}
+use Rattle.frame.specs.Frame.{Legal}
 use Rattle.frame.specs.Shape.{checksOf}
 use Rattle.frame.specs.declared.Shape.{Shape}
 use Rattle.register.specs.Register.{Shortest, Alone}
@@ -17,7 +19,7 @@ use Rattle.job.specs.Calls.{Call, shape, encode, locate, repair, done, c
 use Rattle.job.specs.Job.{Arrays, Job, emptyJob, isLocatedPhase, sound, noColumns}
 use Rattle.job.specs.Left.{Given, LeftShaped, LeftLocated, sumOf}
 use Rattle.job.specs.Refusals.{LegalAt}
-use Rattle.job.specs.Runs.{run, afterCalls, lastShape, IsRefused, Taken, NoneShapes, Between}
+use Rattle.job.specs.Runs.{run, afterCalls, lastShape, IsRefused, Taken, NoneShapes, Between, GoesBack}
 use Rattle.job.specs.declared.Phase.{Phase}
 use Rattle.job.specs.declared.Phase.the-variants.{Empty, Shaped, Located}
 
@@ -66,74 +68,86 @@ EncodeFills =
 
 -- ---- locate
 
--- What c is of a locate that answers it: the length of the only shortest register; a legal frame lies at distance c, and the marked columns are those that this
--- distance counts, c in number. The frame is only read; the job is located, and holds the frame's sums, the register and the marks.
-pub record Found (s : Shape) (f : List ℕ) (c : ℕ) (after : Outcome) : Type 0 where
+-- What c is of a locate that answers it, with the cells that the words declare: the length of the only shortest register; a legal frame lies at distance c,
+-- and the marked columns are those that this distance counts, c in number. The frame is only read; the job is located, and holds the frame's sums, the
+-- register, the declared cells and the marks.
+pub record Found (s : Shape) (words f : List ℕ) (c : ℕ) (after : Outcome) : Type 0 where
   pub taps : List ℕ
-  pub shortest : Shortest 257 c (sequences s f) taps
-  pub alone : Alone 257 c (sequences s f) taps
-  pub legal-at : (g : List ℕ) × Legal s g × (distance s g f ≡ c) × (after .marks ≡ differing s g f)
+  pub shortest : Shortest 257 c (readSequences s (declaredBy words) f) taps
+  pub alone : Alone 257 c (readSequences s (declaredBy words) f) taps
+  pub legal-at :
+      (g : List ℕ) × Legal s g × (distanceRead s (declaredBy words) g f ≡ c) ×
+      (after .marks ≡ differingRead s (declaredBy words) g f)
   pub number : length (members (after .marks)) ≡ c
   pub frame : after .frame ≡ f
-  pub job : LeftLocated s f c taps (after .marks) (after .job)
+  pub job : LeftLocated s words f c taps (after .marks) (after .job)
 
 abbrev pub LocateFinds : Type 0
 LocateFinds =
-    (a : Arrays) (calls : List Call) (f : List ℕ) → Taken (afterCalls a calls (locate f)) →
-    (s : Shape) × (c : ℕ) × (lastShape calls ≡ some s) × (afterCalls a calls (locate f) .answer ≡ columns c) ×
-    Found s f c (afterCalls a calls (locate f))
+    (a : Arrays) (calls : List Call) (words f : List ℕ) → Taken (afterCalls a calls (locate words f)) →
+    (s : Shape) × (c : ℕ) × (lastShape calls ≡ some s) × (afterCalls a calls (locate words f) .answer ≡ columns c) ×
+    Found s words f c (afterCalls a calls (locate words f))
 
--- Demand 3, second part. Locating a well-formed frame whose shortest register, of length c, is alone, with no row having fewer checks than c, is
+-- Demand 3, second part. Locating a well-formed frame whose shortest register, of length c, is alone, with no row having fewer checks left than c, is
 -- refused exactly when no legal frame lies at distance c.
 abbrev pub LocateExact : Type 0
 LocateExact =
-    (a : Arrays) (calls : List Call) (s : Shape) (f : List ℕ) (c : ℕ) (σ : List ℕ) → lastShape calls ≡ some s → WellFormed s f →
-    Shortest 257 c (sequences s f) σ → Alone 257 c (sequences s f) σ → ((h : ℕ) → h < s .rows → c ≤ checksOf s h) →
-    IsRefused (afterCalls a calls (locate f)) ↔ (LegalAt s f c → ⊥)
+    (a : Arrays) (calls : List Call) (s : Shape) (words f : List ℕ) (c : ℕ) (σ : List ℕ) → lastShape calls ≡ some s →
+    WellFormedRead s (declaredBy words) f → Shortest 257 c (readSequences s (declaredBy words) f) σ →
+    Alone 257 c (readSequences s (declaredBy words) f) σ →
+    ((h : ℕ) → h < s .rows → c ≤ checksLeft s (declaredBy words) h) →
+    IsRefused (afterCalls a calls (locate words f)) ↔ (LegalAt s (declaredBy words) f c → ⊥)
 
 -- ---- repair
 
--- Demand 3, first part. A repair of the frame f that answers c leaves a legal frame; c is its distance from f, the marked columns are those that this
--- distance counts, and every other legal frame lies farther from f. The job is shaped.
-pub record Mended (s : Shape) (f : List ℕ) (c : ℕ) (before : Job) (after : Outcome) : Type 0 where
+-- Demand 3, first part, D being the declared cells. A repair of the frame f that answers c leaves a legal frame; c is its distance from f, the marked columns
+-- are those that this distance counts, and every other legal frame lies farther from f. The job is shaped.
+pub record Mended (s : Shape) (D : Declared) (f : List ℕ) (c : ℕ) (before : Job) (after : Outcome) : Type 0 where
   pub legal : Legal s (after .frame)
-  pub count : distance s (after .frame) f ≡ c
-  pub marks : after .marks ≡ differing s (after .frame) f
-  pub nearest : (g : List ℕ) → Legal s g → (g ≡ after .frame → ⊥) → c < distance s g f
+  pub count : distanceRead s D (after .frame) f ≡ c
+  pub marks : after .marks ≡ differingRead s D (after .frame) f
+  pub nearest : (g : List ℕ) → Legal s g → (g ≡ after .frame → ⊥) → c < distanceRead s D g f
   pub job : LeftShaped s (before .arrays) (after .job)
 
+-- The declared cells are those of the locate that the repair goes back to.
 abbrev pub RepairMends : Type 0
 RepairMends =
     (a : Arrays) (calls : List Call) (f : List ℕ) → Taken (afterCalls a calls (repair f)) →
-    (s : Shape) × (c : ℕ) × (lastShape calls ≡ some s) × (afterCalls a calls (repair f) .answer ≡ columns c) ×
-    Mended s f c (run a calls) (afterCalls a calls (repair f))
+    (s : Shape) × (words : List ℕ) × (c : ℕ) × (lastShape calls ≡ some s) × GoesBack a calls words ×
+    (afterCalls a calls (repair f) .answer ≡ columns c) ×
+    Mended s (declaredBy words) f c (run a calls) (afterCalls a calls (repair f))
 
--- some check sum of f differs from that of g
-abbrev pub CheckSumsDiffer : Shape → (f g : List ℕ) → Type 0
-CheckSumsDiffer s f g =
-    (h : ℕ) × (j : ℕ) × (h < s .rows) × (1 ≤ j) × (j ≤ checksOf s h) × (sumOf s f h j ≡ sumOf s g h j → ⊥)
+-- some check sum of f, as read, differs from that of g
+abbrev pub CheckSumsDiffer : Shape → Declared → (f g : List ℕ) → Type 0
+CheckSumsDiffer s D f g =
+    (h : ℕ) × (j : ℕ) × (h < s .rows) × (1 ≤ j) × (j ≤ checksOf s h) ×
+    (sumOf s (asRead s D f) h j ≡ sumOf s (asRead s D g) h j → ⊥)
 
--- After a locate of g that is not refused, with nothing but encodes and calls refused early since then, a repair of a well-formed f is refused exactly when
--- some check sum of f differs from that of g, and then by 23.
+-- After a locate of g that is not refused, with nothing but encodes and calls refused early since then, a repair of an f that is well-formed with the same
+-- declared cells is refused exactly when some check sum of f differs from that of g, and then by 23.
 abbrev pub RepairExact : Type 0
 RepairExact =
-    (a : Arrays) (before between : List Call) (s : Shape) (f g : List ℕ) → lastShape before ≡ some s →
-    Taken (afterCalls a before (locate g)) → Between (run a (before ++ (locate g ∷ []))) between → WellFormed s f →
-    (IsRefused (afterCalls a (before ++ (locate g ∷ between)) (repair f)) ↔ CheckSumsDiffer s f g) ×
-    ((afterCalls a (before ++ (locate g ∷ between)) (repair f) .answer ≡ refused 23) ↔ CheckSumsDiffer s f g)
+    (a : Arrays) (before between : List Call) (s : Shape) (words f g : List ℕ) → lastShape before ≡ some s →
+    Taken (afterCalls a before (locate words g)) → Between (run a (before ++ (locate words g ∷ []))) between →
+    WellFormedRead s (declaredBy words) f →
+    (IsRefused (afterCalls a (before ++ (locate words g ∷ between)) (repair f)) ↔ CheckSumsDiffer s (declaredBy words) f g) ×
+    ((afterCalls a (before ++ (locate words g ∷ between)) (repair f) .answer ≡ refused 23) ↔
+    CheckSumsDiffer s (declaredBy words) f g)
 
--- Demand 3, third part. A legal frame g was sent, and f is what damage made of it: well-formed, and at most half the smallest check count of columns altered.
--- Then locating f is not refused, nor is a later repair of f with nothing between them but encodes and calls refused early; the repair leaves g.
-pub record Recovered (a : Arrays) (before between : List Call) (f g : List ℕ) : Type 0 where
-  pub located : Taken (afterCalls a before (locate f))
-  pub mended : Taken (afterCalls a (before ++ (locate f ∷ between)) (repair f))
-  pub frame : afterCalls a (before ++ (locate f ∷ between)) (repair f) .frame ≡ g
+-- Demand 3, third part. A legal frame g was sent, and f is what damage made of it: well-formed with the declared cells, and in every row twice the columns
+-- that are altered in undeclared cells, and the declared cells, are within the checks. Then locating f is not refused, nor is a later repair of f with
+-- nothing between them but encodes and calls refused early; the repair leaves g, whatever the declared cells hold.
+pub record Recovered (a : Arrays) (before between : List Call) (words f g : List ℕ) : Type 0 where
+  pub located : Taken (afterCalls a before (locate words f))
+  pub mended : Taken (afterCalls a (before ++ (locate words f ∷ between)) (repair f))
+  pub frame : afterCalls a (before ++ (locate words f ∷ between)) (repair f) .frame ≡ g
 
 abbrev pub DamageMended : Type 0
 DamageMended =
-    (a : Arrays) (before between : List Call) (s : Shape) (f g : List ℕ) → lastShape before ≡ some s → Legal s g → WellFormed s f →
-    ((h : ℕ) → h < s .rows → 2 * distance s g f ≤ checksOf s h) → Between (run a (before ++ (locate f ∷ []))) between →
-    Recovered a before between f g
+    (a : Arrays) (before between : List Call) (s : Shape) (words f g : List ℕ) → lastShape before ≡ some s → Legal s g →
+    WellFormedRead s (declaredBy words) f →
+    ((h : ℕ) → h < s .rows → 2 * distanceRead s (declaredBy words) g f + erasures (declaredBy words) h ≤ checksOf s h) →
+    Between (run a (before ++ (locate words f ∷ []))) between → Recovered a before between words f g
 
 -- ---- arrays
 

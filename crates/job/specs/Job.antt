@@ -7,6 +7,8 @@ use lib.ListN.{length, replicate}
 use Rattle.columns.specs.Columns.{columnsOf, has, members}
 use Rattle.columns.specs.declared.Columns.{Columns}
 use Rattle.decoding.specs.Locating.{rowsReach}
+use Rattle.decoding.specs.Remaining.{leftReach}
+use Rattle.frame.specs.DeclaredCells.{Declared, declaredBy, declarable}
 use Rattle.frame.specs.Shape.{isShape}
 use Rattle.frame.specs.declared.Shape.{Shape}
 use Rattle.lists.specs.Tabulate.{every}
@@ -14,10 +16,11 @@ use Rattle.job.specs.declared.Head.{Head}
 use Rattle.job.specs.declared.Phase.{Phase}
 use Rattle.job.specs.declared.Phase.the-variants.{Empty, Shaped, Located}
 
--- what is lent beside the head and written in place: the check sums of all rows, row after row, and the taps of the register
+-- what is lent beside the head and written in place: the check sums of all rows, row after row; the taps of the register; and the declared cells
 pub record Arrays : Type 0 where
   pub sums : List ℕ
   pub taps : List ℕ
+  pub declared : List ℕ
 
 pub record Job : Type 0 where
   pub head : Head
@@ -26,19 +29,20 @@ pub record Job : Type 0 where
 abbrev pub beside : Head → Arrays → Job
 beside h a = record { head = h; arrays = a }
 
--- The arrays with other sums; with other taps; with both. A call says what it does for all arrays that it is not lent, and through these.
-abbrev pub withSums : Arrays → (sums : List ℕ) → Arrays
-withSums a sums = record { sums = sums; taps = a .taps }
-
+-- The arrays with other taps; with all that locating finds; with what repair reads. A call says what it does for all arrays that it is not lent, and through
+-- these.
 abbrev pub withTaps : Arrays → (taps : List ℕ) → Arrays
-withTaps a taps = record { sums = a .sums; taps = taps }
+withTaps a taps = record { sums = a .sums; taps = taps; declared = a .declared }
 
-abbrev pub withFound : Arrays → (sums taps : List ℕ) → Arrays
-withFound a sums taps = record { sums = sums; taps = taps }
+abbrev pub withFound : Arrays → (sums taps declared : List ℕ) → Arrays
+withFound a sums taps declared = record { sums = sums; taps = taps; declared = declared }
+
+abbrev pub withRead : Arrays → (sums declared : List ℕ) → Arrays
+withRead a sums declared = record { sums = sums; taps = a .taps; declared = declared }
 
 -- zeros
 abbrev pub noArrays : Arrays
-noArrays = record { sums = replicate 512 0; taps = replicate 65 0 }
+noArrays = record { sums = replicate 512 0; taps = replicate 65 0; declared = replicate 32 0 }
 
 unfoldable pub noColumns : Columns
 noColumns = columnsOf (λ i. false)
@@ -60,9 +64,10 @@ emptyJob a = beside emptyHead a
 abbrev pub shapedJob : Shape → Arrays → Job
 shapedJob s a = beside (shapedHead s) a
 
--- a located job holds the sums, the taps, then zeros, and the columns named
-abbrev pub locatedJob : Shape → Arrays → (c : ℕ) (sums taps : List ℕ) (J : Columns) → Job
-locatedJob s a c sums taps J = beside (locatedHead s c J) (withFound a sums (taps ++ replicate (65 - length taps) 0))
+-- a located job holds the sums, the taps, then zeros, the declared cells, and the columns named
+abbrev pub locatedJob : Shape → Arrays → (c : ℕ) (sums taps declared : List ℕ) (J : Columns) → Job
+locatedJob s a c sums taps declared J =
+    beside (locatedHead s c J) (withFound a sums (taps ++ replicate (65 - length taps) 0) declared)
 
 -- what a located job of length c and alone mark a must hold
 unfoldable pub findingsSound : Shape → (J : Columns) (c : ℕ) (a : Bool) → Bool
@@ -98,6 +103,19 @@ abbrev pub lengthOf : Phase → ℕ
 lengthOf Empty = 0
 lengthOf Shaped = 0
 lengthOf (Located c a) = c
+
+-- the declared cells that a job holds
+abbrev pub declaredIn : Job → Declared
+declaredIn j = declaredBy (j .arrays .declared)
+
+-- Cells with which a locate can leave a job of length c: they can be declared, and each row has c checks left.
+unfoldable pub declaredSound : Shape → Declared → (c : ℕ) → Bool
+declaredSound s D c = declarable s D && leftReach s D c
+
+-- The job is located. One that holds declared cells with which no locate leaves it, made by nobody's call, counts as shaped.
+abbrev pub isLocated : Job → Bool
+isLocated j =
+    isLocatedPhase (j .head .phase) && declaredSound (j .head .shape) (declaredIn j) (lengthOf (j .head .phase))
 
 -- the job counts as empty: refusal 21
 unfoldable pub countsEmpty : Head → Bool

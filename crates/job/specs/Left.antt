@@ -6,6 +6,7 @@ use mathlib.Core.List.{List}
 use Prim.Native.Nat.{ℕ, suc, _+_, _≤_, _<_}
 use lib.ListN.{length, getD}
 use Rattle.columns.specs.declared.Columns.{Columns}
+use Rattle.frame.specs.DeclaredCells.{declaredBy, asRead}
 use Rattle.frame.specs.Frame.{row, checkSum, sumsBefore}
 use Rattle.frame.specs.Shape.{checksOf}
 use Rattle.frame.specs.declared.Shape.{Shape}
@@ -43,10 +44,11 @@ pub record HoldsTaps (c : ℕ) (σ taps : List ℕ) : Type 0 where
   pub each : (i : ℕ) → i ≤ c → getD taps i 0 ≡ getD σ i 0
   pub rest : (i : ℕ) → c < i → getD taps i 0 ≡ 0
 
--- the job is located by the frame f with the register of length c and taps σ, which is alone, and holds the marks J
-pub record LeftLocated (s : Shape) (f : List ℕ) (c : ℕ) (σ : List ℕ) (J : Columns) (j : Job) : Type 0 where
+-- the job is located by the frame f, as read, with the register of length c and taps σ, which is alone, and holds the cells declared and the marks J
+pub record LeftLocated (s : Shape) (words f : List ℕ) (c : ℕ) (σ : List ℕ) (J : Columns) (j : Job) : Type 0 where
   pub phase : j .head .phase ≡ Located c true
   pub shape : j .head .shape ≡ s
   pub columns : j .head .columns ≡ J
-  pub sums : HoldsSums s f (j .arrays .sums)
+  pub sums : HoldsSums s (asRead s (declaredBy words) f) (j .arrays .sums)
   pub taps : HoldsTaps c σ (j .arrays .taps)
+  pub declared : j .arrays .declared ≡ words

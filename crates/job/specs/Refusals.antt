@@ -6,62 +6,78 @@ use mathlib.Core.Bool.{true, false}
 use mathlib.Core.List.{List, [], _∷_, _++_}
 use Prim.Native.Nat.{ℕ, _<_}
 use lib.ListN.{getD}
-use Rattle.frame.specs.Demands.{shapeReasons, encodeReasons, frameReasons}
-use Rattle.frame.specs.Frame.{Legal, sequences, heldSums, distance}
-use Rattle.frame.specs.Shape.{checksOf}
+use Rattle.decoding.specs.Remaining.{readSequences}
+use Rattle.frame.specs.DeclaredCells.{Declared, declaredBy, checksLeft, asRead, BadCells, readReasons, rereadReasons, distanceRead}
+use Rattle.frame.specs.Demands.{shapeReasons, encodeReasons}
+use Rattle.frame.specs.Frame.{Legal, heldSums}
 use Rattle.frame.specs.declared.Shape.{Shape}
 use Rattle.refusal.specs.Order.{Reason, First}
 use Rattle.register.specs.Register.{Generator, Shortest, Alone}
 use Rattle.job.specs.Calls.{Call, shape, encode, locate, repair, refused, Outcome, step, late}
-use Rattle.job.specs.Job.{Job, noColumns, isLocatedPhase, sound}
+use Rattle.job.specs.Job.{Job, noColumns, isLocatedPhase, lengthOf, declaredIn, sound}
 use Rattle.job.specs.Left.{LeftShaped}
 use Rattle.job.specs.declared.Phase.the-variants.{Empty}
 
 -- a legal frame lies at distance c from f
-abbrev pub LegalAt : Shape → (f : List ℕ) (c : ℕ) → Type 0
-LegalAt s f c = (g : List ℕ) × Legal s g × (distance s g f ≡ c)
+abbrev pub LegalAt : Shape → Declared → (f : List ℕ) (c : ℕ) → Type 0
+LegalAt s D f c = (g : List ℕ) × Legal s g × (distanceRead s D g f ≡ c)
 
 -- the job is empty, or a value that no call leaves, which counts as empty
 abbrev pub emptyReason : Job → Reason
 emptyReason j = record { number = 21; holds = (j .head .phase ≡ Empty) ⊎ (sound j ≡ false) }
 
+-- some row has fewer checks left than c
+abbrev pub ShortRow : Shape → Declared → (c : ℕ) → Type 0
+ShortRow s D c = (h : ℕ) × (h < s .rows) × (checksLeft s D h < c)
+
+-- the job is not located, or holds declared cells with which no locate leaves it, and counts as shaped
 abbrev pub notLocatedReason : Job → Reason
-notLocatedReason j = record { number = 22; holds = isLocatedPhase (j .head .phase) ≡ false }
+notLocatedReason j =
+    let s : Shape = j .head .shape in
+    let D : Declared = declaredIn j in
+    record {
+      number = 22;
+      holds = (isLocatedPhase (j .head .phase) ≡ false) ⊎ (BadCells s D ⊎ ShortRow s D (lengthOf (j .head .phase)));
+    }
 
 -- Of a well-formed frame: another register of the shortest length exists;
-abbrev pub notAloneReason : Shape → (f : List ℕ) → Reason
-notAloneReason s f =
+abbrev pub notAloneReason : Shape → Declared → (f : List ℕ) → Reason
+notAloneReason s D f =
+    let ss : List (List ℕ) = readSequences s D f in
     record {
       number = 24;
       holds =
-          (c : ℕ) × (σ : List ℕ) × (τ : List ℕ) × Shortest 257 c (sequences s f) σ × Generator 257 c (sequences s f) τ ×
-          (τ ≡ σ → ⊥);
+          (c : ℕ) × (σ : List ℕ) × (τ : List ℕ) × Shortest 257 c ss σ × Generator 257 c ss τ × (τ ≡ σ → ⊥);
     }
 
--- it is alone, and some row has fewer checks than its length c;
-abbrev pub shortRowReason : Shape → (f : List ℕ) → Reason
-shortRowReason s f =
+-- it is alone, and some row has fewer checks left than its length c;
+abbrev pub shortRowReason : Shape → Declared → (f : List ℕ) → Reason
+shortRowReason s D f =
+    let ss : List (List ℕ) = readSequences s D f in
     record {
       number = 25;
-      holds =
-          (c : ℕ) × (σ : List ℕ) × (h : ℕ) × Shortest 257 c (sequences s f) σ × Alone 257 c (sequences s f) σ × (h < s .rows) ×
-          (checksOf s h < c);
+      holds = (c : ℕ) × (σ : List ℕ) × Shortest 257 c ss σ × Alone 257 c ss σ × ShortRow s D c;
     }
 
 -- no legal frame lies at distance c.
-abbrev pub noFrameReason : Shape → (f : List ℕ) → Reason
-noFrameReason s f =
-    record { number = 26; holds = (c : ℕ) × (σ : List ℕ) × Shortest 257 c (sequences s f) σ × (LegalAt s f c → ⊥) }
+abbrev pub noFrameReason : Shape → Declared → (f : List ℕ) → Reason
+noFrameReason s D f =
+    record {
+      number = 26;
+      holds = (c : ℕ) × (σ : List ℕ) × Shortest 257 c (readSequences s D f) σ × (LegalAt s D f c → ⊥);
+    }
 
-abbrev pub registerReasons : Shape → (f : List ℕ) → List Reason
-registerReasons s f = notAloneReason s f ∷ shortRowReason s f ∷ noFrameReason s f ∷ []
+abbrev pub registerReasons : Shape → Declared → (f : List ℕ) → List Reason
+registerReasons s D f = notAloneReason s D f ∷ shortRowReason s D f ∷ noFrameReason s D f ∷ []
 
 -- some of the 512 held sums are not those located
 abbrev pub SumsDiffer : (a b : List ℕ) → Type 0
 SumsDiffer a b = (k : ℕ) × (k < 512) × (getD a k 0 ≡ getD b k 0 → ⊥)
 
 abbrev pub sumsReason : Job → (f : List ℕ) → Reason
-sumsReason j f = record { number = 23; holds = SumsDiffer (heldSums (j .head .shape) f) (j .arrays .sums) }
+sumsReason j f =
+    let s : Shape = j .head .shape in
+    record { number = 23; holds = SumsDiffer (heldSums s (asRead s (declaredIn j) f)) (j .arrays .sums) }
 
 -- the reasons of a call's refusals in their order: those that leave the job as it was, and after them those that leave it shaped
 pub record Reasons : Type 1 where
@@ -71,11 +87,14 @@ pub record Reasons : Type 1 where
 abbrev pub reasons : Job → Call → Reasons
 reasons j (shape n checks) = record { keeping = shapeReasons n checks; shaping = [] }
 reasons j (encode f) = record { keeping = emptyReason j ∷ encodeReasons (j .head .shape) f; shaping = [] }
-reasons j (locate f) =
-    record { keeping = emptyReason j ∷ frameReasons (j .head .shape) f; shaping = registerReasons (j .head .shape) f }
+reasons j (locate words f) =
+    let s : Shape = j .head .shape in
+    let D : Declared = declaredBy words in
+    record { keeping = emptyReason j ∷ readReasons s D f; shaping = registerReasons s D f }
 reasons j (repair f) =
     record {
-      keeping = emptyReason j ∷ notLocatedReason j ∷ (frameReasons (j .head .shape) f ++ (sumsReason j f ∷ []));
+      keeping =
+          emptyReason j ∷ notLocatedReason j ∷ (rereadReasons (j .head .shape) (declaredIn j) f ++ (sumsReason j f ∷ []));
       shaping = [];
     }
 
@@ -83,7 +102,7 @@ reasons j (repair f) =
 abbrev pub lentTo : Call → List ℕ
 lentTo (shape n checks) = []
 lentTo (encode f) = f
-lentTo (locate f) = f
+lentTo (locate words f) = f
 lentTo (repair f) = f
 
 -- a call refused by the number k leaves the frame as it was lent and marks nothing; the job is shaped after a late refusal, and as it was after any other

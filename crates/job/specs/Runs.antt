@@ -2,7 +2,7 @@
 use mathlib.Core.Path.{_≡_}
 use mathlib.Core.Logic.{_⊎_}
 use mathlib.Core.Bool.{false}
-use mathlib.Core.List.{List, [], _∷_}
+use mathlib.Core.List.{List, [], _∷_, _++_}
 use mathlib.Core.Option.{Option, none, some}
 use Prim.Native.Nat.{ℕ}
 use Rattle.frame.specs.Shape.{shapeOf, shapeTests}
@@ -37,7 +37,7 @@ Taken o = IsRefused o → ⊥
 abbrev pub shapeAfter : Option Shape → Call → Option Shape
 shapeAfter s (shape n checks) = firstOf (λ k. s) (shapeTests n checks) (some (shapeOf n checks))
 shapeAfter s (encode f) = s
-shapeAfter s (locate f) = s
+shapeAfter s (locate words f) = s
 shapeAfter s (repair f) = s
 
 -- the shape of the last shape call that is not refused, or the one given where there is none
@@ -68,3 +68,13 @@ RefusedEarly o = (k : ℕ) × (o .answer ≡ refused k) × (late k ≡ false)
 abbrev pub Between : Job → List Call → Type 0
 Between j [] = Unit {0}
 Between j (c ∷ cs) = (IsEncode c ⊎ RefusedEarly (step j c)) × Between (step j c .job) cs
+
+-- The locate that a repair after the calls goes back to: the last one not refused, with nothing after it but encodes and calls refused by other numbers than
+-- 24, 25, 26. The words are those of its declared cells.
+pub record GoesBack (a : Arrays) (calls : List Call) (words : List ℕ) : Type 0 where
+  pub before : List Call
+  pub frame : List ℕ
+  pub between : List Call
+  pub split : calls ≡ before ++ (locate words frame ∷ between)
+  pub taken : Taken (afterCalls a before (locate words frame))
+  pub kept : Between (run a (before ++ (locate words frame ∷ []))) between
