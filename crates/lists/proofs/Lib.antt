@@ -3,6 +3,7 @@ pub mod DataCells
 pub mod Entries
 pub mod Filling
 pub mod Joined
+pub mod Mapped
 pub mod Moving
 pub mod Padded
 pub mod Parts
