@@ -1,5 +1,4 @@
 pub mod Bits
-pub mod Either
 pub mod Joined
 pub mod Least
 pub mod Listing
