@@ -1,1 +1,3 @@
+pub mod Appending
 pub mod RowLeft
+pub mod RowsLeft

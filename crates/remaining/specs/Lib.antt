@@ -1,1 +1,2 @@
 pub mod Removable
+pub mod SequencesLeft
