@@ -1,3 +1,5 @@
 pub mod Appending
+pub mod HeldRows
 pub mod RowLeft
+pub mod RowsCompletable
 pub mod RowsLeft

@@ -6,8 +6,7 @@ use Prim.Native.Nat.{ℕ, zero, suc, _+_, _-_, _≤_, _<_, zero-le}
 use native.Mathlib.Nat.{le-antisymm, mod-lt}
 use native.Mathlib.Numerals.{add-one}
 use native.Mathlib.Omega.{arith}
-use lib.ListN.{length, getD, set, take, drop, length-append, length-drop}
-use lib.Seq.{length-take-le}
+use lib.ListN.{length, getD, set, take, drop, length-append}
 use borrow.Rule.Slice.PartMut.{midOf, putMid}
 use Rattle.columns.specs.Columns.{members}
 use Rattle.columns.specs.declared.Columns.{Columns}
@@ -29,6 +28,7 @@ use Rattle.lists.proofs.Zeros.{zeros}
 use Rattle.register.specs.Register.{discrepancy}
 use Rattle.remaining.specs.SequencesLeft.{SequencesLeft}
 use Rattle.remaining.proofs.Appending.{Appended, appended-none, appended-more}
+use Rattle.remaining.proofs.HeldRows.{sums-room, length-part, part-held, part-lent}
 
 pub length-remaining : (J : Columns) (x : List ℕ) → length (remaining J x) ≡ length x - length (members J)
 unfolding remaining
@@ -43,13 +43,6 @@ remaining-below J x i = tabulate-each (λ y. y < 257) 0 (omega arith) _ _ (λ j.
 module _ (s : Shape) (shape : isShape s ≡ true) where
   ranges : Ranges s
   ranges = shape-ranges s shape
-
-  -- the sums of a row end within the 512 that are held
-  pub sums-room : (h : ℕ) → h < s .rows → sumsBefore s h + checksOf s h ≤ 512
-  sums-room h l =
-      let within = total-within (checksOf s) h (s .rows) l in
-      let rows = ranges .rows-most in
-      omega (arith, total-bound (s .rows) 64 (checksOf s) (λ h l. ranges .checks h l .most))
 
   pub left-most : (D : Declared) (h : ℕ) → h < s .rows → checksLeft s D h ≤ 64
   left-most D h l = let m = ranges .checks h l .most in omega arith
@@ -91,16 +84,12 @@ module _ (s : Shape) (D : Declared) (sums : List ℕ) where
   }
 
   module _ (shape : isShape s ≡ true) (sized : length sums ≡ 512) where
-    length-part : (h : ℕ) → h < s .rows → length (partOf s sums h) ≡ checksOf s h
-    length-part h l =
-        length-take-le (checksOf s h) (drop (sumsBefore s h) sums) (let r = sums-room s shape h l in omega (arith, length-drop (sumsBefore s h) sums))
-
     length-left : (h : ℕ) → h < s .rows → length (leftOf h) ≡ checksLeft s D h
-    length-left h l = length-remaining (D h) (partOf s sums h) ∙ ap (λ (n : ℕ). n - length (members (D h))) (length-part h l)
+    length-left h l = length-remaining (D h) (partOf s sums h) ∙ ap (λ (n : ℕ). n - length (members (D h))) (length-part s shape sums sized h l)
 
     left-at : (h : ℕ) → h < s .rows → getD (allRemaining s D (heldSequences s sums)) h [] ≡ leftOf h
-    unfolding allRemaining heldSequences
-    left-at h l = getD-tabulate (s .rows) _ h [] l ∙ ap (remaining (D h)) (getD-tabulate (s .rows) _ h [] l)
+    unfolding allRemaining
+    left-at h l = getD-tabulate (s .rows) _ h [] l ∙ ap (remaining (D h)) (part-held s sums h l)
 
     module _ (h at count : ℕ) (lengths symbols : List ℕ) (a : LeftBefore h at count lengths symbols) (l : h < s .rows) where
       pub row-room : declarable s D ≡ true → RowRoom h at count
@@ -135,14 +124,11 @@ module _ (s : Shape) (D : Declared) (sums : List ℕ) where
             (let z = a .counted .size in let r = shape-ranges s shape .rows-most in omega arith) left;
         appended =
             appended-more 512 leftOf h count (count + (c - n)) symbols y (a .appended) (ap (λ (k : ℕ). count + k) (left ∙ sym (length-left h l))) room
-            (written ∙ ap₂ remaining same part);
+            (written ∙ ap₂ remaining same (part-lent s sums h at c (a .sums-passed) e));
       }
         where
           left : c - n ≡ checksLeft s D h
           left = ap₂ _-_ e (m ∙ ap (λ (K : Columns). length (members K)) same)
-
-          part : midOf at (at + c - at) sums ≡ partOf s sums h
-          part = ap₂ (λ (k p : ℕ). take k (drop p sums)) (let q : at + c - at ≡ checksOf s h = omega arith in q) (a .sums-passed)
 
     -- where what is left of a row begins
     before-left : (h : ℕ) → h ≤ s .rows → length (joined (tabulate h leftOf)) ≡ total h (checksLeft s D)
