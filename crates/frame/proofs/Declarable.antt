@@ -136,8 +136,7 @@ module _ (s : Shape) (D : Declared) (f : List ℕ) where
 
   pub well-formed-read : WellFormedRead s D f → Pass (readTests s D f)
   well-formed-read w =
-      none-pass (readTests s D f) (readReasons s D f) read-says
-      (
+      none-pass (readTests s D f) (readReasons s D f) read-says (
         (λ n. n (w .size)),
         (
           w .declared,
