@@ -18,7 +18,7 @@ use Rattle.algebra.proofs.Sums.{sum-ext}
 use Rattle.columns.specs.Columns.{has, either, members}
 use Rattle.columns.specs.Listed.{count}
 use Rattle.columns.specs.declared.Columns.{Columns}
-use Rattle.columns.proofs.Either.{has-either, size-apart}
+use Rattle.columns.proofs.Joined.{has-either, size-apart}
 use Rattle.columns.proofs.Listing.{by-test, count-lt, length-listed, listed-at}
 use Rattle.decoding.specs.Locating.{sizeOf, tapsOf, namedColumns, namesAll}
 use Rattle.decoding.specs.Remaining.{remaining}

@@ -14,7 +14,7 @@ use borrow.Author.Tests.{lt-ltb, le-ltb, leb-true}
 use Rattle.columns.specs.Columns.{has, either}
 use Rattle.columns.specs.Listed.{count}
 use Rattle.columns.specs.declared.Columns.{Columns}
-use Rattle.columns.proofs.Either.{has-either, either-neither, size-either}
+use Rattle.columns.proofs.Joined.{has-either, either-neither, size-either}
 use Rattle.columns.proofs.Listing.{by-test}
 use Rattle.columns.proofs.Marks.{columnsOf-ext}
 use Rattle.columns.proofs.Subset.{Within, within-le, within-same}
