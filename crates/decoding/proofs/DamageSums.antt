@@ -1,21 +1,14 @@
 -- The check sums of a frame f are the power sums of its difference from a codeword g.
 use mathlib.Core.Path.{_≡_, sym, ap, _∙_}
-use mathlib.Core.Bool.{true}
 use mathlib.Core.List.{List}
 use Prim.Native.Nat.{ℕ, _≤_, _<_}
-use native.Mathlib.Omega.{arith}
-use lib.ListN.{length}
 use Rattle.algebra.specs.Ring.{CRing}
 use Rattle.algebra.proofs.RingLaws.{neg-zero}
-use Rattle.decoding.specs.Locating.{sizeOf}
-use Rattle.frame.proofs.HeldSums.{length-sequences}
-use Rattle.decoding.proofs.FrameSums.{sums, error, error-sums, same-cell-error, codeword-sums, sequence-length, sequence-sums}
-use Rattle.decoding.proofs.PowerSums.{PowerSums, size-at-most}
+use Rattle.decoding.proofs.FrameSums.{sums, error, error-sums, codeword-sums}
 use Rattle.decoding.proofs.Recurrence.{powerSum}
-use Rattle.frame.specs.Frame.{sequences, Codeword, differs, distance}
-use Rattle.frame.specs.Shape.{isShape, checksOf}
+use Rattle.frame.specs.Frame.{Codeword}
+use Rattle.frame.specs.Shape.{checksOf}
 use Rattle.frame.specs.declared.Shape.{Shape}
-use Rattle.frame.proofs.Distances.{agree}
 use Rattle.field257.proofs.Field257.{R257, locatorAt}
 open CRing R257 using (add as _⊕_, neg, add-zero)
 

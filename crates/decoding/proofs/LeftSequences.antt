@@ -1,7 +1,7 @@
 -- The sequences that are left of a frame with declared cells. They are the power sums of its difference from a codeword in the undeclared cells: the cells
 -- that are declared have no weight in them.
 use mathlib.Core.Path.{_≡_, sym, ap, _∙_}
-use mathlib.Core.Bool.{Bool, true, false}
+use mathlib.Core.Bool.{true, false}
 use mathlib.Core.List.{List, []}
 use mathlib.Core.Logic.{_⊎_, inl, inr}
 use Prim.Native.Nat.{ℕ, _-_, _*_, _≤_, _<_}
@@ -20,7 +20,7 @@ use Rattle.decoding.proofs.RemainingSums.{leftWeight, leftWeight-zero, 
 use Rattle.field257.proofs.Field257.{F257, R257, res257}
 use Rattle.frame.specs.DeclaredCells.{Declared, erasures, checksLeft, asRead, differsRead}
 use Rattle.frame.specs.Frame.{cell, sequences, Codeword}
-use Rattle.frame.specs.Shape.{isShape, checksOf}
+use Rattle.frame.specs.Shape.{isShape}
 use Rattle.frame.specs.declared.Shape.{Shape}
 use Rattle.frame.proofs.Distances.{agree}
 use Rattle.frame.proofs.ReadFrames.{read-kept}

@@ -14,4 +14,5 @@ pub mod RemainingSums
 pub mod SameRead
 pub mod Searching
 pub mod SequenceRegister
+pub mod SetsApart
 pub mod SoleNearest

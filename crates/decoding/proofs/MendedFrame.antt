@@ -10,7 +10,7 @@ use native.Mathlib.Omega.{arith}
 use lib.ListN.{length, getD}
 use borrow.Author.Tests.{eqb-true, eq-eqb}
 use Rattle.columns.specs.Columns.{has, either}
-use Rattle.columns.proofs.Either.{either-neither, either-below}
+use Rattle.columns.proofs.Joined.{either-neither, either-below}
 use Rattle.columns.specs.declared.Columns.{Columns}
 use Rattle.decoding.specs.Remaining.{remaining, sumsRead, completable, mended}
 use Rattle.decoding.proofs.CompletedRows.{row-codeword, codeword-row}

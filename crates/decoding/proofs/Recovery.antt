@@ -2,11 +2,11 @@
 -- damage of every column, and no row has fewer than w checks left, the register of f is alone and has length w, and the mended frame is g.
 use mathlib.Core.Path.{_≡_, sym, _∙_}
 use mathlib.Core.Bool.{true, false}
-use mathlib.Core.List.{List, []}
+use mathlib.Core.List.{List}
 use mathlib.Core.Logic.{_⊎_, inl, inr}
 use Prim.Native.Nat.{ℕ, _+_, _*_, _≤_, _<_}
 use native.Mathlib.Omega.{arith}
-use lib.ListN.{length, getD}
+use lib.ListN.{length}
 use borrow.Author.Tests.{le-leb}
 use Rattle.columns.specs.Columns.{has}
 use Rattle.columns.proofs.Listing.{by-test}

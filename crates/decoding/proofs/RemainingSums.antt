@@ -9,7 +9,7 @@ use native.Mathlib.Omega.{arith}
 use lib.Dec.{lit<}
 use lib.ListN.{length, getD}
 use Rattle.algebra.specs.Ring.{CRing, Field}
-use Rattle.algebra.specs.Sum.{sum, pow}
+use Rattle.algebra.specs.Sum.{pow}
 use Rattle.algebra.specs.Polynomial.{Degree, conv, eval}
 use Rattle.algebra.proofs.Convolution.{conv-degree}
 use Rattle.algebra.proofs.Evaluation.{evaluation}

@@ -6,7 +6,7 @@ use mathlib.Core.List.{List}
 use Prim.Native.Nat.{ℕ}
 use Rattle.columns.specs.Columns.{either}
 use Rattle.columns.specs.declared.Columns.{Columns}
-use Rattle.columns.proofs.Either.{either-below}
+use Rattle.columns.proofs.Joined.{either-below}
 use Rattle.decoding.specs.Remaining.{sumsRead, mended}
 use Rattle.decoding.proofs.MendedFrame.{Read, cell-below, mended-size, mended-kept, mended-zeros, mended-well-formed}
 use Rattle.frame.specs.Frame.{heldSums, heldSequences}

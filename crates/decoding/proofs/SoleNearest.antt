@@ -14,7 +14,7 @@ use borrow.Author.Tests.{lt-ltb, le-ltb, leb-true, le-leb}
 use Rattle.columns.specs.Columns.{has, either}
 use Rattle.columns.specs.Listed.{count}
 use Rattle.columns.specs.declared.Columns.{Columns}
-use Rattle.columns.proofs.Either.{has-either, either-neither, size-either}
+use Rattle.columns.proofs.Joined.{has-either, either-neither, size-either}
 use Rattle.columns.proofs.Listing.{by-test}
 use Rattle.columns.proofs.Marks.{columnsOf-ext}
 use Rattle.columns.proofs.Subset.{Within, within-le, within-same}
@@ -27,7 +27,7 @@ use Rattle.decoding.proofs.PowerSums.{size-at-most, names-P, names-enou
 use Rattle.decoding.proofs.SequenceRegister.{generator-of}
 use Rattle.frame.specs.DeclaredCells.{Declared, checksLeft, asRead, differsRead, distanceRead, differingRead}
 use Rattle.frame.specs.Frame.{cell, Codeword, Legal, differs, distance, differing}
-use Rattle.frame.specs.Shape.{isShape, checksOf}
+use Rattle.frame.specs.Shape.{isShape}
 use Rattle.frame.specs.declared.Shape.{Shape}
 use Rattle.frame.proofs.Distances.{agreeing}
 use Rattle.frame.proofs.ReadFrames.{read-declared, read-kept}

@@ -7,9 +7,9 @@ use mathlib.Core.Bool.{Bool, true, false, not, _&&_, _||_, and-eq-true-iff, fals
 use Prim.Native.Nat.{ℕ, _*_, _≤_, _<_}
 use native.Mathlib.Decide.{decLt, ℕ-discrete}
 use native.Mathlib.Omega.{arith}
-use lib.Dec.{ltb, leb, eqb}
+use lib.Dec.{ltb, leb}
 use lib.ListN.{length}
-use borrow.Author.Tests.{ltb-true, ltb-false, leb-true, leb-false, eqb-true, eqb-false, le-ltb, not-false}
+use borrow.Author.Tests.{ltb-true, ltb-false, leb-true, leb-false, le-ltb, not-false}
 use Rattle.columns.specs.Columns.{has, Sound}
 use Rattle.columns.proofs.Marks.{has-past}
 use Rattle.lists.specs.Tabulate.{every}
