@@ -7,7 +7,6 @@ use Prim.Native.Nat.{ℕ, zero, suc, _-_, _≤_, _<_}
 use native.Mathlib.Omega.{arith}
 use lib.ListN.{length, getD}
 use Rattle.algebra.specs.Ring.{CRing}
-use Rattle.algebra.specs.Sum.{sum, pow}
 use Rattle.algebra.specs.Polynomial.{conv}
 use Rattle.algebra.proofs.Convolution.{conv-ext, conv-add-right, conv-degree}
 use Rattle.algebra.proofs.RingLaws.{mul-zero}
@@ -16,28 +15,24 @@ use Rattle.algebra.proofs.Sums.{sum-zeros}
 use Rattle.columns.specs.Columns.{has}
 use Rattle.columns.specs.declared.Columns.{Columns}
 use Rattle.decoding.specs.Remaining.{remaining}
-use Rattle.decoding.proofs.FrameSums.{columns-distinct, columns-nonzero, sums, error, error-sums, same-cell-error, res-sums, sequence-length, sequence-symbol}
-use Rattle.decoding.proofs.PowerSums.{entries}
-use Rattle.decoding.proofs.Recurrence.{roots-generate, zeros-go-on}
+use Rattle.decoding.proofs.FrameSums.{sums, error, error-sums, same-cell-error, res-sums, sequence-length, sequence-sums}
+use Rattle.decoding.proofs.NamedColumns.{columns-distinct, columns-nonzero}
+use Rattle.decoding.proofs.Recurrence.{powerSum, roots-generate, zeros-go-on}
+use Rattle.decoding.proofs.RegisterPolynomial.{entries}
 use Rattle.decoding.proofs.RemainingSums.{product-same, none-left, left-none}
 use Rattle.field.proofs.Bridge.{res-zero}
 use Rattle.field.proofs.Prime257.{prime-257}
 use Rattle.frame.specs.Frame.{row, cell, checkSum, sequences}
 use Rattle.frame.specs.Shape.{isShape, checksOf}
 use Rattle.frame.specs.declared.Shape.{Shape}
-use Rattle.field257.proofs.Field257.{F257, R257, res257}
-use Rattle.frame.proofs.Locators.{locatorAt}
+use Rattle.field257.proofs.Field257.{F257, R257, res257, locatorAt}
 use Rattle.field257.proofs.Members.{size}
-use Rattle.frame.proofs.SetLocator.{setLocator, set-locator-degree, set-locator-constant, set-locator-root}
+use Rattle.field257.proofs.SetLocator.{setLocator, set-locator-degree, set-locator-constant, set-locator-root}
 use Rattle.frame.proofs.Shapes.{shape-ranges}
 open CRing R257 using (car, zero as 𝟘, add as _⊕_, mul as _⊗_, neg, add-zero)
 
 infixl 60 _⊕_
 infixl 70 _⊗_
-pub entries-sums : (s : Shape) (f : List ℕ) (h : ℕ) → h < s .rows → (j : ℕ) → 1 ≤ j → j ≤ checksOf s h
-    → entries (getD (sequences s f) h []) j ≡ sums (s .columns) f h j
-entries-sums s f h below j one within = ap res257 (sequence-symbol s f h below j one within) ∙ res-sums (s .columns) f h j one
-
 module _ (s : Shape) (shape : isShape s ≡ true) (f e : List ℕ) (h : ℕ) (below : h < s .rows) (J : Columns)
     (kept : (i : ℕ) → i < s .columns → has J i ≡ false → cell (s .columns) e h i ≡ cell (s .columns) f h i) where
   abbrev n : ℕ
@@ -47,15 +42,14 @@ module _ (s : Shape) (shape : isShape s ≡ true) (f e : List ℕ) (h : ℕ) (be
   narrow = shape-ranges s shape .columns-most
 
   errors : ℕ → car
-  errors j = sum R257 n (λ i. error n f e h i ⊗ pow R257 (locatorAt i) j)
+  errors = powerSum R257 n locatorAt (error n f e h)
 
   errors-generated : (j : ℕ) → size J < j → conv R257 (setLocator J) errors j ≡ 𝟘
   unfolding errors
   errors-generated j after =
-      roots-generate F257 n locatorAt (columns-distinct s shape) (columns-nonzero s shape) (has J) (error n f e h) errors
-      (λ i inside out. same-cell-error n f e h i (sym (kept i inside out)))
-      j (λ k _ _. refl) (size J) (setLocator J) (set-locator-degree J)
-      (λ i inside mem. let few = narrow in set-locator-root J i (omega arith) mem) j after (omega arith)
+      roots-generate F257 n locatorAt (columns-distinct s shape) (columns-nonzero s shape) (has J) (error n f e h)
+      (λ i inside out. same-cell-error n f e h i (sym (kept i inside out))) (size J) (setLocator J) (set-locator-degree J)
+      (λ i inside mem. let few = narrow in set-locator-root J i (omega arith) mem) j after
 
   -- the products of the locator polynomial with the sums of both are the same
   same-products : (j : ℕ) → size J < j → conv R257 (setLocator J) (sums n e h) j ≡ conv R257 (setLocator J) (sums n f h) j
@@ -76,7 +70,7 @@ module _ (s : Shape) (shape : isShape s ≡ true) (f e : List ℕ) (h : ℕ) (be
       zeros-go-on R257 (size J) (checksOf s h) (setLocator J) (sums n e h) (set-locator-degree J) (set-locator-constant J) start (λ j after within.
       same-products j after
       ∙ sym (product-same (size J) (setLocator J) (entries (getD (sequences s f) h [])) (sums n f h) (set-locator-degree J) j after
-      (λ k one low. entries-sums s f h below k one (omega arith)))
+      (λ k one low. sequence-sums s f h below k one (let q = seq-length in omega arith)))
       ∙ none-left J (getD (sequences s f) h []) nothing j after (let q = seq-length in omega arith))
     where
       start : (j : ℕ) → 1 ≤ j → j ≤ size J → sums n e h j ≡ 𝟘
@@ -89,7 +83,7 @@ module _ (s : Shape) (shape : isShape s ≡ true) (f e : List ℕ) (h : ℕ) (be
       left-none J (getD (sequences s f) h []) (λ j after within.
       let inside : j ≤ checksOf s h = (let q = seq-length in omega arith) in
       product-same (size J) (setLocator J) (entries (getD (sequences s f) h [])) (sums n f h) (set-locator-degree J) j after
-      (λ k one low. entries-sums s f h below k one (omega arith))
+      (λ k one low. sequence-sums s f h below k one (let q = seq-length in omega arith))
       ∙ sym (same-products j after)
       ∙ conv-degree R257 (size J) (setLocator J) (sums n e h) j (set-locator-degree J) (omega arith)
       ∙ sum-zeros R257 (suc (size J)) _ (λ i few.

@@ -4,27 +4,31 @@ use mathlib.Core.Path.{_≡_, sym, _∙_}
 use mathlib.Core.Bool.{true, false}
 use mathlib.Core.List.{List, []}
 use mathlib.Core.Logic.{inl, inr, _↔_}
-use Prim.Native.Nat.{ℕ, suc, _*_, _≤_, _<_}
+use Prim.Native.Nat.{ℕ, suc, _+_, _*_, _≤_, _<_}
 use native.Mathlib.Decide.{decLt}
 use native.Mathlib.Omega.{arith}
 use lib.ListN.{length, getD}
 use borrow.Author.Tests.{eqb-true, eq-eqb}
-use Rattle.columns.specs.Columns.{has}
+use Rattle.columns.specs.Columns.{has, either}
+use Rattle.columns.proofs.Joined.{either-neither, either-below}
 use Rattle.columns.specs.declared.Columns.{Columns}
 use Rattle.decoding.specs.Remaining.{remaining, sumsRead, completable, mended}
 use Rattle.decoding.proofs.CompletedRows.{row-codeword, codeword-row}
 use Rattle.decoding.proofs.FrameSums.{codeword-sums, sums-codeword}
-use Rattle.decoding.proofs.RepairedFrame.{cell-below}
 use Rattle.frame.specs.Frame.{row, cell, checkSum, WellFormed, Codeword, Legal}
-use Rattle.frame.specs.DeclaredCells.{Declared, erasures, either, asRead, WellFormedRead}
+use Rattle.frame.specs.DeclaredCells.{Declared, erasures, asRead, WellFormedRead}
 use Rattle.frame.specs.Shape.{isShape, checksOf}
 use Rattle.frame.specs.declared.Shape.{Shape}
 use Rattle.frame.proofs.CompletedFrames.{length-completedFrame, completedFrame-kept, completedFrame-below, completedFrame-sums, completedFrame-only}
 use Rattle.field257.proofs.Members.{size, Below}
-use Rattle.frame.proofs.ReadFrames.{read-kept, either-neither, either-below}
-use Rattle.frame.proofs.Rows.{each-symbol}
+use Rattle.frame.proofs.ReadFrames.{read-kept}
+use Rattle.frame.proofs.Rows.{cell-place, each-symbol}
 use Rattle.frame.proofs.Shapes.{shape-ranges}
 use Rattle.lists.proofs.Tabulated.{every-at, every-of}
+
+pub cell-below : (s : Shape) (f : List ℕ) → WellFormed s f → (h i : ℕ) → h < s .rows → i < s .columns → cell (s .columns) f h i < 257
+cell-below s f well-formed h i below inside =
+    well-formed .symbols (h * s .columns + i) (omega (arith, cell-place (s .columns) (s .rows) h i below inside, well-formed .size))
 
 -- what is known where none of 7, 31 and 4 falls
 pub record Read (s : Shape) (D : Declared) (f : List ℕ) : Type 0 where

@@ -1,6 +1,6 @@
 -- What is left of a row's check sums when the cells of a set J are taken out: the product with the locator polynomial of J. Power sums of a word become power
 -- sums of the word with other weights, which are 0 exactly in J.
-use mathlib.Core.Path.{_≡_, sym, ap, _∙_}
+use mathlib.Core.Path.{_≡_, refl, sym, ap, _∙_}
 use mathlib.Core.Logic.{_≢_}
 use mathlib.Core.Bool.{true, false}
 use mathlib.Core.List.{List, [], _∷_}
@@ -9,7 +9,7 @@ use native.Mathlib.Omega.{arith}
 use lib.Dec.{lit<}
 use lib.ListN.{length, getD}
 use Rattle.algebra.specs.Ring.{CRing, Field}
-use Rattle.algebra.specs.Sum.{sum, pow}
+use Rattle.algebra.specs.Sum.{pow}
 use Rattle.algebra.specs.Polynomial.{Degree, conv, eval}
 use Rattle.algebra.proofs.Convolution.{conv-degree}
 use Rattle.algebra.proofs.Evaluation.{evaluation}
@@ -21,15 +21,16 @@ use Rattle.algebra.proofs.Sums.{sum-ext}
 use Rattle.columns.specs.Columns.{has, members}
 use Rattle.columns.specs.declared.Columns.{Columns}
 use Rattle.decoding.specs.Remaining.{remaining}
-use Rattle.decoding.proofs.PowerSums.{entries, res-discrepancy}
+use Rattle.decoding.proofs.Recurrence.{powerSum}
+use Rattle.decoding.proofs.RegisterPolynomial.{Symbols, entries, res-discrepancy}
 use Rattle.field.proofs.Bridge.{res-zero}
 use Rattle.field.proofs.Prime257.{prime-257}
-use Rattle.frame.specs.Completion.{locatorPolynomial}
-use Rattle.field257.proofs.Field257.{F257, R257, res257, res-tells-zero}
+use Rattle.field257.specs.LocatorPolynomial.{locatorPolynomial}
+use Rattle.field257.proofs.Field257.{F257, R257, res257, res-tells-zero, locatorAt}
 use Rattle.field257.proofs.LocatorPolynomial.{length-locatorPolynomial}
 use Rattle.field257.proofs.Locators.{locator-nonzero}
 use Rattle.field257.proofs.Members.{size}
-use Rattle.frame.proofs.SetLocator.{setLocator, set-locator-degree, set-locator-root, set-locator-no-root}
+use Rattle.field257.proofs.SetLocator.{setLocator, set-locator-degree, set-locator-root, set-locator-no-root}
 use Rattle.lists.proofs.Joined.{tabulate-each}
 use Rattle.lists.proofs.Tabulated.{length-tabulate, getD-tabulate}
 use Rattle.register.specs.Register.{discrepancy}
@@ -81,7 +82,8 @@ module _ (J : Columns) (x : List ℕ) where
       → entries (remaining J x) j ≡ conv R257 (setLocator J) (entries x) (size J + j)
   remaining-product j one within =
       ap res257 (remaining-symbol j one within)
-      ∙ res-discrepancy (size J) (locatorPolynomial (members J)) (length-locatorPolynomial (members J)) x (size J + j) (omega arith)
+      ∙ res-discrepancy (size J) (locatorPolynomial (members J)) (length-locatorPolynomial (members J)) x (entries x) (λ _ _ _. refl) (size J + j) (omega arith)
+      (omega arith)
 
   -- nothing is left exactly where the locator polynomial generates the sums
   pub none-left : ((j : ℕ) → j < length (remaining J x) → getD (remaining J x) j 0 ≡ 0)
@@ -102,11 +104,10 @@ module _ (J : Columns) (x : List ℕ) where
 
   -- power sums stay power sums
   pub remaining-power : (n : ℕ) (w : ℕ → car)
-      → ((j : ℕ) → 1 ≤ j → j ≤ length x → entries x j ≡ sum R257 n (λ i. w i ⊗ pow R257 (locatorAt i) j))
-      → (j : ℕ) → 1 ≤ j → j ≤ length x - size J
-      → entries (remaining J x) j ≡ sum R257 n (λ i. w i ⊗ leftWeight J i ⊗ pow R257 (locatorAt i) j)
+      → Symbols x (powerSum R257 n locatorAt w) → Symbols (remaining J x) (powerSum R257 n locatorAt (λ i. w i ⊗ leftWeight J i))
   unfolding leftWeight
-  remaining-power n w sums j one within =
+  remaining-power n w sums j one inside =
+      let within : j ≤ length x - size J = (let e = length-remaining in omega arith) in
       remaining-product j one within
       ∙ evaluation R257 n (size J) w locatorAt (λ i. inv (locatorAt i)) (setLocator J) (entries x) (λ i _. mul-inv (locatorAt i) (locator-nonzero i))
       (set-locator-degree J) (size J + j) (omega arith) (λ k near below. sums k (omega arith) (omega arith))

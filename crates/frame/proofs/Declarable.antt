@@ -7,9 +7,9 @@ use mathlib.Core.Bool.{Bool, true, false, not, _&&_, _||_, and-eq-true-iff, fals
 use Prim.Native.Nat.{ℕ, _*_, _≤_, _<_}
 use native.Mathlib.Decide.{decLt, ℕ-discrete}
 use native.Mathlib.Omega.{arith}
-use lib.Dec.{ltb, leb, eqb}
+use lib.Dec.{ltb, leb}
 use lib.ListN.{length}
-use borrow.Author.Tests.{ltb-true, ltb-false, leb-true, leb-false, eqb-true, eqb-false, le-ltb, not-false}
+use borrow.Author.Tests.{ltb-true, ltb-false, leb-true, leb-false, le-ltb, not-false}
 use Rattle.columns.specs.Columns.{has, Sound}
 use Rattle.columns.proofs.Marks.{has-past}
 use Rattle.lists.specs.Tabulate.{every}
@@ -60,11 +60,11 @@ both-false : (a b : Bool) → (a || b) ≡ false → (a ≡ false) × (b ≡ fal
 both-false true b e = absurd (false≢true (sym e))
 both-false false b e = (refl, e)
 
-one-false : (a b : Bool) → (a && b) ≡ false → (a ≡ false) ⊎ (b ≡ false)
+pub one-false : (a b : Bool) → (a && b) ≡ false → (a ≡ false) ⊎ (b ≡ false)
 one-false true b e = inr e
 one-false false b e = inl refl
 
-bad-cells : (s : Shape) (D : Declared) → declarable s D ≡ false → BadCells s D
+pub bad-cells : (s : Shape) (D : Declared) → declarable s D ≡ false → BadCells s D
 unfolding declarable marksInside
 bad-cells s D e = pick (one-false (every 8 (marksInside s D)) _ e)
   where
@@ -136,8 +136,7 @@ module _ (s : Shape) (D : Declared) (f : List ℕ) where
 
   pub well-formed-read : WellFormedRead s D f → Pass (readTests s D f)
   well-formed-read w =
-      none-pass (readTests s D f) (readReasons s D f) read-says
-      (
+      none-pass (readTests s D f) (readReasons s D f) read-says (
         (λ n. n (w .size)),
         (
           w .declared,

@@ -4,6 +4,7 @@ pub mod Cases
 pub mod Demands
 pub mod Emptiness
 pub mod Forms
+pub mod GoingBack
 pub mod LastShape
 pub mod Left
 pub mod Locating

@@ -1,8 +1,7 @@
--- With nothing declared, frames are read as they stand, nothing is taken out of their sums, and locating and repair are those without declared cells.
+-- With nothing declared, frames are read as they stand, nothing is taken out of their sums, and no row has less than its checks left.
 use mathlib.Core.Path.{_≡_, refl, sym, ap, ap₂, fun-ext, _∙_}
-use mathlib.Core.Bool.{Bool, true, false, _||_, or-false}
+use mathlib.Core.Bool.{true, false}
 use mathlib.Core.List.{List, [], _∷_}
-use mathlib.Core.Logic.{inl}
 use Prim.Native.Nat.{ℕ, suc, _+_, _-_, _*_, _%_, _<_}
 use native.Mathlib.Nat.{mod-eq-of-lt, sub-zero}
 use native.Mathlib.Omega.{arith}
@@ -10,22 +9,22 @@ use lib.Dec.{leb}
 use lib.ListN.{length, getD}
 use Rattle.columns.specs.Columns.{has, members, Sound}
 use Rattle.columns.specs.declared.Columns.{Columns}
+use Rattle.columns.proofs.Joined.{either-none}
 use Rattle.columns.proofs.Listing.{length-listed, count-skip, count-zero}
-use Rattle.columns.proofs.Marks.{columnsOf-ext, columnsOf-has}
-use Rattle.decoding.specs.Locating.{sizeOf, tapsOf, aloneOf, rowsReach, named, namedColumns, namesAll, repaired}
-use Rattle.decoding.specs.Remaining.{remaining, allRemaining, sumsRead, readSequences, sizeOf, tapsOf, aloneOf, leftReach, completable, mended}
-use Rattle.decoding.proofs.FrameRegister.{length-sequences, sequences-below}
-use Rattle.decoding.proofs.LostCells.{apart-completable}
-use Rattle.decoding.proofs.MendedFrame.{Read}
-use Rattle.field.specs.Total.{total}
-use Rattle.frame.specs.Completion.{locatorPolynomial, completed}
+use Rattle.decoding.specs.Locating.{rowsReach}
+use Rattle.decoding.specs.Remaining.{remaining, allRemaining, readSequences, leftReach, mended}
+use Rattle.decoding.proofs.FrameSums.{sequence-below}
+use Rattle.field257.specs.LocatorPolynomial.{locatorPolynomial}
+use Rattle.frame.specs.Completion.{completed}
 use Rattle.frame.specs.Encode.{eachRow}
 use Rattle.frame.specs.Frame.{sequences, distance, differing}
-use Rattle.frame.specs.DeclaredCells.{Declared, erasures, either, distanceRead, differingRead}
+use Rattle.frame.specs.DeclaredCells.{Declared, erasures, distanceRead, differingRead}
 use Rattle.frame.specs.Shape.{isShape, checksOf}
 use Rattle.frame.specs.declared.Shape.{Shape}
 use Rattle.frame.proofs.ReadFrames.{read-none}
+use Rattle.frame.proofs.HeldSums.{length-sequences}
 use Rattle.lists.specs.Tabulate.{tabulate}
+use Rattle.lists.specs.Total.{total}
 use Rattle.lists.proofs.Tabulated.{tabulate-ext, tabulate-getD, every-ext}
 use Rattle.register.specs.Register.{discrepancy}
 
@@ -51,11 +50,6 @@ remaining-none J x none small =
     ∙ tabulate-ext (length x) _ (λ j. getD x j 0) (λ j inside. with-one x j (small j inside))
     ∙ tabulate-getD x 0
 
-either-none : (J K : Columns) → Sound J → ((i : ℕ) → has K i ≡ false) → either J K ≡ J
-unfolding either
-either-none J K sound none =
-    columnsOf-ext (λ i. has J i || has K i) (has J) (λ i _. ap (λ (b : Bool). has J i || b) (none i) ∙ or-false (has J i)) ∙ columnsOf-has J sound
-
 module _ (s : Shape) (shape : isShape s ≡ true) (D : Declared) (none : (h i : ℕ) → has (D h) i ≡ false) where
   no-cells : (h : ℕ) → erasures D h ≡ 0
   no-cells h = ap length (none-listed (D h) (none h))
@@ -64,41 +58,26 @@ module _ (s : Shape) (shape : isShape s ≡ true) (D : Declared) (none : (h i : 
   unfolding leftReach rowsReach
   reach-none c = every-ext (s .rows) _ _ (λ h _. ap (leb c) (ap (λ (m : ℕ). checksOf s h - m) (no-cells h) ∙ sub-zero (checksOf s h)))
 
-  pub mended-none : (M : Columns) (f : List ℕ) → Sound M → mended s D M f ≡ repaired s M f
-  unfolding mended repaired
+  pub mended-none : (M : Columns) (f : List ℕ) → Sound M → mended s D M f ≡ eachRow (s .columns) (λ h. completed (s .columns) M) (s .rows) f
+  unfolding mended
   mended-none M f sound =
-      ap (λ g. eachRow (s .columns) g (s .rows) f) (fun-ext (λ h. ap (completed (s .columns)) (either-none M (D h) sound (none h))))
+      ap (λ g. eachRow (s .columns) g (s .rows) f) (fun-ext (λ h. ap (completed (s .columns)) (either-none M (D h) sound (λ i _. none h i))))
+
+  -- nothing is taken out of sums
+  pub all-remaining-none : (S : List (List ℕ)) → length S ≡ s .rows → ((h j : ℕ) → h < s .rows → getD (getD S h []) j 0 < 257) → allRemaining s D S ≡ S
+  unfolding allRemaining
+  all-remaining-none S rows small =
+      tabulate-ext (s .rows) _ (λ h. getD S h []) (λ h below. remaining-none (D h) (getD S h []) (none h) (λ j _. small h j below))
+      ∙ ap (λ m. tabulate m (λ h. getD S h [])) (sym rows) ∙ tabulate-getD S []
 
   module _ (f : List ℕ) (whole : length f ≡ s .rows * s .columns) where
     pub sequences-none : readSequences s D f ≡ sequences s f
-    unfolding allRemaining
     sequences-none =
         ap (allRemaining s D) (ap (sequences s) (read-none s D f whole none))
-        ∙ tabulate-ext (s .rows) _ (λ h. getD (sequences s f) h []) (λ h below.
-        remaining-none (D h) (getD (sequences s f) h []) (none h)
-        (sequences-below s f h (let q = length-sequences s f in omega arith)))
-        ∙ ap (λ m. tabulate m (λ h. getD (sequences s f) h [])) (sym (length-sequences s f)) ∙ tabulate-getD (sequences s f) []
-
-    pub size-none : sizeOf (readSequences s D f) ≡ sizeOf s f
-    unfolding sizeOf sizeOf
-    size-none = ap sizeOf sequences-none
-
-    pub taps-none : tapsOf (readSequences s D f) ≡ tapsOf s f
-    unfolding tapsOf tapsOf
-    taps-none = ap tapsOf sequences-none
-
-    pub alone-none : aloneOf (readSequences s D f) ≡ aloneOf s f
-    unfolding aloneOf aloneOf
-    alone-none = ap aloneOf sequences-none
+        ∙ all-remaining-none (sequences s f) (length-sequences s f) (λ h j below. sequence-below s f h below j)
 
     pub distance-none : (g : List ℕ) → length g ≡ s .rows * s .columns → distanceRead s D g f ≡ distance s g f
     distance-none g sized = ap₂ (distance s) (read-none s D g sized none) (read-none s D f whole none)
 
     pub differing-none : (g : List ℕ) → length g ≡ s .rows * s .columns → differingRead s D g f ≡ differing s g f
     differing-none g sized = ap₂ (differing s) (read-none s D g sized none) (read-none s D f whole none)
-
-    -- 26 is then the base's: enough columns are named
-    pub completable-none : Read s D f → namesAll s (tapsOf (readSequences s D f)) (sizeOf (readSequences s D f)) ≡ true
-        → leftReach s D (sizeOf (readSequences s D f)) ≡ true
-        → completable s D (namedColumns s (tapsOf (readSequences s D f))) (sumsRead s D f) ≡ true
-    completable-none read enough reaches = apart-completable s shape D f read enough reaches (λ h _. inl (λ i _ _. none h i))
