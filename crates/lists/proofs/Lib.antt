@@ -2,6 +2,7 @@ pub mod BlockSums
 pub mod DataCells
 pub mod Entries
 pub mod Filling
+pub mod Fours
 pub mod Joined
 pub mod Moving
 pub mod Padded
@@ -10,4 +11,5 @@ pub mod Summing
 pub mod Tabulated
 pub mod Testing
 pub mod Totals
+pub mod Truth
 pub mod Zeros
