@@ -2,6 +2,7 @@ pub mod CheckSums
 pub mod ClosedForm
 pub mod CompletedFrames
 pub mod CompletionLaws
+pub mod Declarable
 pub mod Demands
 pub mod Distances
 pub mod Encoding
@@ -13,6 +14,7 @@ pub mod HeldParts
 pub mod HeldSequences
 pub mod HeldSums
 pub mod Others
+pub mod ReadFrames
 pub mod Reasons
 pub mod Remainder
 pub mod RowAlone

@@ -4,6 +4,7 @@ pub mod Entries
 pub mod Filling
 pub mod Fours
 pub mod Joined
+pub mod Mapped
 pub mod Moving
 pub mod Padded
 pub mod Parts
