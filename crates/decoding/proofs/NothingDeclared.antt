@@ -1,16 +1,16 @@
 -- With nothing declared, frames are read as they stand, nothing is taken out of their sums, and no row has less than its checks left.
 use mathlib.Core.Path.{_≡_, refl, sym, ap, ap₂, fun-ext, _∙_}
-use mathlib.Core.Bool.{Bool, true, false, _||_, or-false}
+use mathlib.Core.Bool.{true, false}
 use mathlib.Core.List.{List, [], _∷_}
 use Prim.Native.Nat.{ℕ, suc, _+_, _-_, _*_, _%_, _<_}
 use native.Mathlib.Nat.{mod-eq-of-lt, sub-zero}
 use native.Mathlib.Omega.{arith}
 use lib.Dec.{leb}
 use lib.ListN.{length, getD}
-use Rattle.columns.specs.Columns.{has, either, members, Sound}
+use Rattle.columns.specs.Columns.{has, members, Sound}
 use Rattle.columns.specs.declared.Columns.{Columns}
+use Rattle.columns.proofs.Joined.{either-none}
 use Rattle.columns.proofs.Listing.{length-listed, count-skip, count-zero}
-use Rattle.columns.proofs.Marks.{columnsOf-ext, columnsOf-has}
 use Rattle.decoding.specs.Locating.{rowsReach}
 use Rattle.decoding.specs.Remaining.{remaining, allRemaining, readSequences, leftReach, mended}
 use Rattle.decoding.proofs.FrameSums.{sequence-below}
@@ -50,11 +50,6 @@ remaining-none J x none small =
     ∙ tabulate-ext (length x) _ (λ j. getD x j 0) (λ j inside. with-one x j (small j inside))
     ∙ tabulate-getD x 0
 
-either-none : (J K : Columns) → Sound J → ((i : ℕ) → has K i ≡ false) → either J K ≡ J
-unfolding either
-either-none J K sound none =
-    columnsOf-ext (λ i. has J i || has K i) (has J) (λ i _. ap (λ (b : Bool). has J i || b) (none i) ∙ or-false (has J i)) ∙ columnsOf-has J sound
-
 module _ (s : Shape) (shape : isShape s ≡ true) (D : Declared) (none : (h i : ℕ) → has (D h) i ≡ false) where
   no-cells : (h : ℕ) → erasures D h ≡ 0
   no-cells h = ap length (none-listed (D h) (none h))
@@ -66,7 +61,7 @@ module _ (s : Shape) (shape : isShape s ≡ true) (D : Declared) (none : (h i : 
   pub mended-none : (M : Columns) (f : List ℕ) → Sound M → mended s D M f ≡ eachRow (s .columns) (λ h. completed (s .columns) M) (s .rows) f
   unfolding mended
   mended-none M f sound =
-      ap (λ g. eachRow (s .columns) g (s .rows) f) (fun-ext (λ h. ap (completed (s .columns)) (either-none M (D h) sound (none h))))
+      ap (λ g. eachRow (s .columns) g (s .rows) f) (fun-ext (λ h. ap (completed (s .columns)) (either-none M (D h) sound (λ i _. none h i))))
 
   -- nothing is taken out of sums
   pub all-remaining-none : (S : List (List ℕ)) → length S ≡ s .rows → ((h j : ℕ) → h < s .rows → getD (getD S h []) j 0 < 257) → allRemaining s D S ≡ S
