@@ -65,8 +65,7 @@ all-rows s D most = same-truth _ _ to from
 
     to : every 8 row ≡ true → (every 8 (marksInside s D) && every (s .rows) few) ≡ true
     to e =
-        and-eq-true-iff (every 8 (marksInside s D)) (every (s .rows) few) .1
-        (
+        and-eq-true-iff (every 8 (marksInside s D)) (every (s .rows) few) .1 (
           every-of 8 (marksInside s D) (λ h l. both h l e .0),
           every-of (s .rows) few (λ h l. sym (ap (λ (b : Bool). b || few h) (lt-leb (s .rows) h l)) ∙ both h (omega arith) e .1),
         )
