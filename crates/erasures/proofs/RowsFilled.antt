@@ -26,7 +26,8 @@ use Rattle.frame.proofs.CompletionLaws.{length-completed}
 use Rattle.frame.proofs.Declarable.{good-cells}
 use Rattle.frame.proofs.HeldSums.{length-rowSums}
 use Rattle.frame.proofs.Rows.{cell-place, length-row, row-cell}
-use Rattle.frame.proofs.RowsChanged.{changed-none, changed-all, part-kept}
+use Rattle.frame.proofs.RowsAhead.{row-ahead}
+use Rattle.frame.proofs.RowsChanged.{changed-none, changed-all}
 use Rattle.frame.proofs.RowsCompleted.{RowsCompleted, completed-more}
 use Rattle.lists.proofs.Totals.{total-zero, total-suc}
 
@@ -115,7 +116,7 @@ module _ (s : Shape) (words : List ℕ) (M : Columns) (sums f : List ℕ) (asked
           ap₂ (λ (k p : ℕ). take k (drop p sums)) (let q : at + c - at ≡ checksOf s h = omega arith in q) (a .place) ∙ rows-mendable .held h next
 
       part-row : part ≡ row n f h
-      part-row = part-kept n (s .rows) _ f h l (a .rows) (row-place .inside) (λ k x. length-completed n (either M (D k)) x)
+      part-row = row-ahead n (s .rows) _ (λ k x. length-completed n (either M (D k)) x) f h l (a .rows) (row-place .inside)
 
       pub row-mendable : MendableRow J lent part
       row-mendable =

@@ -25,7 +25,11 @@ fn fill_rows(s: Shape, declared: &[u64; 32], marked: Columns, sums: &[u16], fram
         let to = at + wide(s.checks[h]) as usize;
         let a = h * columns;
         let e = a + columns;
-        mend_row(either(marked, cells_of(declared, h)), &sums[at..to], &mut frame[a..e]);
+        mend_row(
+            either(marked, cells_of(declared, h)),
+            &sums[at..to],
+            &mut frame[a..e],
+        );
         at = to;
         h += 1;
     }
@@ -33,7 +37,14 @@ fn fill_rows(s: Shape, declared: &[u64; 32], marked: Columns, sums: &[u16], fram
 
 // Each row completed at its marked and declared columns, given the check sums that are held of the frame as read. Mending adds to what a cell holds what it reads
 // off the sums, so the declared cells are cleared first.
-pub fn fill(s: Shape, none: bool, declared: &[u64; 32], marked: Columns, sums: &[u16; 512], frame: &mut [u16])
+pub fn fill(
+    s: Shape,
+    none: bool,
+    declared: &[u64; 32],
+    marked: Columns,
+    sums: &[u16; 512],
+    frame: &mut [u16],
+)
     requires { ⌜ Fillable s none (now declared) marked (now sums) (now frame) ⌝ }
     ensures { λ r. ⌜ now (frame .exit) ≡ mended s (declaredBy (now (declared .entry))) marked (now (frame .entry)) ⌝ }
 {

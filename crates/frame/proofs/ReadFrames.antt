@@ -15,7 +15,7 @@ use Rattle.frame.specs.Frame.{row, cell}
 use Rattle.frame.specs.DeclaredCells.{Declared, asRead}
 use Rattle.frame.specs.declared.Shape.{Shape}
 
-length-cleared : (n : ℕ) (J : Columns) (x : List ℕ) → length (cleared n J x) ≡ n
+pub length-cleared : (n : ℕ) (J : Columns) (x : List ℕ) → length (cleared n J x) ≡ n
 unfolding cleared
 length-cleared n J x = length-tabulate n _
 

@@ -16,7 +16,7 @@ use Rattle.frame.specs.declared.Shape.{Shape}
 use Rattle.frame.proofs.CompletionLaws.{length-completed}
 use Rattle.frame.proofs.Rows.{row-cell}
 use Rattle.lists.proofs.Tabulated.{every-at}
-use Rattle.frame.proofs.RowsChanged.{part-kept}
+use Rattle.frame.proofs.RowsAhead.{row-ahead}
 use Rattle.frame.proofs.RowsCompleted.{RowsCompleted}
 
 module _ (s : Shape) (f : List ℕ) (small : dataBelow s f ≡ true) (h : ℕ) (less : h < s .rows) where
@@ -34,7 +34,7 @@ module _ (s : Shape) (f : List ℕ) (small : dataBelow s f ≡ true) (h : ℕ) (
       → (i : ℕ) → checksOf s h ≤ i → i < n → getD (midOf (h * n) (h * n + n - h * n) frame) i 0 < 257
   row-small sets frame a inside i le l =
       let same =
-      ap (λ (x : List ℕ). getD x i 0) (part-kept n (s .rows) _ f h frame a inside (λ h x. length-completed n (sets h) x)) ∙ row-cell n f h i l
+      ap (λ (x : List ℕ). getD x i 0) (row-ahead n (s .rows) _ (λ h x. length-completed n (sets h) x) f h frame a inside) ∙ row-cell n f h i l
       in
       let d = data-small i le l in
       omega arith

@@ -9,7 +9,7 @@ use lib.ListN.{length, take, drop}
 use borrow.Rule.Slice.PartMut.{midOf, putMid, mid-len, same-len-mid}
 use Rattle.frame.specs.Encode.{withRow, eachRow}
 use Rattle.frame.specs.Frame.{row}
-use Rattle.frame.proofs.Rows.{eachRow-zero, eachRow-suc, eachRow-later}
+use Rattle.frame.proofs.Rows.{eachRow-zero, eachRow-suc}
 
 module _ (n rows : ℕ) (change : ℕ → List ℕ → List ℕ) (f : List ℕ) where
   -- the first h rows are changed
@@ -34,12 +34,6 @@ module _ (n rows : ℕ) (change : ℕ → List ℕ → List ℕ) (f : List ℕ) 
 
     pub length-part : length part ≡ n
     length-part = let q = mid-len (h * n) (h * n + n) frame (let s = a .size in omega arith) in omega arith
-
-    -- it is as it was, where every change makes a row of n columns
-    pub part-kept : ((k : ℕ) (x : List ℕ) → length (change k x) ≡ n) → part ≡ row n f h
-    part-kept sized =
-        ap (λ (k : ℕ). take k (drop (h * n) frame)) width ∙ ap (λ (x : List ℕ). row n x h) (a .entries)
-        ∙ eachRow-later n change sized f h (omega arith) h (omega arith) inside
 
     pub changed-more : (y : List ℕ) → h < rows → length y ≡ n → y ≡ change h part
         → RowsChanged (h + 1) (putMid (h * n) (h * n + n - h * n) frame y)

@@ -1,4 +1,5 @@
 pub mod BlockSums
+pub mod Copying
 pub mod DataCells
 pub mod Entries
 pub mod Filling
