@@ -1,131 +1,138 @@
--- A frame filled at its marked and declared columns, row after row: where a row and its check sums lie, that the row can be mended there, and which rows are
--- filled.
+-- The rows of a frame as read completed one after the other, each at its marked and declared columns: the sums of the next row begin where those of the rows before end,
+-- and each row can be mended.
 use mathlib.Core.Path.{_≡_, sym, ap, ap₂, subst⁻¹, _∙_}
+use mathlib.Core.Bool.{true}
 use mathlib.Core.List.{List}
+use mathlib.Core.Logic.{inr}
 use Prim.Native.Nat.{ℕ, _+_, _-_, _*_, _≤_, _<_}
+use native.Mathlib.Decide.{decLt}
 use native.Mathlib.Numerals.{add-one}
 use native.Mathlib.Omega.{arith}
+use lib.Dec.{leb}
 use lib.ListN.{length, getD, take, drop}
+use borrow.Author.Tests.{leb-true}
 use borrow.Rule.Slice.PartMut.{midOf, putMid}
-use Rattle.columns.specs.Columns.{either, members}
+use Rattle.columns.specs.Columns.{has, members, either}
 use Rattle.columns.specs.declared.Columns.{Columns}
 use Rattle.columns.proofs.Joined.{either-below, size-either}
-use Rattle.completion.specs.Mendable.{MendableFrame, MendableRow, MendableRows}
-use Rattle.completion.proofs.ColumnMending.{RowLent, row-lent}
-use Rattle.completion.proofs.MendableFrames.{held-mendable}
-use Rattle.decoding.specs.Remaining.{mended}
-use Rattle.decoding.proofs.MendedFrame.{Read, read-facts}
-use Rattle.decoding.proofs.SoleNearest.{left-reach}
+use Rattle.completion.specs.Mendable.{MendableRow}
+use Rattle.decoding.specs.Remaining.{leftReach, mended}
 use Rattle.erasures.specs.Fillable.{FillableRows}
 use Rattle.frame.specs.Completion.{completed}
-use Rattle.frame.specs.DeclaredCells.{Declared, declaredBy}
-use Rattle.frame.specs.Frame.{checkSums, row, rowSums, sumsBefore}
+use Rattle.frame.specs.DeclaredCells.{Declared, checksLeft, declarable, declaredBy}
+use Rattle.frame.specs.Frame.{row, checkSums, rowSums, heldSums, sumsBefore}
 use Rattle.frame.specs.Shape.{checksOf}
 use Rattle.frame.specs.declared.Shape.{Shape}
 use Rattle.frame.proofs.CompletionLaws.{length-completed}
-use Rattle.frame.proofs.Declarable.{good-cells}
-use Rattle.frame.proofs.HeldSums.{length-rowSums}
-use Rattle.frame.proofs.Rows.{cell-place, length-row, row-cell}
+use Rattle.frame.proofs.Declarable.{good-cells, declared-few}
+use Rattle.frame.proofs.HeldSums.{held-row, held-length, length-rowSums}
+use Rattle.frame.proofs.RowPlace.{RowPlace, row-place}
+use Rattle.frame.proofs.Rows.{row-cell, length-row}
 use Rattle.frame.proofs.RowsAhead.{row-ahead}
 use Rattle.frame.proofs.RowsChanged.{changed-none, changed-all}
 use Rattle.frame.proofs.RowsCompleted.{RowsCompleted, completed-more}
-use Rattle.lists.proofs.Totals.{total-zero, total-suc}
+use Rattle.frame.proofs.Shapes.{shape-ranges}
+use Rattle.lists.proofs.Tabulated.{every-at}
+use Rattle.lists.proofs.Totals.{total-zero, total-suc, total-bound}
 
-module _ (s : Shape) (D : Declared) (M : Columns) (f : List ℕ) where
-  -- h rows are filled, and the sums of row h begin at `at`
-  pub record RowsFilled (h at : ℕ) (l : List ℕ) : Type 0 where
-    pub place : at ≡ sumsBefore s h
-    pub rows : RowsCompleted (s .columns) (s .rows) (λ k. either M (D k)) f h l
-
-  pub filled-none : RowsFilled 0 0 f
-  filled-none = record { place = sym (total-zero (checksOf s)); rows = changed-none _ _ _ _ }
-
-  pub filled-all : (h at : ℕ) (l : List ℕ) → RowsFilled h at l → s .rows ≤ h → l ≡ mended s D M f
-  unfolding mended
-  filled-all h at l a le = changed-all _ _ _ _ h l (a .rows) le
-
-module _ (s : Shape) (words : List ℕ) (M : Columns) (sums f : List ℕ) (asked : FillableRows s words M sums f) where
-  abbrev D : Declared
-  D = declaredBy words
-
+module _ (s : Shape) (declared : List ℕ) (M : Columns) (sums f : List ℕ) where
   abbrev n : ℕ
   n = s .columns
 
-  read : Read s D f
-  read =
-      read-facts s (asked .shape) D f (record {
-        size = asked .whole;
-        declared = good-cells s D (asked .declarable);
-        symbols = λ h i r c _. asked .small (h * n + i) (omega (arith, cell-place n (s .rows) h i r c, asked .whole));
-      })
+  abbrev D : Declared
+  D = declaredBy declared
 
-  -- it can be mended at the marked columns alone
-  pub marked-mendable : MendableFrame s M sums f
-  marked-mendable = record {
-    shape = asked .shape;
-    whole = asked .whole;
-    small = asked .small;
-    held = asked .held;
-    below = asked .below;
-    reach = λ h l. omega (arith, left-reach s D (length (members M)) (asked .reach) h l);
-  }
+  -- h rows are filled, and the sums of row h begin at `at`
+  pub record RowsFilled (h at : ℕ) (frame : List ℕ) : Type 0 where
+    pub place : at ≡ sumsBefore s h
+    pub rows : RowsCompleted (s .columns) (s .rows) (λ h. either M (declaredBy declared h)) f h frame
 
-  rows-mendable : MendableRows s M sums f
-  rows-mendable = held-mendable s M sums f marked-mendable
+  pub filled-none : RowsFilled 0 0 f
+  filled-none = record { place = sym (total-zero (checksOf s)); rows = changed-none _ _ _ f }
 
-  module _ (h : ℕ) (next : h < s .rows) where
-    pub row-place : RowLent s sums f h
-    row-place = row-lent s sums f h (rows-mendable .lent) next
+  pub filled-all : (h at : ℕ) (frame : List ℕ) → RowsFilled h at frame → s .rows ≤ h → frame ≡ mended s (declaredBy declared) M f
+  unfolding mended
+  filled-all h at frame a le = changed-all _ _ _ f h frame (a .rows) le
 
-    width : length (row n f h) ≡ n
-    width = length-row n f h (row-place .inside)
+  module _ (asked : FillableRows s declared M sums f) (h at : ℕ) (frame : List ℕ) (a : RowsFilled h at frame) (less : h < s .rows) where
+    -- where the row lies
+    pub place-of : RowPlace s (length f) h
+    place-of = row-place s (length f) h (asked .shape) (asked .whole) less
 
-    -- row h, with its sums, can be mended at its marked and declared columns
-    row-fillable : MendableRow (either M (D h)) (rowSums s f h) (row n f h)
-    unfolding rowSums
-    row-fillable = record {
-      narrow = (let w = row-place .wide in omega (arith, width));
-      small = λ k l.
-          subst⁻¹ (λ (x : ℕ). x < 257) (row-cell n f h k (omega (arith, width)))
-          (asked .small (h * n + k) (let p = row-place .inside in omega (arith, width)));
-      few = (let m = row-place .checks-most in omega (arith, length-rowSums s f h));
-      held = sym (ap₂ (λ (k m : ℕ). checkSums k m (row n f h)) width (length-rowSums s f h));
-      below = λ i e.
-          let b = either-below M (D h) n (λ i _. asked .below i) (λ i. read .inside h i next) i e in
-          omega (arith, width);
-      reach =
-          omega (
-            arith,
-            length-rowSums s f h,
-            size-either M (D h),
-            left-reach s D (length (members M)) (asked .reach) h next,
-            read .few h next,
-          );
-    }
+    -- its sums end within those that are held
+    pub sums-end : at + checksOf s h ≤ 512
+    sums-end =
+        let r = shape-ranges s (asked .shape) in
+        let rows = r .rows-most in
+        let before = total-bound h 64 (checksOf s) (λ k b. r .checks k (omega arith) .most) in
+        let most = r .checks h less .most in
+        let begins = a .place in
+        omega arith
 
-    -- the row as it is lent, with c sums from place `at` on and the set J
-    module _ (at : ℕ) (l : List ℕ) (a : RowsFilled s D M f h at l) (c : ℕ) (J : Columns) (e : c ≡ checksOf s h) (same : J ≡ either M (D h)) where
+    pub sums-long : length sums ≡ 512
+    sums-long = ap length (asked .held) ∙ held-length s f (asked .shape)
+
+    module _ (count : ℕ) (c : count ≡ checksOf s h) where
       abbrev lent : List ℕ
-      lent = midOf at (at + c - at) sums
+      lent = midOf (h * n) (h * n + n - h * n) frame
 
-      abbrev part : List ℕ
-      part = midOf (h * n) (h * n + n - h * n) l
+      abbrev lent-sums : List ℕ
+      lent-sums = midOf at (at + count - at) sums
 
-      lent-sums : lent ≡ rowSums s f h
-      lent-sums =
-          ap₂ (λ (k p : ℕ). take k (drop p sums)) (let q : at + c - at ≡ checksOf s h = omega arith in q) (a .place) ∙ rows-mendable .held h next
+      is-row : lent ≡ row n f h
+      is-row = row-ahead n (s .rows) _ (λ h x. length-completed n _ x) f h frame (a .rows) (place-of .inside)
 
-      part-row : part ≡ row n f h
-      part-row = row-ahead n (s .rows) _ (λ k x. length-completed n (either M (D k)) x) f h l (a .rows) (row-place .inside)
+      are-sums : lent-sums ≡ rowSums s f h
+      are-sums =
+          ap₂ (λ (k m : ℕ). take k (drop m sums)) (let q : at + count - at ≡ checksOf s h = omega arith in q) (a .place)
+          ∙ ap (λ (l : List ℕ). take (checksOf s h) (drop (sumsBefore s h) l)) (asked .held) ∙ held-row s f h less
 
-      pub row-mendable : MendableRow J lent part
-      row-mendable =
-          subst⁻¹ (λ (K : Columns). MendableRow K lent part) same
-          (subst⁻¹ (λ (x : List ℕ). MendableRow (either M (D h)) x part) lent-sums
-          (subst⁻¹ (λ (x : List ℕ). MendableRow (either M (D h)) (rowSums s f h) x) part-row row-fillable))
+      width : length lent ≡ n
+      width = ap length is-row ∙ length-row n f h (place-of .inside)
 
-      pub filled-more : (y : List ℕ) → y ≡ completed (length part) J part → RowsFilled s D M f (h + 1) (at + c) (putMid (h * n) (h * n + n - h * n) l y)
-      filled-more y made = record {
-        place = ap₂ _+_ (a .place) e ∙ sym (ap (sumsBefore s) (add-one h) ∙ total-suc h (checksOf s));
-        rows = completed-more n (s .rows) (λ k. either M (D k)) f h l (a .rows) (row-place .inside) J y next same made;
-      }
+      number : length lent-sums ≡ checksOf s h
+      number = ap length are-sums ∙ length-rowSums s f h
+
+      -- the columns to be filled are in the frame, and no more than the row has checks
+      inside : (i : ℕ) → has (either M (D h)) i ≡ true → i < n
+      inside = either-below M (D h) n (λ i low. asked .below i) (λ i low e. pick i low e (decLt i n))
+        where
+          pick : (i : ℕ) → i < 256 → has (D h) i ≡ true → Dec (i < n) → i < n
+          pick i low e (yes l) = l
+          pick i low e (no l) =
+              absurd (good-cells s D (asked .declarable) (inr (h, i, (let p = place-of in omega arith), low, e, inr (let q : n ≤ i = omega arith in q))))
+
+      few : length (members (either M (D h))) ≤ checksOf s h
+      unfolding leftReach
+      few =
+          let left = leb-true (length (members M)) (checksLeft s D h) (every-at (s .rows) _ (asked .reach) h less) in
+          let declared-cells = declared-few s D (asked .declarable) h less in
+          let both = size-either M (D h) in
+          omega arith
+
+      module _ (set : Columns) (e : set ≡ either M (D h)) where
+        pub row-mendable : MendableRow set lent-sums lent
+        unfolding rowSums
+        row-mendable = record {
+          narrow = (let w = width in let p = place-of in omega arith);
+          small = λ k l.
+              let b : k < n = let w = width in omega arith in
+              subst⁻¹ (λ (x : ℕ). x < 257) (ap (λ (x : List ℕ). getD x k 0) is-row ∙ row-cell n f h k b)
+              (asked .small (h * n + k) (let p = place-of in omega arith));
+          few = (let q = number in let p = place-of in omega arith);
+          held =
+              are-sums ∙ ap₂ (λ (k : ℕ) (x : List ℕ). checkSums k (checksOf s h) x) (sym width) (sym is-row)
+              ∙ ap (λ (m : ℕ). checkSums (length lent) m lent) (sym number);
+          below = λ i t.
+              let l = inside i (ap (λ (J : Columns). has J i) (sym e) ∙ t) in
+              let w = width in
+              omega arith;
+          reach = (let l = few in let q = number in let r = ap (λ (J : Columns). length (members J)) e in omega arith);
+        }
+
+        pub filled-more : (y : List ℕ) → y ≡ completed (length lent) set lent
+            → RowsFilled (h + 1) (at + count) (putMid (h * n) (h * n + n - h * n) frame y)
+        filled-more y made = record {
+          place = ap₂ _+_ (a .place) c ∙ sym (ap (sumsBefore s) (add-one h) ∙ total-suc h (checksOf s));
+          rows = completed-more n (s .rows) _ f h frame (a .rows) (place-of .inside) set y less e made;
+        }
