@@ -1,2 +1,3 @@
+pub mod FramesFilled
 pub mod RowsDeclarable
 pub mod RowsFilled
