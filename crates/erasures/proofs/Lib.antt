@@ -1,3 +1,4 @@
-pub mod FramesFilled
+pub mod FilledFrame
+pub mod ReadCopy
 pub mod RowsDeclarable
 pub mod RowsFilled
