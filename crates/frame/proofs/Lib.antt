@@ -13,8 +13,10 @@ pub mod HeldEntries
 pub mod HeldParts
 pub mod HeldSequences
 pub mod HeldSums
+pub mod NothingDeclared
 pub mod Others
 pub mod ReadFrames
+pub mod ReadTests
 pub mod Reasons
 pub mod Remainder
 pub mod RowAlone
