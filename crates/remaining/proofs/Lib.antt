@@ -1,5 +1,4 @@
-pub mod Appending
-pub mod HeldRows
 pub mod RowLeft
 pub mod RowsCompletable
 pub mod RowsLeft
+pub mod SequencesLent

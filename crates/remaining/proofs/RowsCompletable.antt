@@ -11,11 +11,9 @@ use borrow.Rule.Slice.PartMut.{midOf, putMid}
 use Rattle.columns.specs.Columns.{has, either, members}
 use Rattle.columns.specs.declared.Columns.{Columns}
 use Rattle.columns.proofs.Joined.{size-either, apart-of-size}
-use Rattle.columns.proofs.Listing.{length-listed, count-below}
-use Rattle.columns.proofs.Subset.{within-le}
-use borrow.Author.Tests.{lt-ltb}
-use lib.Dec.{ltb}
+use Rattle.columns.proofs.Listing.{length-listed, count-le}
 use Rattle.decoding.specs.Remaining.{remaining, leftReach}
+use Rattle.decoding.proofs.RemainingSums.{length-remaining}
 use Rattle.field257.specs.Table.{table}
 use Rattle.frame.specs.DeclaredCells.{Declared, checksLeft}
 use Rattle.frame.specs.Frame.{sumsBefore, heldSequences}
@@ -23,6 +21,7 @@ use Rattle.frame.specs.Shape.{checksOf}
 use Rattle.frame.specs.declared.Shape.{Shape}
 use Rattle.frame.proofs.Declarable.{declared-few}
 use Rattle.frame.proofs.HeldParts.{part-below}
+use Rattle.frame.proofs.HeldRows.{sums-room, length-part, part-held, part-lent}
 use Rattle.frame.proofs.Shapes.{shape-ranges}
 use Rattle.lists.proofs.Parts.{length-replaced, part-replaced}
 use Rattle.lists.proofs.Tabulated.{every-at}
@@ -30,11 +29,9 @@ use Rattle.lists.proofs.Testing.{Tested, tested-none}
 use Rattle.lists.proofs.Totals.{total-zero, total-suc}
 use Rattle.lists.proofs.Zeros.{zeros}
 use Rattle.remaining.specs.Testable.{completableAt, Apart, Testable, TestableRow}
-use Rattle.remaining.proofs.HeldRows.{sums-room, length-part, part-held, part-lent}
-use Rattle.remaining.proofs.RowsLeft.{length-remaining}
 
 pub size-most : (J : Columns) → length (members J) ≤ 256
-size-most J = omega (arith, length-listed 256 (has J), within-le 256 (has J) (λ k. ltb k 256) (λ k h t. lt-ltb k 256 h), count-below 256 256 (omega arith))
+size-most J = omega (arith, length-listed 256 (has J), count-le 256 (has J))
 
 -- sets whose sizes add up to no more than that of both are apart
 pub apart-of-sizes : (J K : Columns) → length (members J) + length (members K) ≤ length (members (either J K)) → Apart J K

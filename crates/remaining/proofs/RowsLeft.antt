@@ -3,7 +3,7 @@ use mathlib.Core.Path.{_≡_, sym, ap, ap₂, subst⁻¹, _∙_}
 use mathlib.Core.Bool.{true}
 use mathlib.Core.List.{List, []}
 use Prim.Native.Nat.{ℕ, zero, suc, _+_, _-_, _≤_, _<_, zero-le}
-use native.Mathlib.Nat.{le-antisymm, mod-lt}
+use native.Mathlib.Nat.{le-antisymm}
 use native.Mathlib.Numerals.{add-one}
 use native.Mathlib.Omega.{arith}
 use lib.ListN.{length, getD, set, take, drop, length-append}
@@ -11,32 +11,24 @@ use borrow.Rule.Slice.PartMut.{midOf, putMid}
 use Rattle.columns.specs.Columns.{members}
 use Rattle.columns.specs.declared.Columns.{Columns}
 use Rattle.decoding.specs.Remaining.{remaining, allRemaining}
+use Rattle.decoding.proofs.RemainingSums.{length-remaining, remaining-below}
 use Rattle.frame.specs.DeclaredCells.{Declared, checksLeft, declarable, erasures}
 use Rattle.frame.specs.Frame.{sumsBefore, heldSequences}
 use Rattle.frame.specs.Shape.{checksOf, isShape}
 use Rattle.frame.specs.declared.Shape.{Shape}
 use Rattle.frame.proofs.Declarable.{declared-few}
 use Rattle.frame.proofs.HeldParts.{partOf}
+use Rattle.frame.proofs.HeldRows.{sums-room, length-part, part-held, part-lent}
 use Rattle.frame.proofs.Shapes.{Ranges, shape-ranges}
 use Rattle.lists.specs.Tabulate.{tabulate, joined}
 use Rattle.lists.specs.Total.{total}
+use Rattle.lists.proofs.Appending.{Appended, appended-none, appended-more}
 use Rattle.lists.proofs.Filling.{Filled, filled-none, filled-more, filled-entry}
-use Rattle.lists.proofs.Joined.{joined-zero, joined-more, joined-part, tabulate-each, replicate-each, append-each, joined-each}
-use Rattle.lists.proofs.Tabulated.{length-tabulate, getD-tabulate}
+use Rattle.lists.proofs.Joined.{joined-zero, joined-more, joined-part, replicate-each, append-each, joined-each}
+use Rattle.lists.proofs.Tabulated.{getD-tabulate}
 use Rattle.lists.proofs.Totals.{total-zero, total-suc, total-within, total-bound}
 use Rattle.lists.proofs.Zeros.{zeros}
-use Rattle.register.specs.Register.{discrepancy}
 use Rattle.remaining.specs.SequencesLeft.{SequencesLeft}
-use Rattle.remaining.proofs.Appending.{Appended, appended-none, appended-more}
-use Rattle.remaining.proofs.HeldRows.{sums-room, length-part, part-held, part-lent}
-
-pub length-remaining : (J : Columns) (x : List ℕ) → length (remaining J x) ≡ length x - length (members J)
-unfolding remaining
-length-remaining J x = length-tabulate _ _
-
-pub remaining-below : (J : Columns) (x : List ℕ) (i : ℕ) → getD (remaining J x) i 0 < 257
-unfolding remaining discrepancy
-remaining-below J x i = tabulate-each (λ y. y < 257) 0 (omega arith) _ _ (λ j. mod-lt _ (omega arith)) i
 
 -- ---- how much is left
 

@@ -7,7 +7,7 @@ use borrow.Rule.Slice.PartMut.{mid-len}
 use Rattle.columns.specs.Columns.{members}
 use Rattle.frame.specs.DeclaredCells.{declaredBy, erasures}
 use Rattle.frame.proofs.HeldParts.{part-below}
-use Rattle.remaining.proofs.Appending.{appended-length}
+use Rattle.lists.proofs.Appending.{appended-length}
 use Rattle.remaining.proofs.RowsLeft.{LeftBefore, RowRoom, left-none, row-room, left-more, left-all}
 use borrow.Author.Needs.{needs}
 use Rattle.remaining.proofs.rows.all_remaining.Statement.{statement}

@@ -7,9 +7,9 @@ use native.Mathlib.Omega.{arith}
 use lib.ListN.{length, take, drop, replicate, length-append, length-replicate}
 use lib.Seq.{take-at, drop-at}
 use borrow.Rule.Slice.PartMut.{putMid}
 use Rattle.lists.specs.Tabulate.{tabulate, joined}
-use Rattle.lists.proofs.Zeros.{zeros, drop-zeros}
 use Rattle.lists.proofs.Joined.{joined-zero, joined-more}
+use Rattle.lists.proofs.Zeros.{zeros, drop-zeros}
 
 -- n places, and part h the list that is written as number h
 module _ (n : ℕ) (part : ℕ → List ℕ) where
