@@ -1,7 +1,8 @@
 -- With nothing declared, frames are read as they stand, nothing is taken out of their sums, and no row has less than its checks left.
 use mathlib.Core.Path.{_≡_, refl, sym, ap, ap₂, fun-ext, _∙_}
-use mathlib.Core.Bool.{true, false}
+use mathlib.Core.Bool.{true, false, false≢true}
 use mathlib.Core.List.{List, [], _∷_}
+use mathlib.Core.Logic.{⊎-elim}
 use Prim.Native.Nat.{ℕ, suc, _+_, _-_, _*_, _%_, _<_}
 use native.Mathlib.Nat.{mod-eq-of-lt, sub-zero}
 use native.Mathlib.Omega.{arith}
@@ -14,11 +15,12 @@ use Rattle.columns.proofs.Listing.{length-listed, count-skip, count-zero}
 use Rattle.decoding.specs.Locating.{rowsReach}
 use Rattle.decoding.specs.Remaining.{remaining, allRemaining, readSequences, leftReach, mended}
 use Rattle.decoding.proofs.FrameSums.{sequence-below}
+use Rattle.decoding.proofs.MendedFrame.{cell-below}
 use Rattle.field257.specs.LocatorPolynomial.{locatorPolynomial}
 use Rattle.frame.specs.Completion.{completed}
 use Rattle.frame.specs.Encode.{eachRow}
-use Rattle.frame.specs.Frame.{sequences, distance, differing}
-use Rattle.frame.specs.DeclaredCells.{Declared, erasures, distanceRead, differingRead}
+use Rattle.frame.specs.Frame.{WellFormed, sequences, distance, differing}
+use Rattle.frame.specs.DeclaredCells.{Declared, erasures, WellFormedRead, distanceRead, differingRead}
 use Rattle.frame.specs.Shape.{isShape, checksOf}
 use Rattle.frame.specs.declared.Shape.{Shape}
 use Rattle.frame.proofs.ReadFrames.{read-none}
@@ -51,8 +53,16 @@ remaining-none J x none small =
     ∙ tabulate-getD x 0
 
 module _ (s : Shape) (shape : isShape s ≡ true) (D : Declared) (none : (h i : ℕ) → has (D h) i ≡ false) where
-  no-cells : (h : ℕ) → erasures D h ≡ 0
+  pub no-cells : (h : ℕ) → erasures D h ≡ 0
   no-cells h = ap length (none-listed (D h) (none h))
+
+  -- a frame that is well-formed as it stands is so as read
+  pub well-formed-none : (f : List ℕ) → WellFormed s f → WellFormedRead s D f
+  well-formed-none f w = record {
+    size = w .size;
+    declared = ⊎-elim (λ (h, below, more). (let e = no-cells h in omega arith)) (λ (h, i, row, low, mem, past). false≢true (sym (none h i) ∙ mem));
+    symbols = λ h i below inside out. cell-below s f w h i below inside;
+  }
 
   pub reach-none : (c : ℕ) → leftReach s D c ≡ rowsReach s c
   unfolding leftReach rowsReach

@@ -27,7 +27,7 @@ use Rattle.decoding.proofs.PowerSums.{size-at-most, names-P, names-enou
 use Rattle.decoding.proofs.SequenceRegister.{generator-of}
 use Rattle.frame.specs.DeclaredCells.{Declared, checksLeft, asRead, differsRead, distanceRead, differingRead}
 use Rattle.frame.specs.Frame.{cell, Codeword, Legal, differs, distance, differing}
-use Rattle.frame.specs.Shape.{isShape}
+use Rattle.frame.specs.Shape.{isShape, checksOf}
 use Rattle.frame.specs.declared.Shape.{Shape}
 use Rattle.frame.proofs.Distances.{agreeing}
 use Rattle.frame.proofs.ReadFrames.{read-declared, read-kept}

@@ -13,6 +13,7 @@ pub mod HeldEntries
 pub mod HeldParts
 pub mod HeldSequences
 pub mod HeldSums
+pub mod NoCells
 pub mod Others
 pub mod ReadFrames
 pub mod Reasons
