@@ -11,11 +11,13 @@ pub mod GivenShapes
 pub mod Held
 pub mod HeldEntries
 pub mod HeldParts
+pub mod HeldRows
 pub mod HeldSequences
 pub mod HeldSums
-pub mod NoCells
+pub mod NothingDeclared
 pub mod Others
 pub mod ReadFrames
+pub mod ReadTests
 pub mod Reasons
 pub mod Remainder
 pub mod RowAlone

@@ -43,8 +43,8 @@ module _ (s : Shape) (D : Declared) (f : List ℕ) (whole : length f ≡ s .rows
   read-kept h i r c e = read-cell h i r c ∙ cleared-kept n (D h) (row n f h) i c e ∙ row-cell n f h i c
 
   -- with nothing declared a frame is read as it stands
-  pub read-none : ((h i : ℕ) → has (D h) i ≡ false) → asRead s D f ≡ f
-  read-none none = same-frames n (s .rows) (asRead s D f) f length-read whole (λ h i r c. read-kept h i r c (none h i))
+  pub read-none : ((h i : ℕ) → h < s .rows → i < s .columns → has (D h) i ≡ false) → asRead s D f ≡ f
+  read-none none = same-frames n (s .rows) (asRead s D f) f length-read whole (λ h i r c. read-kept h i r c (none h i r c))
 
 -- what the declared cells hold plays no part: frames that agree in all others are read alike, and every frame is as far from the one as from the other
 module _ (s : Shape) (D : Declared) (f g : List ℕ) (whole : length f ≡ s .rows * s .columns) (sized : length g ≡ s .rows * s .columns)
