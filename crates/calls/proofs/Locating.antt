@@ -118,7 +118,7 @@ module _ {s : Shape} {words sums : List ℕ} {l : ℕ} {a : Bool} {buffer : List
       -- what the test of the rows asks
       pub completable-asked : (none : Bool) → Locatable s none words sums → length (members J) ≡ l → Completable s none words J sums
       completable-asked none locatable size =
-          record { sums = locatable; columns = marked; enough = all-named; reach = subst (λ (n : ℕ). leftReach s D n ≡ true) (sym size) reach }
+          record { locatable = locatable; columns = marked; enough = all-named; reach = subst (λ (n : ℕ). leftReach s D n ≡ true) (sym size) reach }
 
       same-columns : completable s D J (heldSequences s sums) ≡ completable s D (namedColumns s (tapsOf ss)) (heldSequences s sums)
       same-columns = ap (λ K. completable s D K (heldSequences s sums)) marked
