@@ -23,7 +23,12 @@ pub fn cells_of(declared: &[u64; 32], h: usize) -> Columns
     ensures { λ r. ⌜ r ≡ declaredBy (now (declared .entry)) h ⌝ }
 {
     let a = 4 * h;
-    let words = [declared[a], declared[a + 1], declared[a + 2], declared[a + 3]];
+    let words = [
+        declared[a],
+        declared[a + 1],
+        declared[a + 2],
+        declared[a + 3],
+    ];
     Columns { words }
 }
 
