@@ -35,7 +35,8 @@ size-most J = omega (arith, length-listed 256 (has J), count-le 256 (has J))
 
 -- sets whose sizes add up to no more than that of both are apart
 pub apart-of-sizes : (J K : Columns) → length (members J) + length (members K) ≤ length (members (either J K)) → Apart J K
-apart-of-sizes J K le = apart-of-size J K (let q : length (members (either J K)) ≡ length (members J) + length (members K) = omega (arith, size-either J K) in q)
+apart-of-sizes J K le =
+    apart-of-size J K (let q : length (members (either J K)) ≡ length (members J) + length (members K) = omega (arith, size-either J K) in q)
 
 -- ---- a row
 
