@@ -14,8 +14,10 @@ pub mod HeldParts
 pub mod HeldRows
 pub mod HeldSequences
 pub mod HeldSums
+pub mod NothingDeclared
 pub mod Others
 pub mod ReadFrames
+pub mod ReadTests
 pub mod Reasons
 pub mod Remainder
 pub mod RowAlone

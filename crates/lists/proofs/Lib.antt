@@ -3,6 +3,7 @@ pub mod BlockSums
 pub mod DataCells
 pub mod Entries
 pub mod Filling
+pub mod Fours
 pub mod Joined
 pub mod Mapped
 pub mod Moving
@@ -12,4 +13,5 @@ pub mod Summing
 pub mod Tabulated
 pub mod Testing
 pub mod Totals
+pub mod Truth
 pub mod Zeros
