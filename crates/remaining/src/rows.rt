@@ -22,13 +22,9 @@ pub fn cells_of(declared: &[u64; 32], h: usize) -> Columns
     requires { ⌜ h < 8 ⌝ }
     ensures { λ r. ⌜ r ≡ declaredBy (now (declared .entry)) h ⌝ }
 {
+    let w = &declared[..];
     let a = 4 * h;
-    let words = [
-        declared[a],
-        declared[a + 1],
-        declared[a + 2],
-        declared[a + 3],
-    ];
+    let words = [w[a], w[a + 1], w[a + 2], w[a + 3]];
     Columns { words }
 }
 
