@@ -1,1 +1,2 @@
 pub mod RowsDeclarable
+pub mod RowsFilled

@@ -29,23 +29,15 @@ pub fn nothing(declared: &[u64; 32]) -> bool
     none
 }
 
-// The set of columns that four words mark.
-fn of_words(w: &[u64]) -> Columns
-    requires { ⌜ length (now w) ≡ 4 ⌝ }
-    ensures { λ r. ⌜ r .words ≡ now (w .entry) ⌝ }
-{
-    let words = [w[0], w[1], w[2], w[3]];
-    Columns { words }
-}
-
 // The declared columns of row h.
 pub fn cells_of(declared: &[u64; 32], h: usize) -> Columns
     requires { ⌜ h < 8 ⌝ }
     ensures { λ r. ⌜ r ≡ declaredBy (now (declared .entry)) h ⌝ }
 {
+    let w = &declared[..];
     let a = 4 * h;
-    let e = a + 4;
-    of_words(&declared[a..e])
+    let words = [w[a], w[a + 1], w[a + 2], w[a + 3]];
+    Columns { words }
 }
 
 // Whether the columns can be declared of row h: none is past the last column, and there are no more than checks; none at all past the last row.

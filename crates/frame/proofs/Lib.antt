@@ -1,4 +1,5 @@
 pub mod CheckSums
+pub mod Clearing
 pub mod ClosedForm
 pub mod CompletedFrames
 pub mod CompletionLaws
@@ -24,7 +25,9 @@ pub mod RowAlone
 pub mod RowData
 pub mod RowPlace
 pub mod Rows
+pub mod RowsAhead
 pub mod RowsChanged
+pub mod RowsCleared
 pub mod RowsCompleted
 pub mod ShapeTests
 pub mod Shapes

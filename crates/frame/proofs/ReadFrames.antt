@@ -17,7 +17,7 @@ use Rattle.frame.specs.Frame.{row, cell, distance, differing}
 use Rattle.frame.specs.DeclaredCells.{Declared, asRead, distanceRead, differingRead}
 use Rattle.frame.specs.declared.Shape.{Shape}
 
-length-cleared : (n : ℕ) (J : Columns) (x : List ℕ) → length (cleared n J x) ≡ n
+pub length-cleared : (n : ℕ) (J : Columns) (x : List ℕ) → length (cleared n J x) ≡ n
 unfolding cleared
 length-cleared n J x = length-tabulate n _
 

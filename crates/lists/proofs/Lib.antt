@@ -1,5 +1,6 @@
 pub mod Appending
 pub mod BlockSums
+pub mod Copying
 pub mod DataCells
 pub mod Entries
 pub mod Filling

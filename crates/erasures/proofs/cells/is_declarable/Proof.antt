@@ -30,10 +30,10 @@ abbrev μ-loop : tie.MeasureT-loop
 tested : (c : tie.After-row-declarable Inv-loop μ-loop) →
     let at = c .before .before .before in
     let args = at .before .args in
-    row (args .t1) (args .declared .now) (at .loop .h) ≡ c .row-declarable .result
+    row (args .s) (args .declared .now) (at .loop .h) ≡ c .row-declarable .result
 tested c =
     let at = c .before .before .before in
-    ap (λ (J : Columns). rowDeclarable (at .before .args .t1) J (at .loop .h)) (sym (c .before .cells-of .ensures)) ∙ sym (c .row-declarable .ensures)
+    ap (λ (J : Columns). rowDeclarable (at .before .args .s) J (at .loop .h)) (sym (c .before .cells-of .ensures)) ∙ sym (c .row-declarable .ensures)
 
 loop-holds : tie.Need-loop-holds Inv-loop μ-loop
 loop-holds c = tested-none _ _

@@ -52,14 +52,15 @@ returns : tie.Need-returns Inv-loop μ-loop
 unfolding leftReach
 returns c =
     let inside = in-loop (c .before) in
-    tested-out _ _ (inside .before .loop .h) (inside .loop-test .taken) (lt-leb _ _ (let e = left (c .before) in let t = c .if1 .taken in omega arith))
+    tested-out _ _ (inside .before .loop .h) (inside .loop-test .taken)
+    (ap (leb (inside .before .before .args .c)) (sym (left (c .before))) ∙ lt-leb _ _ (c .if1 .taken))
 
 loop-again : tie.Need-loop-again Inv-loop μ-loop
 loop-again c =
     let inside = in-loop (c .before) in
     let at = inside .before .loop in
     tested-pass _ _ (at .h) true (at .inv) (inside .loop-test .taken) true refl
-    (le-leb _ _ (let e = left (c .before) in let t = c .if1 .left in omega arith))
+    (ap (leb (inside .before .before .args .c)) (sym (left (c .before))) ∙ le-leb _ _ (c .if1 .left))
 
 returns-2 : tie.Need-returns-2 Inv-loop μ-loop
 unfolding leftReach
