@@ -1,8 +1,8 @@
--- Whether rows can be completed, row after row: what is tested of a row, and that a row with no marked column declared need not be looked at.
+-- Whether rows can be completed, row after row: what is left of a row as it is tested, and what is asked and told where a row is tested.
 use mathlib.Core.Path.{_≡_, sym, ap, ap₂, subst⁻¹, _∙_}
 use mathlib.Core.Bool.{Bool, true}
 use mathlib.Core.List.{List, []}
-use Prim.Native.Nat.{ℕ, _+_, _-_, _≤_, _<_, zero-le}
+use Prim.Native.Nat.{ℕ, _+_, _-_, _≤_, _<_}
 use native.Mathlib.Numerals.{add-one}
 use native.Mathlib.Omega.{arith}
 use lib.ListN.{length, getD}
@@ -10,8 +10,7 @@ use borrow.Author.Tests.{leb-true}
 use borrow.Rule.Slice.PartMut.{midOf, putMid}
 use Rattle.columns.specs.Columns.{has, either, members}
 use Rattle.columns.specs.declared.Columns.{Columns}
-use Rattle.columns.proofs.Joined.{size-either, apart-of-size}
-use Rattle.columns.proofs.Listing.{length-listed, count-le}
+use Rattle.columns.proofs.Joined.{size-either}
 use Rattle.decoding.specs.Remaining.{remaining, leftReach}
 use Rattle.decoding.proofs.RemainingSums.{length-remaining}
 use Rattle.field257.specs.Table.{table}
@@ -28,14 +27,7 @@ use Rattle.lists.proofs.Tabulated.{every-at}
 use Rattle.lists.proofs.Testing.{Tested, tested-none}
 use Rattle.lists.proofs.Totals.{total-zero, total-suc}
 use Rattle.lists.proofs.Zeros.{zeros}
-use Rattle.remaining.specs.Testable.{completableAt, Apart, Testable, TestableRow}
-
-pub size-most : (J : Columns) → length (members J) ≤ 256
-size-most J = omega (arith, length-listed 256 (has J), count-le 256 (has J))
-
--- sets whose sizes add up to no more than that of both are apart
-pub apart-of-sizes : (J K : Columns) → length (members J) + length (members K) ≤ length (members (either J K)) → Apart J K
-apart-of-sizes J K le = apart-of-size J K (let q : length (members (either J K)) ≡ length (members J) + length (members K) = omega (arith, size-either J K) in q)
+use Rattle.remaining.specs.Testable.{completableAt, Testable, TestableRow}
 
 -- ---- a row
 

@@ -2,11 +2,11 @@
 use mathlib.Core.Path.{_≡_, sym, ap, ap₂, subst⁻¹, _∙_}
 use mathlib.Core.Bool.{true}
 use mathlib.Core.List.{List, []}
-use Prim.Native.Nat.{ℕ, zero, suc, _+_, _-_, _≤_, _<_, zero-le}
+use Prim.Native.Nat.{ℕ, _+_, _-_, _≤_, _<_, zero-le}
 use native.Mathlib.Nat.{le-antisymm}
 use native.Mathlib.Numerals.{add-one}
 use native.Mathlib.Omega.{arith}
-use lib.ListN.{length, getD, set, take, drop, length-append}
+use lib.ListN.{length, getD, set, take, drop}
 use borrow.Rule.Slice.PartMut.{midOf, putMid}
 use Rattle.columns.specs.Columns.{members}
 use Rattle.columns.specs.declared.Columns.{Columns}
@@ -24,7 +24,7 @@ use Rattle.lists.specs.Tabulate.{tabulate, joined}
 use Rattle.lists.specs.Total.{total}
 use Rattle.lists.proofs.Appending.{Appended, appended-none, appended-more}
 use Rattle.lists.proofs.Filling.{Filled, filled-none, filled-more, filled-entry}
-use Rattle.lists.proofs.Joined.{joined-zero, joined-more, joined-part, replicate-each, append-each, joined-each}
+use Rattle.lists.proofs.Joined.{joined-part, length-joined-total, replicate-each, append-each, joined-each}
 use Rattle.lists.proofs.Tabulated.{getD-tabulate}
 use Rattle.lists.proofs.Totals.{total-zero, total-suc, total-within, total-bound}
 use Rattle.lists.proofs.Zeros.{zeros}
@@ -124,10 +124,7 @@ module _ (s : Shape) (D : Declared) (sums : List ℕ) where
 
     -- where what is left of a row begins
     before-left : (h : ℕ) → h ≤ s .rows → length (joined (tabulate h leftOf)) ≡ total h (checksLeft s D)
-    before-left zero l = ap length (joined-zero leftOf) ∙ sym (total-zero (checksLeft s D))
-    before-left (suc h) l =
-        ap length (joined-more h leftOf) ∙ length-append (joined (tabulate h leftOf)) (leftOf h)
-        ∙ ap₂ _+_ (before-left h (omega arith)) (length-left h (omega arith)) ∙ sym (total-suc h (checksLeft s D))
+    before-left h l = length-joined-total (checksLeft s D) h leftOf (λ k m. length-left k (omega arith))
 
     pub left-all : (h at count : ℕ) (lengths symbols : List ℕ) → LeftBefore h at count lengths symbols → s .rows ≤ h
         → SequencesLeft s D sums (record { lengths = lengths; symbols = symbols; count = count })

@@ -1,8 +1,8 @@
 -- What is left of the check sums of all rows, lent as lengths and symbols, is read as the sequences that a register is sought for.
-use mathlib.Core.Path.{_≡_, ap, ap₂, _∙_}
+use mathlib.Core.Path.{_≡_, ap₂, _∙_}
 use mathlib.Core.Bool.{true}
 use mathlib.Core.List.{List, []}
-use Prim.Native.Nat.{ℕ, _<_}
+use Prim.Native.Nat.{ℕ}
 use native.Mathlib.Omega.{arith}
 use lib.ListN.{length, getD, take}
 use Rattle.decoding.specs.Remaining.{remaining, allRemaining}

@@ -11,7 +11,7 @@ ghost use Rattle.frame.specs.DeclaredCells.{declaredBy};
 ghost use Rattle.remaining.specs.Removable.{RemovableRows};
 ghost use Rattle.remaining.specs.SequencesLeft.{SequencesLeft};
 
-// The lengths of the sequences; their symbols, one sequence after the other; how many symbols these are. Zeros come after them.
+// The lengths of the sequences; their symbols, one sequence after the other; how many symbols these are.
 pub struct Left {
     pub lengths: [u16; 8],
     pub symbols: [u16; 512],
@@ -22,13 +22,9 @@ pub fn cells_of(declared: &[u64; 32], h: usize) -> Columns
     requires { ⌜ h < 8 ⌝ }
     ensures { λ r. ⌜ r ≡ declaredBy (now (declared .entry)) h ⌝ }
 {
+    let w = &declared[..];
     let a = 4 * h;
-    let words = [
-        declared[a],
-        declared[a + 1],
-        declared[a + 2],
-        declared[a + 3],
-    ];
+    let words = [w[a], w[a + 1], w[a + 2], w[a + 3]];
     Columns { words }
 }
 

@@ -1,10 +1,11 @@
 -- `remaining::completable::row_completable` meets its contract.
-use mathlib.Core.Path.{_≡_, sym, ap, subst⁻¹, _∙_}
+use mathlib.Core.Path.{sym, ap, subst⁻¹, _∙_}
 use native.Mathlib.Omega.{arith}
 use lib.ListN.{length}
 use Rattle.columns.specs.Columns.{members}
+use Rattle.columns.proofs.Joined.{apart-of-size}
+use Rattle.columns.proofs.Marks.{size-most}
 use Rattle.remaining.specs.Testable.{completableAt, TestableAt}
-use Rattle.remaining.proofs.RowsCompletable.{size-most, apart-of-sizes}
 use borrow.Author.Needs.{needs}
 use Rattle.remaining.proofs.completable.row_completable.Statement.{statement}
 use Rattle.remaining.proofs.completable.row_completable.Tie as tie
@@ -30,7 +31,7 @@ returns-2 c =
     let joined = c .before .before .before .before in
     let start = joined .before .before in
     let set = c .before .before .before .size .ensures ∙ ap (λ J. length (members J)) (joined .either .ensures) in
-    sym (start .pre .apart (apart-of-sizes (start .args .marked) (start .args .cells)
+    sym (start .pre .apart (apart-of-size (start .args .marked) (start .args .cells)
     (omega (arith, c .if1 .left, c .before .before .size2 .ensures, c .before .size3 .ensures))))
 
 pub row-completable-spec : {M : Type 1} → statement M
