@@ -36,6 +36,6 @@ module _ (s : Shape) (shape : isShape s ≡ true) (D : Declared) (S : List (List
       every-of _ _ (λ j inside.
       eq-eqb _ 0 (apart-left s shape (allRemaining s D S) enough h (rows h below) (D h) (getD S h []) (left h below) apart j inside))
 
-  pub none-completable : ((h i : ℕ) → has (D h) i ≡ false) → completable s D (namedColumns s (tapsOf (allRemaining s D S))) S ≡ true
+  pub none-completable : ((h i : ℕ) → h < s .rows → i < 256 → has (D h) i ≡ false) → completable s D (namedColumns s (tapsOf (allRemaining s D S))) S ≡ true
   unfolding completable
-  none-completable none = every-of (s .rows) _ (λ h below. row-apart h below (λ i _ _. none h i))
+  none-completable none = every-of (s .rows) _ (λ h below. row-apart h below (λ i low _. none h i below low))

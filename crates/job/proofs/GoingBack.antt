@@ -5,8 +5,7 @@ use mathlib.Core.Logic.{_⊎_, inl, inr}
 use mathlib.Core.Bool.{true, false≢true}
 use mathlib.Core.List.{List, [], _∷_, _++_, append-nil, append-assoc}
 use Prim.Native.Nat.{ℕ}
-use Rattle.refusal.proofs.Orders.{Pass}
-use Rattle.job.specs.Calls.{Call, shape, encode, locate, repair, Outcome, describe, step}
+use Rattle.job.specs.Calls.{Call, shape, encode, locate, repair, describe, step}
 use Rattle.job.specs.Job.{Arrays, Job, emptyJob, isLocatedPhase}
 use Rattle.job.specs.Runs.{run, runFrom, Taken, IsEncode, RefusedEarly, Between, GoesBack}
 use Rattle.job.proofs.AfterRefusal.{early-number, gives-no-refusal}

@@ -10,6 +10,7 @@ pub mod Left
 pub mod Locating
 pub mod Marked
 pub mod NoPart
+pub mod NothingDeclared
 pub mod OtherSums
 pub mod Reasons
 pub mod Refusals

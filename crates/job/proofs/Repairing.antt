@@ -1,7 +1,7 @@
 -- Repairing: a frame that as read has the sums of the frame that was located has its register, so that the repair mends it; and the located frame itself is
 -- taken.
 use mathlib.Core.Path.{_≡_, refl, sym, ap, ap₂, subst, _∙_}
-use mathlib.Core.Bool.{true, not, and-eq-true-iff, false≢true}
+use mathlib.Core.Bool.{true, not, false≢true}
 use mathlib.Core.List.{List}
 use Prim.Native.Nat.{ℕ, _<_}
 use native.Mathlib.Omega.{arith}
@@ -9,11 +9,11 @@ use lib.ListN.{length, getD}
 use lib.Seq.{ext-getD}
 use borrow.Author.Tests.{eqb-true, eq-eqb}
 use Rattle.decoding.specs.Locating.{sizeOf, tapsOf, aloneOf, namesAll, namedColumns}
-use Rattle.decoding.specs.Remaining.{allRemaining, sumsRead, readSequences, leftReach, completable}
+use Rattle.decoding.specs.Remaining.{allRemaining, readSequences, leftReach, completable}
 use Rattle.decoding.proofs.MendedFrame.{Read, read-facts}
 use Rattle.decoding.proofs.SameRead.{same-read}
 use Rattle.decoding.proofs.SoleNearest.{mended-legal, mended-distance, mended-differing, sole-nearest}
-use Rattle.frame.specs.DeclaredCells.{Declared, declaredBy, declarable, asRead, rereadTests, WellFormedRead}
+use Rattle.frame.specs.DeclaredCells.{Declared, declaredBy, asRead, rereadTests, WellFormedRead}
 use Rattle.frame.specs.Frame.{heldSums}
 use Rattle.frame.specs.Shape.{isShape}
 use Rattle.frame.specs.declared.Shape.{Shape}

@@ -1,15 +1,15 @@
 -- Lists written one after the other over zeros: what stands there after some of them.
-use mathlib.Core.Path.{_≡_, refl, sym, ap, ap₂, _∙_}
+use mathlib.Core.Path.{_≡_, sym, ap, ap₂, _∙_}
 use mathlib.Core.List.{List, _++_, append-assoc}
 use Prim.Native.Nat.{ℕ, _+_, _-_, _≤_}
 use native.Mathlib.Numerals.{add-one}
 use native.Mathlib.Omega.{arith}
-use lib.ListN.{length, take, drop, replicate, length-append, length-replicate}
+use lib.ListN.{length, take, drop, length-append, length-replicate}
 use lib.Seq.{take-at, drop-at}
 use borrow.Rule.Slice.PartMut.{putMid}
 use Rattle.lists.specs.Tabulate.{tabulate, joined}
-use Rattle.lists.proofs.Zeros.{zeros, drop-zeros}
 use Rattle.lists.proofs.Joined.{joined-zero, joined-more}
+use Rattle.lists.proofs.Zeros.{zeros, drop-zeros}
 
 -- n places, and part h the list that is written as number h
 module _ (n : ℕ) (part : ℕ → List ℕ) where
