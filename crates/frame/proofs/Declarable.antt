@@ -1,6 +1,6 @@
 -- The tests of a frame with declared cells say their reasons. Where 31 does not fall, the declared columns of each row are below the shape's, no more than the row's
 -- checks.
-use mathlib.Core.Path.{_≡_, refl, sym, ap, ap₂, _∙_}
+use mathlib.Core.Path.{_≡_, refl, sym, ap₂, _∙_}
 use mathlib.Core.Logic.{_⊎_, inl, inr}
 use mathlib.Core.List.{List}
 use mathlib.Core.Bool.{Bool, true, false, not, _&&_, _||_, and-eq-true-iff, false≢true}
@@ -133,13 +133,6 @@ module _ (s : Shape) (D : Declared) (f : List ℕ) where
   read-passes p =
       let (size, (declared, (symbols, none))) = pass-none (readTests s D f) (readReasons s D f) read-says p in
       record { size = sized size; declared = declared; symbols = each-below symbols }
-
-  pub tests-well-formed : length f ≡ s .rows * s .columns → declarable s D ≡ true → undeclaredBelow s D f ≡ true → WellFormedRead s D f
-  tests-well-formed size ok symbols = record {
-    size = size;
-    declared = good-cells s D ok;
-    symbols = each-below (λ x. false≢true (sym (ap not symbols) ∙ symbols-says .fails x));
-  }
 
   pub well-formed-read : WellFormedRead s D f → Pass (readTests s D f)
   well-formed-read w =

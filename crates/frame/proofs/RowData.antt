@@ -9,14 +9,15 @@ use borrow.Rule.Slice.PartMut.{midOf}
 use lib.Dec.{ltb}
 use lib.ListN.{length, getD}
 use Rattle.columns.specs.declared.Columns.{Columns}
+use Rattle.frame.specs.Completion.{completed}
 use Rattle.frame.specs.Encode.{dataBelow}
 use Rattle.frame.specs.Frame.{cell}
 use Rattle.frame.specs.Shape.{checksOf}
 use Rattle.frame.specs.declared.Shape.{Shape}
 use Rattle.frame.proofs.CompletionLaws.{length-completed}
-use Rattle.frame.proofs.Rows.{row-cell}
+use Rattle.frame.proofs.Rows.{row-cell, eachRow-later}
+use Rattle.lists.proofs.Entries.{getD-part}
 use Rattle.lists.proofs.Tabulated.{every-at}
-use Rattle.frame.proofs.RowsAhead.{row-ahead}
 use Rattle.frame.proofs.RowsCompleted.{RowsCompleted}
 
 module _ (s : Shape) (f : List ℕ) (small : dataBelow s f ≡ true) (h : ℕ) (less : h < s .rows) where
@@ -34,7 +35,11 @@ module _ (s : Shape) (f : List ℕ) (small : dataBelow s f ≡ true) (h : ℕ) (
       → (i : ℕ) → checksOf s h ≤ i → i < n → getD (midOf (h * n) (h * n + n - h * n) frame) i 0 < 257
   row-small sets frame a inside i le l =
       let same =
-      ap (λ (x : List ℕ). getD x i 0) (row-ahead n (s .rows) _ (λ h x. length-completed n (sets h) x) f h frame a inside) ∙ row-cell n f h i l
+      getD-part (h * n) (h * n + n - h * n) frame i 0 (omega arith)
+      ∙ ap (λ (e : List ℕ). cell n e h i) (a .entries) ∙ sym (row-cell n _ h i l)
+      ∙ ap (λ (x : List ℕ). getD x i 0)
+      (eachRow-later n (λ h. completed n (sets h)) (λ h x. length-completed n (sets h) x) f h (omega arith) h (omega arith) inside)
+      ∙ row-cell n f h i l
       in
       let d = data-small i le l in
       omega arith
