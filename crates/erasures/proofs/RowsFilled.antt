@@ -109,3 +109,30 @@ module _ (s : Shape) (declared : List ℕ) (M : Columns) (sums f : List ℕ) whe
           let declared-cells = declared-few s D (asked .declarable) h less in
           let both = size-either M (D h) in
           omega arith
+
+      module _ (set : Columns) (e : set ≡ either M (D h)) where
+        pub row-mendable : MendableRow set lent-sums lent
+        unfolding rowSums
+        row-mendable = record {
+          narrow = (let w = width in let p = place-of in omega arith);
+          small = λ k l.
+              let b : k < n = let w = width in omega arith in
+              subst⁻¹ (λ (x : ℕ). x < 257) (ap (λ (x : List ℕ). getD x k 0) is-row ∙ row-cell n f h k b)
+              (asked .small (h * n + k) (let p = place-of in omega arith));
+          few = (let q = number in let p = place-of in omega arith);
+          held =
+              are-sums ∙ ap₂ (λ (k : ℕ) (x : List ℕ). checkSums k (checksOf s h) x) (sym width) (sym is-row)
+              ∙ ap (λ (m : ℕ). checkSums (length lent) m lent) (sym number);
+          below = λ i t.
+              let l = inside i (ap (λ (J : Columns). has J i) (sym e) ∙ t) in
+              let w = width in
+              omega arith;
+          reach = (let l = few in let q = number in let r = ap (λ (J : Columns). length (members J)) e in omega arith);
+        }
+
+        pub filled-more : (y : List ℕ) → y ≡ completed (length lent) set lent
+            → RowsFilled (h + 1) (at + count) (putMid (h * n) (h * n + n - h * n) frame y)
+        filled-more y made = record {
+          place = ap₂ _+_ (a .place) c ∙ sym (ap (sumsBefore s) (add-one h) ∙ total-suc h (checksOf s));
+          rows = completed-more n (s .rows) _ f h frame (a .rows) (place-of .inside) set y less e made;
+        }
