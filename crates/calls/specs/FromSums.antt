@@ -32,7 +32,7 @@ pub record Locatable (s : Shape) (none : Bool) (declared sums : List ℕ) : Type
 
 -- the same, and the columns are those that the register names, as many as it is long, which every row reaches
 pub record Completable (s : Shape) (none : Bool) (declared : List ℕ) (named : Columns) (sums : List ℕ) : Type 0 where
-  pub sums : Locatable s none declared sums
+  pub locatable : Locatable s none declared sums
   pub columns : named ≡ namedColumns s (tapsOf (allRemaining s (declaredBy declared) (heldSequences s sums)))
   pub enough :
       namesAll s (tapsOf (allRemaining s (declaredBy declared) (heldSequences s sums)))

@@ -132,7 +132,7 @@ nothing-declared = record {
       let t : isShape s ≡ true = shaped-so a before s noWords f last in
       let sized = locates a before s noWords g last taken .well-formed .size in
       let exact = demand-3 .repair-exact a before between s noWords f g last taken kept (well-formed s t f w) .1 in
-      let same = same-differ s (shaped-so a before s noWords g last) f g (w .size) sized in
+      let same = same-differ s t f g (w .size) sized in
       (λ refusal. same .0 (exact .0 refusal), λ differ. exact .1 (same .1 differ));
   damage-mended = λ a before between s f g last legal w twice kept.
       let t : isShape s ≡ true = shaped-so a before s noWords f last in
