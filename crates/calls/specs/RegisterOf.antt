@@ -19,7 +19,7 @@ use Rattle.sequences.specs.Tests.{tests}
 -- sequences that pass the finder's tests: the first lengths, and the first symbols
 pub record Findable (rows : ℕ) (lengths : List ℕ) (all : ℕ) (symbols taps : List ℕ) : Type 0 where
   pub few : rows ≤ 8
-  pub room : all ≤ 512
+  pub room : all ≤ length symbols
   pub accepted : outcome (tests 257 (take rows lengths) (take all symbols) (length taps)) ≡ passed
 
 -- the same of what is left of sums

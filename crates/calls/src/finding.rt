@@ -33,7 +33,7 @@ fn shortest(
     rows: usize,
     lengths: [u16; 8],
     all: usize,
-    symbols: &[u16; 512],
+    symbols: &[u16],
     taps: &mut [u16],
 ) -> Found
     requires { ⌜ Findable rows lengths all (now symbols) (now taps) ⌝ }
@@ -63,7 +63,8 @@ pub fn register_of(
     ensures { λ r. ⌜ RegisterOf s (declaredBy (now (declared .entry))) (now (sums .entry)) (now (taps .exit)) r ⌝ }
 {
     if none {
-        return shortest(s.rows, s.checks, sum_count(s), sums, taps);
+        let checks = s.checks;
+        return shortest(s.rows, checks, sum_count(s), sums, taps);
     }
     shortest_left(s, all_remaining(s, declared, sums), taps)
 }

@@ -1,4 +1,4 @@
--- A frame that can be filled: as read it is filled row by row, which leaves what filling the frame itself leaves; with nothing declared it is mended as it stands.
+-- A frame that can be filled: as read it is filled row by row, which leaves what filling the frame itself leaves.
 use mathlib.Core.Path.{_≡_, sym, ap, subst, _∙_}
 use mathlib.Core.Bool.{Bool, true, false, _||_}
 use mathlib.Core.List.{List}
@@ -24,7 +24,7 @@ use Rattle.frame.proofs.ReadFrames.{length-read}
 use Rattle.frame.proofs.ReadTests.{symbols-read}
 use Rattle.lists.proofs.Tabulated.{every-at}
 
-module _ (s : Shape) (none : Bool) (declared : List ℕ) (M : Columns) (sums f : List ℕ) (asked : Fillable s none declared M sums f) where
+module _ (s : Shape) (declared : List ℕ) (M : Columns) (sums f : List ℕ) (asked : Fillable s declared M sums f) where
   abbrev D : Declared
   D = declaredBy declared
 
@@ -57,20 +57,3 @@ module _ (s : Shape) (none : Bool) (declared : List ℕ) (M : Columns) (sums f :
 
   pub filled-is : (g : List ℕ) → g ≡ asRead s (declaredBy declared) f → mended s (declaredBy declared) M g ≡ mended s (declaredBy declared) M f
   filled-is g e = ap (mended s D M) e ∙ sym (mended-read s (asked .shape) D f read M (asked .below))
-
-  enough : (h : ℕ) → h < s .rows → length (members M) ≤ checksOf s h
-  unfolding leftReach
-  enough h l = let left = leb-true (length (members M)) (checksLeft s D h) (every-at (s .rows) _ (asked .reach) h l) in omega arith
-
-  -- with nothing declared
-  pub plain-mendable : none ≡ true → MendableFrame s M sums f
-  plain-mendable taken =
-      let same = read-as-it-stands s (asked .shape) declared (sym (asked .flag) ∙ taken) f (asked .whole) in
-      record {
-        shape = asked .shape;
-        whole = asked .whole;
-        small = subst (λ (x : List ℕ). (k : ℕ) → k < length x → getD x k 0 < 257) same all-symbols;
-        held = asked .held ∙ ap (heldSums s) same;
-        below = asked .below;
-        reach = enough;
-      }

@@ -3,7 +3,6 @@ use crate::cells::cells_of;
 use crate::reading::clear_rows;
 use columns::Columns;
 use columns::either;
-use completion::mend::mend;
 use completion::row::mend_row;
 use field257::powers::wide;
 use frame::Shape;
@@ -39,19 +38,14 @@ fn fill_rows(s: Shape, declared: &[u64; 32], marked: Columns, sums: &[u16], fram
 // off the sums, so the declared cells are cleared first.
 pub fn fill(
     s: Shape,
-    none: bool,
     declared: &[u64; 32],
     marked: Columns,
     sums: &[u16; 512],
     frame: &mut [u16],
 )
-    requires { ⌜ Fillable s none (now declared) marked (now sums) (now frame) ⌝ }
+    requires { ⌜ Fillable s (now declared) marked (now sums) (now frame) ⌝ }
     ensures { λ r. ⌜ now (frame .exit) ≡ mended s (declaredBy (now (declared .entry))) marked (now (frame .entry)) ⌝ }
 {
-    if none {
-        mend(s, marked, sums, frame);
-        return;
-    }
     clear_rows(s, declared, frame);
     fill_rows(s, declared, marked, sums, frame);
 }

@@ -1,4 +1,4 @@
-// Frames as they are read: 0 in the declared cells, whatever these hold. Where nothing is declared the frame itself is looked at, and nothing is copied.
+// Frames as they are read: 0 in the declared cells, whatever these hold.
 use crate::cells::cells_of;
 use crate::cells::is_declarable;
 use codec::sums::frame_sums;
@@ -8,14 +8,15 @@ use frame::Shape;
 use refusal::Checked;
 use refusal::Refusal;
 use shapes::symbols::all_below;
-use shapes::symbols::check_frame;
 ghost use mathlib.Core.Path.{_≡_};
+ghost use mathlib.Core.Bool.{true};
 ghost use Prim.Native.Nat.{_≤_};
 ghost use lib.ListN.{length, take};
-ghost use Rattle.erasures.specs.Readable.{Checkable, Readable, Summable};
+ghost use Rattle.erasures.specs.Readable.{Readable};
 ghost use Rattle.frame.specs.Completion.{cleared};
 ghost use Rattle.frame.specs.DeclaredCells.{asRead, declaredBy, readTests};
 ghost use Rattle.frame.specs.Frame.{heldSums};
+ghost use Rattle.frame.specs.Shape.{isShape};
 ghost use Rattle.refusal.specs.Outcome.{outcome, outcomeOf};
 
 // 0 in the columns of the set.
@@ -72,13 +73,10 @@ fn as_read(s: Shape, declared: &[u64; 32], frame: &[u16]) -> [u16; 2048]
 }
 
 // The refusals of a frame of which cells are declared.
-pub fn check_read(s: Shape, none: bool, declared: &[u64; 32], frame: &[u16]) -> Checked
-    requires { ⌜ Checkable s none (now declared) ⌝ }
+pub fn check_read(s: Shape, declared: &[u64; 32], frame: &[u16]) -> Checked
+    requires { ⌜ isShape s ≡ true ⌝ }
     ensures { λ r. ⌜ outcomeOf r ≡ outcome (readTests s (declaredBy (now (declared .entry))) (now (frame .entry))) ⌝ }
 {
-    if none {
-        return check_frame(s, frame);
-    }
     let n = frame.len();
     if n != s.rows * s.columns {
         return Checked::Refuse(Refusal::FrameSize);
@@ -94,13 +92,10 @@ pub fn check_read(s: Shape, none: bool, declared: &[u64; 32], frame: &[u16]) -> 
 }
 
 // The check sums of the frame as read, row after row, and zeros after them.
-pub fn sums_read(s: Shape, none: bool, declared: &[u64; 32], frame: &[u16]) -> [u16; 512]
-    requires { ⌜ Summable s none (now declared) (now frame) ⌝ }
+pub fn sums_read(s: Shape, declared: &[u64; 32], frame: &[u16]) -> [u16; 512]
+    requires { ⌜ Readable s (now frame) ⌝ }
     ensures { λ r. ⌜ r ≡ heldSums s (asRead s (declaredBy (now (declared .entry))) (now (frame .entry))) ⌝ }
 {
-    if none {
-        return frame_sums(s, frame);
-    }
     let n = frame.len();
     let read = as_read(s, declared, frame);
     frame_sums(s, &read[0..n])
