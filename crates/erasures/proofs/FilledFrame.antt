@@ -1,20 +1,21 @@
--- A frame that can be filled: as read it is filled row by row, which leaves what filling the frame itself leaves; with nothing declared it is mended as it stands.
+-- A frame that can be filled: as read it is filled row by row, which leaves what filling the frame itself leaves; with nothing declared it is mended
+-- as it stands.
 use mathlib.Core.Path.{_≡_, sym, ap, subst, _∙_}
-use mathlib.Core.Bool.{Bool, true, false, _||_}
+use mathlib.Core.Bool.{Bool, true, _||_}
 use mathlib.Core.List.{List}
 use Prim.Native.Nat.{ℕ, _≤_, _<_}
 use native.Mathlib.Omega.{arith}
 use lib.Dec.{ltb}
 use lib.ListN.{length, getD}
 use borrow.Author.Tests.{ltb-true, leb-true}
-use Rattle.columns.specs.Columns.{has, members}
+use Rattle.columns.specs.Columns.{members}
 use Rattle.columns.specs.declared.Columns.{Columns}
 use Rattle.completion.specs.Mendable.{MendableFrame}
 use Rattle.decoding.specs.Remaining.{leftReach, mended}
 use Rattle.decoding.proofs.MendedFrame.{Read, read-facts}
 use Rattle.decoding.proofs.SameRead.{mended-read}
 use Rattle.erasures.specs.Fillable.{Fillable, FillableRows}
-use Rattle.frame.specs.DeclaredCells.{Declared, asRead, checksLeft, declaredBy, nothingDeclared, undeclaredBelow}
+use Rattle.frame.specs.DeclaredCells.{Declared, asRead, checksLeft, declaredBy, undeclaredBelow}
 use Rattle.frame.specs.Frame.{cell, heldSums}
 use Rattle.frame.specs.Shape.{checksOf}
 use Rattle.frame.specs.declared.Shape.{Shape}
