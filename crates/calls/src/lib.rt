@@ -2,6 +2,7 @@
 pub mod encode;
 mod from_sums;
 pub mod locate;
+mod register;
 pub mod repair;
 mod search;
 pub mod shape;

@@ -14,13 +14,15 @@ use Rattle.columns.proofs.Listing.{length-listed, count-skip, count-zero}
 use Rattle.decoding.specs.Locating.{rowsReach}
 use Rattle.decoding.specs.Remaining.{remaining, allRemaining, readSequences, leftReach, mended}
 use Rattle.decoding.proofs.FrameSums.{sequence-below}
+use Rattle.decoding.proofs.MendedFrame.{cell-below}
 use Rattle.field257.specs.LocatorPolynomial.{locatorPolynomial}
 use Rattle.frame.specs.Completion.{completed}
 use Rattle.frame.specs.Encode.{eachRow}
-use Rattle.frame.specs.Frame.{sequences, distance, differing}
-use Rattle.frame.specs.DeclaredCells.{Declared, erasures, distanceRead, differingRead}
+use Rattle.frame.specs.Frame.{WellFormed, sequences, distance, differing}
+use Rattle.frame.specs.DeclaredCells.{Declared, erasures, declarable, WellFormedRead, distanceRead, differingRead}
 use Rattle.frame.specs.Shape.{isShape, checksOf}
 use Rattle.frame.specs.declared.Shape.{Shape}
+use Rattle.frame.proofs.Declarable.{good-cells}
 use Rattle.frame.proofs.ReadFrames.{read-none}
 use Rattle.frame.proofs.Rows.{eachRow-ext}
 use Rattle.frame.proofs.Shapes.{shape-ranges}
@@ -56,8 +58,16 @@ module _ (s : Shape) (shape : isShape s ≡ true) (D : Declared) (none : (h i : 
   inside : (h i : ℕ) → h < s .rows → i < s .columns → has (D h) i ≡ false
   inside h i below low = none h i below (let q = shape-ranges s shape .columns-most in omega arith)
 
-  no-cells : (h : ℕ) → h < s .rows → erasures D h ≡ 0
+  pub no-cells : (h : ℕ) → h < s .rows → erasures D h ≡ 0
   no-cells h below = ap length (none-listed (D h) (λ i. none h i below))
+
+  -- a frame that is well-formed as it stands is so as read
+  pub well-formed-none : (f : List ℕ) → declarable s D ≡ true → WellFormed s f → WellFormedRead s D f
+  well-formed-none f ok w = record {
+    size = w .size;
+    declared = good-cells s D ok;
+    symbols = λ h i below inside out. cell-below s f w h i below inside;
+  }
 
   pub reach-none : (c : ℕ) → leftReach s D c ≡ rowsReach s c
   unfolding leftReach rowsReach

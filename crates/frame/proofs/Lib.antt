@@ -12,6 +12,7 @@ pub mod GivenShapes
 pub mod Held
 pub mod HeldEntries
 pub mod HeldParts
+pub mod HeldRows
 pub mod HeldSequences
 pub mod HeldSums
 pub mod NothingDeclared

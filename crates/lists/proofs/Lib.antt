@@ -1,3 +1,4 @@
+pub mod Appending
 pub mod BlockSums
 pub mod Copying
 pub mod DataCells
