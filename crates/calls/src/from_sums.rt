@@ -1,5 +1,5 @@
 // Locating from check sums: the shortest register of what is left of them, and the columns that it names.
-use crate::register::register_of;
+use crate::finding::register_of;
 use crate::search::named_columns;
 use crate::sound::rows_reach;
 use crate::states::located;

@@ -1,8 +1,8 @@
 // The calls on a job (SPECIFICATION.md, "Jobs").
 pub mod encode;
+mod finding;
 mod from_sums;
 pub mod locate;
-mod register;
 pub mod repair;
 mod search;
 pub mod shape;

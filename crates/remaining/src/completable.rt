@@ -1,9 +1,9 @@
 // Whether each row can be completed at its marked and declared columns: with these taken out, what is left of its check sums is 0.
 use crate::row::remaining;
-use crate::rows::cells_of;
 use columns::Columns;
 use columns::either;
 use columns::size;
+use erasures::cells::cells_of;
 use field257::powers::powers;
 use field257::powers::wide;
 use frame::Shape;

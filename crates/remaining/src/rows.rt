@@ -1,12 +1,10 @@
 // What is left of the check sums of all rows when the declared cells are taken out of them: the sequences that a register is sought for.
 use crate::row::remaining;
-use columns::Columns;
 use columns::size;
+use erasures::cells::cells_of;
 use field257::powers::powers;
 use field257::powers::wide;
 use frame::Shape;
-ghost use mathlib.Core.Path.{_≡_};
-ghost use Prim.Native.Nat.{_<_};
 ghost use Rattle.frame.specs.DeclaredCells.{declaredBy};
 ghost use Rattle.remaining.specs.Removable.{RemovableRows};
 ghost use Rattle.remaining.specs.SequencesLeft.{SequencesLeft};
@@ -16,16 +14,6 @@ pub struct Left {
     pub lengths: [u16; 8],
     pub symbols: [u16; 512],
     pub count: usize,
-}
-
-pub fn cells_of(declared: &[u64; 32], h: usize) -> Columns
-    requires { ⌜ h < 8 ⌝ }
-    ensures { λ r. ⌜ r ≡ declaredBy (now (declared .entry)) h ⌝ }
-{
-    let w = &declared[..];
-    let a = 4 * h;
-    let words = [w[a], w[a + 1], w[a + 2], w[a + 3]];
-    Columns { words }
 }
 
 // What is left of each row, row after row.
