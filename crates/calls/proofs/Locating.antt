@@ -1,7 +1,7 @@
 -- Locating from sums, step by step: what the finder answers, the taps that it leaves, and what is given after each test.
 use mathlib.Core.Path.{_≡_, refl, sym, ap, ap₂, subst, _∙_}
 use mathlib.Core.Bool.{Bool, true, false, not}
-use mathlib.Core.List.{List, [], _++_}
+use mathlib.Core.List.{List, _++_}
 use Prim.Native.Nat.{ℕ, suc, _+_, _-_, _≤_, _<_}
 use native.Mathlib.Omega.{arith}
 use lib.Dec.{ltb}
@@ -14,7 +14,7 @@ use Rattle.decoding.specs.Locating.{sizeOf, tapsOf, aloneOf, namedColumns, name
 use Rattle.decoding.specs.Remaining.{allRemaining, leftReach, completable}
 use Rattle.decoding.proofs.SequenceRegister.{generator-of, length-taps}
 use Rattle.decoding.proofs.NamedColumns.{size-named, names-at-most}
-use Rattle.finder.specs.Finder.{Answer, answerOf, register, refused}
+use Rattle.finder.specs.Finder.{answerOf, register, refused}
 use Rattle.finder.specs.declared.Found.{Found}
 use Rattle.frame.specs.DeclaredCells.{Declared, declaredBy, asRead}
 use Rattle.frame.specs.Frame.{heldSums, heldSequences}

@@ -1,12 +1,10 @@
 -- `calls::from_sums::locate_from` meets its contract.
 use mathlib.Core.Path.{_≡_, refl, sym, ap, _∙_}
 use mathlib.Core.Bool.{true}
-use native.Mathlib.Nat.{le-antisymm}
 use native.Mathlib.Omega.{arith}
 use lib.ListN.{length}
 use denote.Ref.{now}
 use borrow.Author.Tests.{not-true, not-false}
-use Rattle.columns.specs.Columns.{members}
 use Rattle.decoding.specs.Remaining.{leftReach}
 use Rattle.finder.specs.Finder.{answerOf}
 use Rattle.frame.specs.DeclaredCells.{declaredBy}
