@@ -22,9 +22,11 @@ impl Shape {
         self.checks.iter().copied().min().map_or(0, usize::from)
     }
 
-    /// The smallest number of checks of a row less its declared cells, which are no more.
+    /// The smallest number of checks of a row less its declared cells.
     pub fn least_left(&self, declared: &Declared) -> usize {
-        let left = |(h, &checks): (usize, &u16)| usize::from(checks) - cells_of(declared, h).len();
+        let left = |(h, &checks): (usize, &u16)| {
+            usize::from(checks).saturating_sub(cells_of(declared, h).len())
+        };
         let rows = self.checks.iter().enumerate();
         rows.map(left).min().unwrap_or(0)
     }
@@ -108,12 +110,14 @@ pub fn declaring(rows: &[Vec<usize>]) -> Declared {
     declared
 }
 
-/// The frame as it is read: 0 in the declared cells, which are within the shape.
+/// The frame as it is read: 0 in the declared cells.
 pub fn as_read(shape: &Shape, declared: &Declared, frame: &[u16]) -> Vec<u16> {
     let mut read = frame.to_vec();
     for (h, row) in read.chunks_mut(shape.columns).enumerate() {
         for i in cells_of(declared, h) {
-            row[i] = 0;
+            if let Some(cell) = row.get_mut(i) {
+                *cell = 0;
+            }
         }
     }
     read
