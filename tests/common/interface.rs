@@ -85,6 +85,19 @@ impl Head {
         head
     }
 
+    /// Makes a shaped head located, and answers what locate answers then.
+    pub fn located(&mut self, length: usize, marks: Marks) -> Answer {
+        self.phase = LOCATED;
+        self.alone = 1;
+        self.length = length as u64;
+        self.marks = marks;
+        Answer {
+            refusal: 0,
+            count: self.length,
+            marks,
+        }
+    }
+
     /// The shaped head of the same shape.
     pub fn reshaped(&self) -> Head {
         Head {

@@ -19,9 +19,9 @@ pub struct Alike {
 }
 
 /// The frames by a number that says how they differ: the set of columns, or their count.
-type Counted = BTreeMap<u32, Alike>;
+type Counted = BTreeMap<usize, Alike>;
 
-fn count_in(all: &mut Counted, key: u32, count: u128, frame: impl Fn() -> Vec<u16>) {
+fn count_in(all: &mut Counted, key: usize, count: u128, frame: impl Fn() -> Vec<u16>) {
     let one = || Alike {
         count: 0,
         frame: frame(),
@@ -75,9 +75,12 @@ impl LegalRows {
         }
         let mut distances = Counted::new();
         for (set, frames) in frames {
-            count_in(&mut distances, set.count_ones(), frames.count, || {
-                frames.frame.clone()
-            });
+            count_in(
+                &mut distances,
+                set.count_ones() as usize,
+                frames.count,
+                || frames.frame.clone(),
+            );
         }
         distances
     }

@@ -259,25 +259,13 @@ impl Calls for Independent {
         {
             return Answer::refused(26);
         }
-        let marks = marks_of(&columns);
-        job.head = Head {
-            phase: LOCATED,
-            alone: 1,
-            length: c as u64,
-            marks,
-            ..job.head
-        };
         job.declared = *declared;
         job.sums = held_sums(&shape, &as_read(&shape, declared, frame));
         job.taps = [0; 65];
         for (entry, tap) in job.taps.iter_mut().zip(taps) {
             *entry = tap as u16;
         }
-        Answer {
-            refusal: 0,
-            count: c as u64,
-            marks,
-        }
+        job.head.located(c, marks_of(&columns))
     }
 
     fn repair(&self, job: &mut Job, frame: &mut [u16]) -> Answer {

@@ -5,8 +5,8 @@
 use common::interface::{Declared, Job, NOTHING};
 use common::random::Random;
 
-use crate::independent::enumeration::LegalRows;
-use crate::independent::frames::{Shape, cells_of, declaring, differing, is_legal};
+use crate::independent::enumeration::{Alike, LegalRows};
+use crate::independent::frames::{Shape, declaring, differing, is_legal, marks_of};
 use crate::independent::register_of;
 use crate::judge::{FILLED, Judge};
 use crate::trials::frames::mend;
@@ -271,7 +271,9 @@ fn marked_and_declared(judge: &mut Judge, random: &mut Random) {
         let hit = random.subset(shape.columns, count);
         random.damage(&mut first, shape.columns, &hit);
         let mut cells = random.subset(shape.columns, lost);
-        cells[0] = random.pick(&hit);
+        if !cells.contains(&hit[0]) {
+            cells[0] = hit[0];
+        }
         let altered = random.below(2);
         let elsewhere = random.subset(shape.columns, altered);
         random.damage(&mut second, shape.columns, &elsewhere);
@@ -284,66 +286,71 @@ fn marked_and_declared(judge: &mut Judge, random: &mut Random) {
     judge.expect("columns both damaged and declared", &refusals, both);
 }
 
-/// Frames so small that all legal ones can be listed: locate is refused by 26 exactly where none
-/// lies at the length of a register that is alone, and repair leaves the only nearest one.
+/// Frames so small that all legal ones can be listed.
 fn enumerated(judge: &mut Judge, random: &mut Random) {
     let mut rows = LegalRows::default();
-    let mut refusals = [0; 2];
+    let mut lengths = [0; 2];
     for _ in 0..1_500 {
         let columns = random.pick(&[2, 3, 3, 4, 4, 4]);
-        let checks = || random.from_to((columns - 1).min(columns / 2), columns - 1) as u16;
-        let checks: Vec<u16> = std::iter::repeat_with(checks).take(3).collect();
+        let least = (columns - 1).min(columns / 2);
+        let checks = (0..random.from_to(1, 4))
+            .map(|_| random.from_to(least, columns - 1) as u16)
+            .collect();
         let shape = Shape { columns, checks };
         let declared = some_cells(random, &shape);
         let sent = some_legal_frame(random, &shape);
         let count = random.below(columns);
         let received = damaged(random, &shape, &sent, count);
         let received = refilled(random, &shape, &declared, &received);
-        let mut job = shaped(&shape);
-        let located = judge.locate(&mut job, &declared, &received);
-        let (_, mended) = judge.repair(&mut job, &received);
-        let Some(taps) = register_of(&shape, &declared, &received) else {
-            continue;
-        };
-        let c = taps.len() - 1;
-        if c > shape.least_left(&declared) {
-            continue;
+        if let Some(is_legal) = listed(judge, &mut rows, &shape, &declared, &received) {
+            lengths[usize::from(is_legal)] += 1;
         }
-        let distances = rows.by_distance(&shape, &declared, &received);
-        let nearest = distances.get(&(c as u32));
-        let inputs = (&shape, &declared, &received);
-        judge.compare(
-            "26 without a legal frame",
-            &inputs,
-            nearest.is_none(),
-            located.refusal == 26,
-        );
-        refusals[usize::from(nearest.is_none())] += 1;
-        let Some(nearest) = nearest.filter(|_| located.refusal == 0) else {
-            continue;
-        };
-        let least = distances.keys().next().copied();
-        judge.compare("no legal frame is nearer", &inputs, Some(c as u32), least);
-        judge.compare(
-            "the nearest is the only one",
-            &inputs,
-            (1, &mended),
-            (nearest.count, &nearest.frame),
-        );
-        let differing = differing(&shape, &declared, &mended, &received);
-        judge.compare(
-            "the number of columns",
-            &inputs,
-            located.count as usize,
-            differing.len(),
-        );
-        let filled = (0..3).all(|h| {
-            cells_of(&declared, h)
-                .iter()
-                .all(|i| mended[h * columns + i] < 257)
-        });
-        judge.expect("declared cells are filled", &inputs, filled);
     }
-    let both = refusals.iter().all(|&number| number > 20);
-    judge.expect("legal frames at the length, and none", &refusals, both);
+    let both = lengths.iter().all(|&number| number > 20);
+    judge.expect("legal frames at the length, and none", &lengths, both);
+}
+
+/// Where the register is alone and no row is short, locate is refused by 26 exactly if no legal
+/// frame lies at its length, which is answered, and repair leaves the only nearest one.
+fn listed(
+    judge: &mut Judge,
+    rows: &mut LegalRows,
+    shape: &Shape,
+    declared: &Declared,
+    received: &[u16],
+) -> Option<bool> {
+    let mut job = shaped(shape);
+    let located = judge.locate(&mut job, declared, received);
+    let (_, mended) = judge.repair(&mut job, received);
+    let c = register_of(shape, declared, received)?.len() - 1;
+    if c > shape.least_left(declared) {
+        return None;
+    }
+    let distances = rows.by_distance(shape, declared, received);
+    let number = if distances.contains_key(&c) { 0 } else { 26 };
+    let inputs = (shape, declared, received);
+    judge.compare("26 without a legal frame", &inputs, number, located.refusal);
+    if located.refusal == 0 {
+        let nearest = distances
+            .first_key_value()
+            .map(|(&distance, frames)| (distance, frames.clone()));
+        let only = Alike {
+            count: 1,
+            frame: mended.clone(),
+        };
+        judge.compare(
+            "the only nearest legal frame",
+            &inputs,
+            Some((c, only)),
+            nearest,
+        );
+        let columns = differing(shape, declared, &mended, received);
+        judge.compare(
+            "the columns that differ",
+            &inputs,
+            (c as u64, marks_of(&columns)),
+            (located.count, located.marks),
+        );
+    }
+    Some(number == 0)
 }
