@@ -27,7 +27,7 @@ enum Call {
     Encode,
     Locate {
         head: Head,
-        declared: Declared,
+        declared: Box<Declared>,
         frame: Vec<u16>,
     },
     Repair {
@@ -182,7 +182,7 @@ impl Frames {
         Plain.locate(&mut located, declared, frame);
         let locate = Call::Locate {
             head: self.job.head,
-            declared: *declared,
+            declared: Box::new(*declared),
             frame: frame.to_vec(),
         };
         let repair = Call::Repair {
