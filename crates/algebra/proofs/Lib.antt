@@ -6,6 +6,7 @@ pub mod FieldLaws
 pub mod Horner
 pub mod LocatorLaws
 pub mod LocatorOrder
+pub mod LocatorProducts
 pub mod Powers
 pub mod RingLaws
 pub mod Roots

@@ -1,4 +1,5 @@
 pub mod Bits
+pub mod Joined
 pub mod Least
 pub mod Listing
 pub mod Marks

@@ -4,7 +4,7 @@ ghost use mathlib.Core.Bool.{false, _&&_, _||_};
 ghost use Prim.Native.Nat.{_<_, _≤_};
 ghost use lib.Dec.{eqb, leb};
 ghost use lib.ListN.{length};
-ghost use Rattle.columns.specs.Columns.{bit, has, columnsOf, members};
+ghost use Rattle.columns.specs.Columns.{bit, has, columnsOf, members, either};
 ghost use Rattle.columns.specs.Listed.{count, least};
 
 pub struct Columns {
@@ -38,6 +38,19 @@ pub fn with(c: Columns, i: usize) -> Columns
     let w = i / 64;
     r.words[w] = r.words[w] | (1u64 << (i % 64));
     r
+}
+
+// The columns of either set.
+pub fn either(a: Columns, b: Columns) -> Columns
+    ensures { λ r. ⌜ r ≡ either a b ⌝ }
+{
+    let words = [
+        a.words[0] | b.words[0],
+        a.words[1] | b.words[1],
+        a.words[2] | b.words[2],
+        a.words[3] | b.words[3],
+    ];
+    Columns { words }
 }
 
 // The set bits of one word.

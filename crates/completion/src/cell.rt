@@ -9,7 +9,7 @@ ghost use Rattle.completion.specs.Mendable.{Readable, MendableCell};
 ghost use Rattle.completion.specs.Mending.{mendedCell, symbolRead};
 
 // The coefficients times the sums, the last sum first. 64 products of 65535 and 256 fit the sum, so that it is reduced once.
-fn read_off(coefficients: &[u16], sums: &[u16]) -> u16
+pub fn read_off(coefficients: &[u16], sums: &[u16]) -> u16
     requires { ⌜ Readable (now coefficients) (now sums) ⌝ }
     ensures { λ r. ⌜ r ≡ symbolRead (now (coefficients .entry)) (now (sums .entry)) ⌝ }
 {

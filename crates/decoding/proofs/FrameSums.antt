@@ -5,6 +5,7 @@ use mathlib.Core.Logic.{_≢_}
 use mathlib.Core.List.{List, [], _∷_}
 use Prim.Native.Nat.{ℕ, zero, suc, _-_, _≤_, _<_}
 use native.Mathlib.Omega.{arith}
+use lib.Dec.{lit<}
 use lib.ListN.{length, getD}
 use Rattle.algebra.specs.Ring.{CRing, Field}
 use Rattle.algebra.specs.Sum.{pow}
@@ -26,6 +27,7 @@ use Rattle.frame.proofs.HeldSums.{length-rowSums}
 use Rattle.field257.proofs.Locators.{locator-nonzero}
 use Rattle.frame.proofs.Weights.{firstExponent}
 use Rattle.frame.proofs.Rows.{row-cell}
+use Rattle.lists.proofs.Joined.{tabulate-each}
 use Rattle.lists.proofs.Tabulated.{getD-tabulate}
 use Rattle.register.specs.Sequences.{symbol}
 open Field F257 using (inv, mul-inv)
@@ -122,3 +124,8 @@ module _ (s : Shape) (f : List ℕ) (h : ℕ) (below : h < s .rows) where
   pub sequence-sums : Symbols (getD (sequences s f) h []) (sums (s .columns) f h)
   sequence-sums j one within =
       ap res257 (sequence-symbol j one (let e = sequence-length in omega arith)) ∙ res-sums n f h j one
+
+  pub sequence-below : (j : ℕ) → getD (getD (sequences s f) h []) j 0 < 257
+  unfolding rowSums checkSums
+  sequence-below j =
+      rw sequence-at (tabulate-each (λ x. x < 257) 0 (lit< tt) (checksOf s h) _ (λ k. checkSum-below n (row n f h) (suc k)) j)

@@ -1,90 +1,116 @@
--- Recovery: the legal frame g was sent and the frame f came, damaged in w columns. Where the rows with at least 2·w checks show the damage of every column,
--- and no row has fewer than w checks, the register of f is alone and has length w, and the frame repaired at the columns that it names is g.
-use mathlib.Core.Path.{_≡_, sym}
-use mathlib.Core.Bool.{true}
+-- Recovery: the legal frame g was sent and the frame f came, damaged in w columns of undeclared cells. Where rows with at least 2·w checks left show the
+-- damage of every column, and no row has fewer than w checks left, the register of f is alone and has length w, and the mended frame is g.
+use mathlib.Core.Path.{_≡_, sym, _∙_}
+use mathlib.Core.Bool.{true, false}
 use mathlib.Core.List.{List}
-use Prim.Native.Nat.{ℕ, _*_, _≤_, _<_}
+use mathlib.Core.Logic.{_⊎_, inl, inr}
+use Prim.Native.Nat.{ℕ, _+_, _*_, _≤_, _<_}
 use native.Mathlib.Omega.{arith}
+use lib.ListN.{length}
 use borrow.Author.Tests.{le-leb}
-use Rattle.decoding.specs.Locating.{sizeOf, tapsOf, aloneOf, rowsReach, namedColumns, namesAll, repaired}
-use Rattle.decoding.proofs.DamageSums.{damage}
-use Rattle.frame.proofs.HeldSums.{length-sequences}
-use Rattle.decoding.proofs.FrameSums.{error, error-same-cell, sequence-length}
+use Rattle.columns.specs.Columns.{has}
+use Rattle.columns.proofs.Listing.{by-test}
+use Rattle.decoding.specs.Locating.{sizeOf, tapsOf, aloneOf, namedColumns, namesAll}
+use Rattle.decoding.specs.Remaining.{sumsRead, readSequences, leftReach, completable, mended}
+use Rattle.decoding.proofs.FrameSums.{error-same-cell}
+use Rattle.decoding.proofs.LeftSequences.{rows-left, length-left, part, part-nonzero, left-power}
+use Rattle.decoding.proofs.MendedFrame.{Read, cell-below}
 use Rattle.decoding.proofs.PowerSums.{Shows, size-shown, alone-shown}
-use Rattle.decoding.proofs.RepairedFrame.{cell-below}
 use Rattle.decoding.proofs.SoleNearest.{legal-at-size, nearest-only}
-use Rattle.frame.specs.Frame.{cell, sequences, WellFormed, Legal, differs, distance}
+use Rattle.frame.specs.DeclaredCells.{Declared, erasures, checksLeft, asRead, differsRead, distanceRead}
+use Rattle.frame.specs.Frame.{cell, Legal, distance}
 use Rattle.frame.specs.Shape.{isShape, checksOf}
 use Rattle.frame.specs.declared.Shape.{Shape}
 use Rattle.frame.proofs.Distances.{row-of-difference}
+use Rattle.frame.proofs.ReadFrames.{read-declared, read-kept}
+use Rattle.frame.proofs.Shapes.{shape-ranges}
 use Rattle.lists.proofs.Tabulated.{every-of}
 
--- the rows of R show the damage: each has twice as many checks as columns are damaged, and every damaged column is damaged in one of them; no row has fewer
--- checks than columns are damaged
-pub record Shown (s : Shape) (g f : List ℕ) (R : ℕ → Type 0) : Type 0 where
-  pub reach : (h : ℕ) → h < s .rows → distance s g f ≤ checksOf s h
-  pub twice : (h : ℕ) → h < s .rows → R h → 2 * distance s g f ≤ checksOf s h
-  pub covers : (i : ℕ) → i < s .columns → differs s g f i ≡ true
-      → (h : ℕ) × (h < s .rows) × R h × (cell (s .columns) g h i ≡ cell (s .columns) f h i → ⊥)
+-- the rows of R show the damage: twice as many checks are left in each as columns are damaged, and every damaged column is damaged in an undeclared cell of
+-- one of them; no row has fewer checks left than columns are damaged
+pub record Shown (s : Shape) (D : Declared) (g f : List ℕ) (R : ℕ → Type 0) : Type 0 where
+  pub reach : (h : ℕ) → h < s .rows → distanceRead s D g f + erasures D h ≤ checksOf s h
+  pub twice : (h : ℕ) → h < s .rows → R h → 2 * distanceRead s D g f + erasures D h ≤ checksOf s h
+  pub covers : (i : ℕ) → i < s .columns → differsRead s D g f i ≡ true
+      → (h : ℕ) × (h < s .rows) × R h × (cell (s .columns) (asRead s D g) h i ≡ cell (s .columns) (asRead s D f) h i → ⊥)
 
-pub record Recovers (s : Shape) (g f : List ℕ) : Type 0 where
-  pub size : sizeOf (sequences s f) ≡ distance s g f
-  pub alone : aloneOf (sequences s f) ≡ true
-  pub reaches : rowsReach s (sizeOf (sequences s f)) ≡ true
-  pub names : namesAll s (tapsOf (sequences s f)) (sizeOf (sequences s f)) ≡ true
-  pub frame : repaired s (namedColumns s (tapsOf (sequences s f))) f ≡ g
+pub record Recovers (s : Shape) (D : Declared) (g f : List ℕ) : Type 0 where
+  pub size : sizeOf (readSequences s D f) ≡ distanceRead s D g f
+  pub alone : aloneOf (readSequences s D f) ≡ true
+  pub reaches : leftReach s D (sizeOf (readSequences s D f)) ≡ true
+  pub names : namesAll s (tapsOf (readSequences s D f)) (sizeOf (readSequences s D f)) ≡ true
+  pub fits : completable s D (namedColumns s (tapsOf (readSequences s D f))) (sumsRead s D f) ≡ true
+  pub frame : mended s D (namedColumns s (tapsOf (readSequences s D f))) f ≡ g
 
--- where every row has twice as many checks as columns are damaged, the rows show the damage
-all-rows : (s : Shape) (g f : List ℕ) → ((h : ℕ) → h < s .rows → 2 * distance s g f ≤ checksOf s h) → Shown s g f (λ h. h < s .rows)
-all-rows s g f twice =
+-- where the checks left of every row are twice as many as columns are damaged, the rows show the damage
+all-rows : (s : Shape) (D : Declared) (g f : List ℕ) → ((h : ℕ) → h < s .rows → 2 * distanceRead s D g f + erasures D h ≤ checksOf s h)
+    → Shown s D g f (λ h. h < s .rows)
+all-rows s D g f twice =
     record {
       reach = λ h below. (let t = twice h below in omega arith);
       twice = λ h below _. twice h below;
-      covers = λ i _ differ. let (h, below, apart) = row-of-difference s g f i differ in (h, below, below, apart);
+      covers = λ i _ differ.
+          let (h, below, apart) = row-of-difference s (asRead s D g) (asRead s D f) i differ in (h, below, below, apart);
     }
 
-module _ (s : Shape) (shape : isShape s ≡ true) (g f : List ℕ) (legal : Legal s g) (well-formed : WellFormed s f)
-    (R : ℕ → Type 0) (shown : Shown s g f R) where
+module _ (s : Shape) (shape : isShape s ≡ true) (D : Declared) (g f : List ℕ) (legal : Legal s g) (read : Read s D f)
+    (R : ℕ → Type 0) (damage : Shown s D g f R) where
   abbrev n : ℕ
   n = s .columns
 
   abbrev c : ℕ
-  c = sizeOf (sequences s f)
+  c = sizeOf (readSequences s D f)
 
-  shows : Shows n (differs s g f) (error n f g) (sequences s f)
+  sized : length g ≡ s .rows * s .columns
+  sized = legal .well-formed .size
+
+  -- a cell in which the frames as read differ is not declared
+  undeclared : (h i : ℕ) → h < s .rows → i < n → (cell n (asRead s D g) h i ≡ cell n (asRead s D f) h i → ⊥) → has (D h) i ≡ false
+  undeclared h i below inside apart = pick (by-test (has (D h) i))
+    where
+      pick : (has (D h) i ≡ true) ⊎ (has (D h) i ≡ false) → has (D h) i ≡ false
+      pick (inr out) = out
+      pick (inl mem) =
+          absurd (apart (read-declared s D g sized h i below inside mem ∙ sym (read-declared s D f (read .size) h i below inside mem)))
+
+  shows : Shows n (differsRead s D g f) (part s D f g) (readSequences s D f)
   unfolding distance
   shows i inside differ =
-      let (h, below, in-rows, apart) = shown .covers i inside differ in (
+      let (h, below, in-rows, apart) = damage .covers i inside differ in
+      let few : i < 256 = (let q = shape-ranges s shape .columns-most in omega arith) in
+      let out : has (D h) i ≡ false = undeclared h i below inside apart in (
         h,
-        (let q = length-sequences s f in omega arith),
-        (λ z. apart (sym (error-same-cell n f g h i (cell-below s f well-formed h i below inside) (cell-below s g (legal .well-formed) h i below inside) z))),
-        (let q = sequence-length s f h below in omega (arith, shown .twice h below in-rows)),
+        (let q = rows-left s D f in omega arith),
+        part-nonzero s D f g h i few out (λ z. apart (read-kept s D g sized h i below inside out
+            ∙ sym (error-same-cell n (asRead s D f) g h i (rw (read-kept s D f (read .size) h i below inside out) (read .symbols h i below inside out))
+            (cell-below s g (legal .well-formed) h i below inside) z))),
+        (let l = length-left s D f h below in omega (arith, damage .twice h below in-rows)),
       )
 
-  size-w : c ≡ distance s g f
+  size-w : c ≡ distanceRead s D g f
   unfolding distance
-  size-w =
-      size-shown s shape (sequences s f) (damage s g f (legal .codeword)) shows
+  size-w = size-shown s shape (readSequences s D f) (left-power s D f shape g sized (legal .codeword)) shows
 
-  alone : aloneOf (sequences s f) ≡ true
-  alone =
-      alone-shown s shape (sequences s f) (damage s g f (legal .codeword)) shows
+  alone : aloneOf (readSequences s D f) ≡ true
+  alone = alone-shown s shape (readSequences s D f) (left-power s D f shape g sized (legal .codeword)) shows
 
-  reaches : rowsReach s c ≡ true
-  unfolding rowsReach
-  reaches = every-of (s .rows) _ (λ h below. le-leb c (checksOf s h) (let q = size-w in omega (arith, shown .reach h below)))
+  reaches : leftReach s D c ≡ true
+  unfolding leftReach
+  reaches = every-of (s .rows) _ (λ h below. le-leb c (checksLeft s D h) (let q = size-w in omega (arith, damage .reach h below)))
 
-  recovers : Recovers s g f
+  recovers : Recovers s D g f
   recovers =
+      let (names, fits) = legal-at-size s shape D f read alone .1 (g, legal, sym size-w) in
       record {
         size = size-w;
         alone = alone;
         reaches = reaches;
-        names = legal-at-size s shape f well-formed alone .1 (g, legal, sym size-w);
-        frame = sym (nearest-only s shape f well-formed alone reaches g legal (let q = size-w in omega arith));
+        names = names;
+        fits = fits;
+        frame = sym (nearest-only s shape D f read alone reaches g legal (let q = size-w in omega arith));
       }
 
--- Demand 3 speaks of this: at most half the smallest check count of columns are damaged.
-pub recovers-half : (s : Shape) → isShape s ≡ true → (g f : List ℕ) → Legal s g → WellFormed s f
-    → ((h : ℕ) → h < s .rows → 2 * distance s g f ≤ checksOf s h) → Recovers s g f
-recovers-half s shape g f legal well-formed twice = recovers s shape g f legal well-formed (λ h. h < s .rows) (all-rows s g f twice)
+-- Demand 3 speaks of this: in every row, twice the damaged columns and the declared cells are within the checks.
+pub recovers-twice : (s : Shape) → isShape s ≡ true → (D : Declared) (g f : List ℕ) → Legal s g → Read s D f
+    → ((h : ℕ) → h < s .rows → 2 * distanceRead s D g f + erasures D h ≤ checksOf s h) → Recovers s D g f
+recovers-twice s shape D g f legal read twice = recovers s shape D g f legal read (λ h. h < s .rows) (all-rows s D g f twice)

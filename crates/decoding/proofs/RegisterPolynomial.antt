@@ -34,6 +34,19 @@ Symbols x S = (j : ℕ) → 1 ≤ j → j ≤ length x → res257 (symbol x j) �
 abbrev pub Vanish : (l N : ℕ) (φ S : ℕ → R257 .car) → Type 0
 Vanish l N φ S = (j : ℕ) → l < j → j ≤ N → conv R257 φ S j ≡ R257 .zero
 
+-- symbol j of a sequence in the field
+abbrev pub entries : List ℕ → ℕ → R257 .car
+entries x j = res257 (symbol x j)
+
+pub res-discrepancy : (l : ℕ) (τ : List ℕ) → length τ ≡ suc l → (x : List ℕ) (S : ℕ → car) → Symbols x S
+    → (j : ℕ) → l < j → j ≤ length x → res257 (discrepancy 257 l τ x j) ≡ conv R257 (poly257 τ) S j
+unfolding discrepancy
+res-discrepancy l τ taps x S symbols j after within =
+    res-mod 257 prime-257 _ ∙ res-total 257 prime-257 (suc l) (λ i. getD τ i 0 * symbol x (j - i))
+    ∙ sum-ext R257 (suc l) _ (λ i. poly257 τ i ⊗ S (j - i)) (λ i small.
+    res-mul 257 prime-257 (getD τ i 0) _ ∙ ap (λ y. poly257 τ i ⊗ y) (symbols (j - i) (omega arith) (omega arith)))
+    ∙ sym (conv-degree R257 l (poly257 τ) S j (poly-degree 257 prime-257 l τ taps) (omega arith))
+
 module _ (l : ℕ) (τ : List ℕ) (register : Register 257 l τ) where
   taps : length τ ≡ suc l
   taps = omega (arith, register .taps)
@@ -51,20 +64,12 @@ module _ (l : ℕ) (τ : List ℕ) (register : Register 257 l τ) where
       (residues-past 257 τ (lit< tt) (register .residues)) (residues-past 257 υ (lit< tt) (other .residues))
 
   module _ (x : List ℕ) (S : ℕ → car) (symbols : Symbols x S) where
-    res-discrepancy : (j : ℕ) → l < j → j ≤ length x → res257 (discrepancy 257 l τ x j) ≡ conv R257 (poly257 τ) S j
-    unfolding discrepancy
-    res-discrepancy j after within =
-        res-mod 257 prime-257 _ ∙ res-total 257 prime-257 (suc l) (λ i. getD τ i 0 * symbol x (j - i))
-        ∙ sum-ext R257 (suc l) _ (λ i. poly257 τ i ⊗ S (j - i)) (λ i small.
-        res-mul 257 prime-257 (getD τ i 0) _ ∙ ap (λ y. poly257 τ i ⊗ y) (symbols (j - i) (omega arith) (omega arith)))
-        ∙ sym (conv-degree R257 l (poly257 τ) S j register-degree (omega arith))
-
     pub generates-products : Generates 257 l τ x → Vanish l (length x) (poly257 τ) S
-    generates-products g j after within = sym (res-discrepancy j after within) ∙ ap res257 (g j after within) ∙ res-zero 257 prime-257
+    generates-products g j after within = sym (res-discrepancy l τ taps x S symbols j after within) ∙ ap res257 (g j after within) ∙ res-zero 257 prime-257
 
     products-generate : Vanish l (length x) (poly257 τ) S → Generates 257 l τ x
     products-generate zeros j after within =
-        res-tells-zero _ (discrepancy-less 257 l τ x j (omega arith)) (res-discrepancy j after within ∙ zeros j after within)
+        res-tells-zero _ (discrepancy-less 257 l τ x j (omega arith)) (res-discrepancy l τ taps x S symbols j after within ∙ zeros j after within)
 
 -- the coefficients of a polynomial are taps, and generate what it generates
 pub polynomial-generator : (l : ℕ) (φ : ℕ → car) → Degree R257 l φ → φ 0 ≡ 𝟙

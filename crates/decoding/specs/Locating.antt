@@ -1,4 +1,4 @@
--- The register of sequences modulo 257, the columns that it names, and the repair of a frame at a set of columns (SPECIFICATION.md, "Jobs").
+-- The register of sequences modulo 257, and the columns that it names (SPECIFICATION.md, "Jobs").
 use mathlib.Core.Bool.{Bool, not, _&&_}
 use mathlib.Core.List.{List}
 use Prim.Native.Nat.{ℕ}
@@ -8,8 +8,6 @@ use Rattle.columns.specs.Listed.{count}
 use Rattle.columns.specs.declared.Columns.{Columns}
 use Rattle.field.specs.Coefficients.{value}
 use Rattle.field.specs.Residue.{inverse}
-use Rattle.frame.specs.Completion.{completed}
-use Rattle.frame.specs.Encode.{eachRow}
 use Rattle.field257.specs.Powers.{locatorOf}
 use Rattle.frame.specs.Shape.{checksOf}
 use Rattle.frame.specs.declared.Shape.{Shape}
@@ -41,7 +39,3 @@ namedColumns s σ = columnsOf (named s σ)
 -- whether the taps name as many columns as the register is long
 unfoldable pub namesAll : Shape → (σ : List ℕ) (c : ℕ) → Bool
 namesAll s σ c = not (ltb (count (s .columns) (named s σ)) c)
-
--- each row completed at the columns of the set
-unfoldable pub repaired : Shape → (J : Columns) (f : List ℕ) → List ℕ
-repaired s J f = eachRow (s .columns) (λ h. completed (s .columns) J) (s .rows) f

@@ -5,4 +5,5 @@ pub mod LocatorPolynomial
 pub mod Locators
 pub mod Members
 pub mod PowerTable
+pub mod SetLocator
 pub mod Words

@@ -37,7 +37,7 @@ module _ (J : Columns) where
   member-entry : (k : ℕ) → k < size J → Entry 256 (has J) k (member J k)
   member-entry k h = entry 256 (has J) k (let e = size-count in omega arith)
 
-  member-below : (k : ℕ) → k < size J → member J k < 256
+  pub member-below : (k : ℕ) → k < size J → member J k < 256
   member-below k h = member-entry k h .below
 
   pub member-has : (k : ℕ) → k < size J → has J (member J k) ≡ true

@@ -31,11 +31,11 @@ module _ (n : ℕ) (J : Columns) (x : List ℕ) where
   unfolding completed
   completed-filled i h t = getD-tabulate n _ i 0 h ∙ rw t
 
-  cleared-kept : (i : ℕ) → i < n → has J i ≡ false → getD (cleared n J x) i 0 ≡ getD x i 0
+  pub cleared-kept : (i : ℕ) → i < n → has J i ≡ false → getD (cleared n J x) i 0 ≡ getD x i 0
   unfolding cleared
   cleared-kept i h f = getD-tabulate n _ i 0 h ∙ rw f
 
-  cleared-empty : (i : ℕ) → i < n → has J i ≡ true → getD (cleared n J x) i 0 ≡ 0
+  pub cleared-empty : (i : ℕ) → i < n → has J i ≡ true → getD (cleared n J x) i 0 ≡ 0
   unfolding cleared
   cleared-empty i h t = getD-tabulate n _ i 0 h ∙ rw t
 

@@ -17,6 +17,7 @@ use Rattle.columns.specs.declared.Columns.{Columns}
 use Rattle.field257.proofs.Field257.{F257, R257, locatorAt}
 use Rattle.field257.proofs.Members.{size, member, members-distinct, member-locators-distinct}
 use Rattle.frame.specs.Completion.{without}
+use Rattle.lists.proofs.Mapped.{getD-mapped}
 
 -- entries that all differ from i stay
 without-none : (i : ℕ) (l : List ℕ) → ((p : ℕ) → p < length l → getD l p 0 ≢ i) → without i l ≡ l
@@ -62,11 +63,6 @@ module _ (l : List ℕ) (k : ℕ) (h : k < length l) where
       ∙ getD-drop (suc k) l (p - k) 0 ∙ ap (λ (m : ℕ). getD l m 0) r
 
 -- ---- the others of a member
-
-getD-mapped {ℓ} : {A : Type ℓ} (f : ℕ → A) (l : List ℕ) (p : ℕ) (d : A) → p < length l → getD (map f l) p d ≡ f (getD l p 0)
-getD-mapped f [] p d h = absurd (not-suc-le-zero h)
-getD-mapped f (x ∷ xs) zero d h = refl
-getD-mapped f (x ∷ xs) (suc p) d h = getD-mapped f xs p d (le-of-suc-le-suc h)
 
 module _ (J : Columns) where
   open CRing R257 using (zero as 𝟘)

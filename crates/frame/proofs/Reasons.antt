@@ -61,7 +61,7 @@ shape-says n checks = (
   ),
 )
 
-size-says : (s : Shape) (f : List ℕ)
+pub size-says : (s : Shape) (f : List ℕ)
     → Says (record { number = 7; fails = not (eqb (length f) (s .rows * s .columns)) }) (sizeReason s f)
 size-says s f = says-not 7 (eqb (length f) (s .rows * s .columns)) _ (λ e n. n (eqb-true _ _ e)) (eqb-false _ _)
 

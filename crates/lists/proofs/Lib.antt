@@ -1,8 +1,12 @@
+pub mod Appending
 pub mod BlockSums
+pub mod Copying
 pub mod DataCells
 pub mod Entries
 pub mod Filling
+pub mod Fours
 pub mod Joined
+pub mod Mapped
 pub mod Moving
 pub mod Padded
 pub mod Parts
@@ -10,4 +14,5 @@ pub mod Summing
 pub mod Tabulated
 pub mod Testing
 pub mod Totals
+pub mod Truth
 pub mod Zeros

@@ -17,6 +17,7 @@ use Rattle.refusal.specs.declared.Refusal.the-variants.{
   NotAlone,
   ShortRow,
   NoFrame,
+  BadCells,
 }
 
 abbrev pub number : Refusal → ℕ
@@ -35,3 +36,4 @@ number SumsDiffer = 23
 number NotAlone = 24
 number ShortRow = 25
 number NoFrame = 26
+number BadCells = 31

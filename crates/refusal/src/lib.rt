@@ -18,6 +18,7 @@ pub enum Refusal {
     NotAlone,
     ShortRow,
     NoFrame,
+    BadCells,
 }
 
 // What a test of the input finds: nothing to refuse, or the refusal.
@@ -46,5 +47,6 @@ pub fn number_of(r: Refusal) -> u32
         Refusal::NotAlone => 24,
         Refusal::ShortRow => 25,
         Refusal::NoFrame => 26,
+        Refusal::BadCells => 31,
     }
 }

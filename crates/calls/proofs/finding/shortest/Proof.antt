@@ -1,4 +1,4 @@
--- `calls::from_sums::shortest` meets its contract.
+-- `calls::finding::shortest` meets its contract.
 use mathlib.Core.Path.{_≡_, ap, _∙_}
 use mathlib.Core.List.{List}
 use Prim.Native.Nat.{ℕ, _-_}
@@ -10,8 +10,8 @@ use Rattle.frame.specs.declared.Shape.{Shape}
 use Rattle.frame.proofs.Shapes.{shape-ranges}
 use Rattle.calls.proofs.Lending.{sums-most}
 use borrow.Author.Needs.{needs}
-use Rattle.calls.proofs.from_sums.shortest.Statement.{statement}
-use Rattle.calls.proofs.from_sums.shortest.Tie as tie
+use Rattle.calls.proofs.finding.shortest.Statement.{statement}
+use Rattle.calls.proofs.finding.shortest.Tie as tie
 
 -- the way back
 abbrev start-of : tie.After-sum-count → tie.Start

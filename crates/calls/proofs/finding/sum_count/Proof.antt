@@ -1,12 +1,12 @@
--- `calls::from_sums::sum_count` meets its contract: the checks of the rows passed are added.
+-- `calls::finding::sum_count` meets its contract: the checks of the rows passed are added.
 use mathlib.Core.Path.{refl}
 use Prim.Native.Nat.{_-_, _≤_}
 use native.Mathlib.Omega.{arith}
 use Rattle.lists.proofs.Summing.{Summed, summed-none, summed-more, summed-all}
 use Rattle.frame.specs.Shape.{checksOf}
 use Rattle.frame.proofs.Shapes.{shape-ranges}
-use Rattle.calls.proofs.from_sums.sum_count.Statement.{statement}
-use Rattle.calls.proofs.from_sums.sum_count.Tie as tie
+use Rattle.calls.proofs.finding.sum_count.Statement.{statement}
+use Rattle.calls.proofs.finding.sum_count.Tie as tie
 
 abbrev Inv-loop : tie.InvT-loop
 Inv-loop s rows all₀ h₀ all h = Summed rows 64 (checksOf s) h all
