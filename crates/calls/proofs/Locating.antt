@@ -33,7 +33,7 @@ use Rattle.calls.specs.Answered as answer-of
 use Rattle.calls.specs.FromSums.{Locatable, Completable, fromSums, after}
 use Rattle.calls.specs.RegisterOf.{RegisterOf}
 use Rattle.calls.specs.Search.{Searchable}
-use Rattle.calls.proofs.LeftLengths.{size-most}
+use Rattle.decoding.proofs.LeftLengths.{size-most}
 
 -- a refusal leaves the sums, the taps and the declared cells
 pub refusal-left : (a : Arrays) (new taps words f : List ℕ) {r : Answered} {i j : Head} (why : Refusal) → r ≡ answer-of.refusal i why → i ≡ j
