@@ -60,13 +60,13 @@ fn locate_read(
     if let Checked::Refuse(r) = checked {
         return refuse(j, r);
     }
-    let summed = sums_read(j.shape, declared, frame);
-    let answer = locate_from(j.shape, false, declared, &summed, taps);
+    let read = sums_read(j.shape, declared, frame);
+    let answer = locate_from(j.shape, false, declared, &read, taps);
     let reply = answer.reply;
     if let Reply::Refused(_) = reply {
         return answer;
     }
-    *sums = summed;
+    *sums = read;
     *held = *declared;
     answer
 }
