@@ -1,28 +1,28 @@
--- What is lent to the finder when locating from sums: the check counts of the shape, the sums of its rows, and a buffer of 65 zeros. The finder refuses none
--- of it, and answers the register of the sequences that the sums hold.
+-- What is lent to the finder: the lengths of some sequences, their symbols one sequence after the other, and a buffer of 65 zeros. The finder refuses none of
+-- it, and answers the register of the sequences. Held sums are lent so, with the check counts of the shape for lengths, and so is what is left of them.
 use mathlib.Core.Path.{_≡_, refl, sym, ap, ap₂, _∙_}
 use mathlib.Core.Bool.{true, not, _&&_}
-use mathlib.Core.List.{List, _++_}
+use mathlib.Core.List.{List, [], _++_}
 use Prim.Native.Nat.{ℕ, suc, _+_, _-_, _≤_, _<_}
 use native.Mathlib.Omega.{arith}
-use lib.ListN.{length, getD, take, drop, replicate}
+use lib.ListN.{length, getD, take, drop, replicate, length-take}
 use lib.Seq.{length-take-le, getD-take}
 use borrow.Author.Tests.{lt-ltb, le-ltb, le-leb, eq-eqb}
 use Rattle.decoding.specs.Locating.{sizeOf, tapsOf, aloneOf}
+use Rattle.decoding.specs.Remaining.{remaining, allRemaining}
 use Rattle.decoding.proofs.SequenceRegister.{length-taps}
 use Rattle.field.specs.Prime.{isModulus, isPrime, noDivisor}
-use Rattle.lists.specs.Total.{total}
-use Rattle.lists.proofs.Totals.{total-ext, total-bound}
-use Rattle.sequences.specs.Tests.{tests}
 use Rattle.finder.specs.Finder.{answer, tapsLeft, register}
+use Rattle.frame.specs.DeclaredCells.{Declared, checksLeft}
 use Rattle.frame.specs.Frame.{heldSequences}
 use Rattle.frame.specs.Shape.{checksOf, isShape}
 use Rattle.frame.specs.declared.Shape.{Shape}
-use Rattle.frame.proofs.HeldSequences.{length-held, held-short}
-use Rattle.frame.proofs.Shapes.{Ranges, shape-ranges}
+use Rattle.frame.proofs.Shapes.{shape-ranges}
 use Rattle.lists.specs.Tabulate.{tabulate}
+use Rattle.lists.specs.Total.{total}
 use Rattle.lists.proofs.Filling.{take-tabulate}
-use Rattle.lists.proofs.Tabulated.{length-tabulate, getD-tabulate, every-of}
+use Rattle.lists.proofs.Tabulated.{length-tabulate, getD-tabulate, tabulate-ext, every-of}
+use Rattle.lists.proofs.Totals.{total-ext, total-bound}
 use Rattle.lists.proofs.Zeros.{zeros, drop-zeros}
 use Rattle.refusal.specs.Outcome.{outcome, passed, refused}
 use Rattle.refusal.proofs.Orders.{Pass, pass-otherwise}
@@ -33,107 +33,155 @@ use Rattle.register.proofs.Bounds.{bounded-rounds}
 use Rattle.register.proofs.Largest.{largest-bound}
 use Rattle.register.proofs.Ordering.{longest-least}
 use Rattle.register.proofs.Splitting.{split-first}
+use Rattle.remaining.specs.SequencesLeft.{SequencesLeft}
+use Rattle.remaining.specs.declared.rows.Left.{Left}
+use Rattle.sequences.specs.Tests.{tests}
 
-pub sums-most : (s : Shape) → isShape s ≡ true → total (s .rows) (checksOf s) ≤ 512
-sums-most s shape =
-    let r = shape-ranges s shape in
-    let n = r .rows-most in
-    omega (arith, total-bound (s .rows) 64 (checksOf s) (λ h l. r .checks h l .most))
+-- the sequences ss stand one after the other, as many as the first of eight lengths say, among 512 symbols
+pub record Lent (rows : ℕ) (lengths symbols : List ℕ) (ss : List (List ℕ)) : Type 0 where
+  pub rows-least : 1 ≤ rows
+  pub rows-most : rows ≤ 8
+  pub places : length lengths ≡ 8
+  pub short : (h : ℕ) → h < rows → getD lengths h 0 ≤ 64
+  pub width : length symbols ≡ 512
+  pub small : (k : ℕ) → getD symbols k 0 < 257
+  pub parts : ss ≡ tabulate rows (λ h. take (getD lengths h 0) (drop (total h (λ i. getD lengths i 0)) symbols))
 
--- ---- the sequences of held sums
+module _ {rows : ℕ} {lengths symbols : List ℕ} {ss : List (List ℕ)} (lent : Lent rows lengths symbols ss) where
+  abbrev lengthOf : ℕ → ℕ
+  lengthOf h = getD lengths h 0
 
-module _ (s : Shape) (sums : List ℕ) (shape : isShape s ≡ true) where
-  pub size-most : sizeOf (heldSequences s sums) ≤ 64
+  abbrev all : ℕ
+  all = total rows lengthOf
+
+  abbrev first : List ℕ
+  first = take rows lengths
+
+  abbrev told : List ℕ
+  told = take all symbols
+
+  pub lent-most : total rows (λ h. getD lengths h 0) ≤ 512
+  lent-most = let n = lent .rows-most in omega (arith, total-bound rows 64 lengthOf (lent .short))
+
+  -- ---- what the finder is lent
+
+  first-are : first ≡ tabulate rows lengthOf
+  first-are = take-tabulate rows lengths (let r = lent .rows-most in let p = lent .places in omega arith)
+
+  split-lent : split first told ≡ ss
+  split-lent = ap (λ l. split l told) first-are ∙ split-first rows lengthOf symbols ∙ sym (lent .parts)
+
+  length-first : length first ≡ rows
+  length-first = ap length first-are ∙ length-tabulate rows lengthOf
+
+  first-at : (h : ℕ) → h < rows → getD first h 0 ≡ lengthOf h
+  first-at h l = ap (λ (x : List ℕ). getD x h 0) first-are ∙ getD-tabulate rows lengthOf h 0 l
+
+  length-told : length told ≡ all
+  length-told = length-take-le all symbols (let m = lent-most in let w = lent .width in omega arith)
+
+  first-most : (h : ℕ) → h < length first → getD first h 0 ≤ 64
+  first-most h l =
+      let b : h < rows = let e = length-first in omega arith in
+      omega (arith, first-at h b, lent .short h b)
+
+  lent-total : total (length first) (λ h. getD first h 0) ≡ length told
+  lent-total = ap (λ (n : ℕ). total n (λ h. getD first h 0)) length-first ∙ total-ext rows _ _ first-at ∙ sym length-told
+
+  symbol-below : (i : ℕ) → i < length told → getD told i 0 < 257
+  symbol-below i l = rw (getD-take all symbols i 0 (let e = length-told in omega arith)) (lent .small i)
+
+  lent-passes : Pass (tests 257 first told 65)
+  unfolding tests isModulus isPrime noDivisor
+  lent-passes =
+      let n = length-first in
+      let l = lent .rows-least in
+      let m = lent .rows-most in (
+        refl,
+        (
+          ap not (in-range 1 8 (length first) (omega arith) (omega arith)),
+          (
+            ap not (ap₂ _&&_ (every-of (length first) _ (λ h l. le-leb (getD first h 0) 128 (omega (arith, first-most h l)))) (eq-eqb _ _ lent-total)),
+            (
+              le-ltb 65 (suc (largest first)) (let b = largest-bound 64 first first-most in omega arith),
+              (
+                ap not (every-of (length told) _ (λ i l. lt-ltb (getD told i 0) 257 (symbol-below i l))),
+                tt,
+              ),
+            ),
+          ),
+        ),
+      )
+
+  pub lent-passed : outcome (tests 257 (take rows lengths) (take (total rows (λ h. getD lengths h 0)) symbols) 65) ≡ passed
+  lent-passed = pass-otherwise refused passed (tests 257 first told 65) lent-passes
+
+  -- ---- what it answers and leaves
+
+  pub lent-answer : answer 257 (take rows lengths) (take (total rows (λ h. getD lengths h 0)) symbols) 65 ≡ register (sizeOf ss) (aloneOf ss)
+  unfolding answer sizeOf aloneOf
+  lent-answer =
+      pass-otherwise _ _ (tests 257 first told 65) lent-passes
+      ∙ ap (λ ss. register (found 257 ss (longest ss) .size) (foundAlone 257 ss (longest ss))) split-lent
+
+  size-most : sizeOf ss ≤ 64
   unfolding sizeOf found
   size-most =
-      let ss = heldSequences s sums in
       let short = longest-least 64 ss (λ h l.
-      let b : h < s .rows = let e = length-held s sums in omega arith in
-      let m = shape-ranges s shape .checks h b .most in
-      omega (arith, held-short s sums h l)) in
+      let b : h < rows = let e = ap length (lent .parts) ∙ length-tabulate rows _ in omega arith in
+      omega (
+        arith,
+        ap length (ap (λ xs. getD xs h []) (lent .parts) ∙ getD-tabulate rows _ h [] b),
+        length-take (getD lengths h 0) (drop (total h (λ i. getD lengths i 0)) symbols),
+        lent .short h b,
+      )) in
       let b = bounded-rounds 257 (longest ss) (ordered ss) (omega arith) (longest ss) .size in
       omega arith
 
-  module _ (small : (k : ℕ) → getD sums k 0 < 257) where
-    module _ (eight : length (s .checks) ≡ 8) (sized : length sums ≡ 512) where
-      -- what is lent
-      abbrev lengths : List ℕ
-      lengths = take (s .rows) (s .checks)
+  -- the buffer has room for the taps
+  room : 65 ≡ length (tapsOf ss) + (65 - length (tapsOf ss))
+  room = let n = length-taps ss in let m = size-most in omega arith
 
-      abbrev symbols : List ℕ
-      symbols = take (total (s .rows) (checksOf s)) sums
+  pub lent-taps : tapsLeft 257 (take rows lengths) (take (total rows (λ h. getD lengths h 0)) symbols) (replicate 65 0)
+      ≡ tapsOf ss ++ replicate (65 - length (tapsOf ss)) 0
+  unfolding tapsLeft tapsOf
+  lent-taps =
+      pass-otherwise _ _ (tests 257 first told 65) lent-passes
+      ∙ ap (λ ss. found 257 ss (longest ss) .taps ++ drop (length (found 257 ss (longest ss) .taps)) (replicate 65 0)) split-lent
+      ∙ ap (λ (l : List ℕ). tapsOf ss ++ l) (ap (λ (n : ℕ). drop (length (tapsOf ss)) (zeros n)) room ∙ drop-zeros (length (tapsOf ss)) _)
 
-      ranges : Ranges s
-      ranges = shape-ranges s shape
+-- ---- held sums, and what is left of them
 
-      lengths-are : lengths ≡ tabulate (s .rows) (checksOf s)
-      lengths-are = take-tabulate (s .rows) (s .checks) (let r = ranges .rows-most in omega arith)
+module _ (s : Shape) (shape : isShape s ≡ true) where
+  pub held-lent : (sums : List ℕ) → length (s .checks) ≡ 8 → length sums ≡ 512 → ((k : ℕ) → getD sums k 0 < 257)
+      → Lent (s .rows) (s .checks) sums (heldSequences s sums)
+  unfolding heldSequences
+  held-lent sums eight sized small =
+      let r = shape-ranges s shape in
+      record {
+        rows-least = r .rows-least;
+        rows-most = r .rows-most;
+        places = eight;
+        short = λ h below. r .checks h below .most;
+        width = sized;
+        small = small;
+        parts = refl;
+      }
 
-      split-lent : split lengths symbols ≡ heldSequences s sums
-      unfolding heldSequences
-      split-lent = ap (λ l. split l symbols) lengths-are ∙ split-first (s .rows) (checksOf s) sums
-
-      length-lengths : length lengths ≡ s .rows
-      length-lengths = ap length lengths-are ∙ length-tabulate (s .rows) (checksOf s)
-
-      lengths-at : (h : ℕ) → h < s .rows → getD lengths h 0 ≡ checksOf s h
-      lengths-at h l = ap (λ (x : List ℕ). getD x h 0) lengths-are ∙ getD-tabulate (s .rows) (checksOf s) h 0 l
-
-      length-symbols : length symbols ≡ total (s .rows) (checksOf s)
-      length-symbols = length-take-le (total (s .rows) (checksOf s)) sums (let m = sums-most s shape in omega arith)
-
-      length-most : (h : ℕ) → h < length lengths → getD lengths h 0 ≤ 64
-      length-most h l =
-          let b : h < s .rows = let e = length-lengths in omega arith in
-          omega (arith, lengths-at h b, ranges .checks h b .most)
-
-      lent-total : total (length lengths) (λ h. getD lengths h 0) ≡ length symbols
-      lent-total =
-          ap (λ (n : ℕ). total n (λ h. getD lengths h 0)) length-lengths ∙ total-ext (s .rows) _ _ lengths-at ∙ sym length-symbols
-
-      symbol-below : (i : ℕ) → i < length symbols → getD symbols i 0 < 257
-      symbol-below i l = rw (getD-take (total (s .rows) (checksOf s)) sums i 0 (let e = length-symbols in omega arith)) (small i)
-
-      lent-passes : Pass (tests 257 lengths symbols 65)
-      unfolding tests isModulus isPrime noDivisor
-      lent-passes =
-          let n = length-lengths in
-          let r = ranges in (
-            refl,
-            (
-              ap not (in-range 1 8 (length lengths) (omega arith) (omega arith)),
-              (
-                ap not (ap₂ _&&_ (every-of (length lengths) _ (λ h l. le-leb (getD lengths h 0) 128 (omega (arith, length-most h l)))) (eq-eqb _ _ lent-total)),
-                (
-                  le-ltb 65 (suc (largest lengths)) (let b = largest-bound 64 lengths length-most in omega arith),
-                  (
-                    ap not (every-of (length symbols) _ (λ i l. lt-ltb (getD symbols i 0) 257 (symbol-below i l))),
-                    tt,
-                  ),
-                ),
-              ),
-            ),
-          )
-
-      pub lent-passed : outcome (tests 257 lengths symbols 65) ≡ passed
-      lent-passed = pass-otherwise refused passed (tests 257 lengths symbols 65) lent-passes
-
-      pub lent-answer : answer 257 lengths symbols 65 ≡ register (sizeOf (heldSequences s sums)) (aloneOf (heldSequences s sums))
-      unfolding answer sizeOf aloneOf
-      lent-answer =
-          pass-otherwise _ _ (tests 257 lengths symbols 65) lent-passes
-          ∙ ap (λ ss. register (found 257 ss (longest ss) .size) (foundAlone 257 ss (longest ss))) split-lent
-
-      abbrev taps : List ℕ
-      taps = tapsOf (heldSequences s sums)
-
-      -- the buffer has room for the taps
-      room : 65 ≡ length taps + (65 - length taps)
-      room = let n = length-taps (heldSequences s sums) in let m = size-most in omega arith
-
-      pub lent-taps : tapsLeft 257 lengths symbols (replicate 65 0) ≡ taps ++ replicate (65 - length taps) 0
-      unfolding tapsLeft tapsOf
-      lent-taps =
-          pass-otherwise _ _ (tests 257 lengths symbols 65) lent-passes
-          ∙ ap (λ ss. found 257 ss (longest ss) .taps ++ drop (length (found 257 ss (longest ss) .taps)) (replicate 65 0)) split-lent
-          ∙ ap (λ (l : List ℕ). taps ++ l) (ap (λ (n : ℕ). drop (length taps) (zeros n)) room ∙ drop-zeros (length taps) _)
+  pub left-lent : (D : Declared) (sums : List ℕ) (left : Left) → SequencesLeft s D sums left → length (left .lengths) ≡ 8 → length (left .symbols) ≡ 512
+      → Lent (s .rows) (left .lengths) (left .symbols) (allRemaining s D (heldSequences s sums))
+  unfolding allRemaining
+  left-lent D sums left said eight sized =
+      let r = shape-ranges s shape in
+      record {
+        rows-least = r .rows-least;
+        rows-most = r .rows-most;
+        places = eight;
+        short = λ h below. (let m = r .checks h below .most in omega (arith, said .lengths h below));
+        width = sized;
+        small = said .below;
+        parts = tabulate-ext (s .rows) _ _ (λ h below.
+            sym (getD-tabulate (s .rows) (λ h. remaining (D h) (getD (heldSequences s sums) h [])) h [] below) ∙ sym (said .symbols h below)
+            ∙ ap₂ (λ n m. take n (drop m (left .symbols))) (sym (said .lengths h below))
+            (total-ext h _ _ (λ i less. sym (said .lengths i (let l : i < s .rows = omega arith in l)))));
+      }

@@ -4,16 +4,18 @@ use mathlib.Core.Bool.{true, false, cond}
 use mathlib.Core.List.{List, [], _∷_, _++_}
 use Prim.Native.Nat.{ℕ, _*_, _≤_, _<_}
 use lib.ListN.{length, getD}
-use Rattle.decoding.specs.Locating.{repaired}
+use Rattle.decoding.specs.Remaining.{mended}
+use Rattle.frame.specs.DeclaredCells.{declaredBy, declarable, asRead, readTests, rereadTests, WellFormedRead}
 use Rattle.frame.specs.Encode.{encoded, encodeTests}
-use Rattle.frame.specs.Frame.{heldSums, frameTests}
+use Rattle.frame.specs.Frame.{heldSums}
 use Rattle.frame.specs.Shape.{shapeOf, shapeTests}
 use Rattle.frame.specs.declared.Shape.{Shape}
-use Rattle.frame.proofs.Reasons.{shape-passes, frame-passes}
+use Rattle.frame.proofs.Declarable.{read-passes}
+use Rattle.frame.proofs.Reasons.{shape-passes}
 use Rattle.frame.proofs.Shapes.{shape-ranges}
 use Rattle.job.specs.Answers.{shapeOutcome, encodeOutcome, answeredOutcome}
 use Rattle.job.specs.Calls.{shape, encode, locate, repair, step, refusing, repairs, sameSums, sumsTest}
-use Rattle.job.specs.Job.{Arrays, Job, beside, isEmpty, isLocatedPhase, lengthOf, shapedHead}
+use Rattle.job.specs.Job.{Arrays, Job, beside, isEmpty, isLocated, declaredIn, lengthOf, shapedHead}
 use Rattle.job.specs.declared.Answered.{Answered}
 use Rattle.job.specs.declared.Head.{Head}
 use Rattle.refusal.specs.Number.{number}
@@ -35,14 +37,11 @@ refusal-outcome a f why e g = ap (λ x. answeredOutcome x a f) (e ∙ ap (λ k. 
 
 -- a repair's answer and frame
 pub mended-outcome : (j : Head) (a : Arrays) (f : List ℕ) {r : Answered} {c : ℕ} {left : List ℕ} → r ≡ answer-of.repair (j .shape) c (j .columns)
-    → c ≡ lengthOf (j .phase) → left ≡ repaired (j .shape) (j .columns) f → answeredOutcome r a left ≡ repairs (beside j a) f
+    → c ≡ lengthOf (j .phase) → left ≡ mended (j .shape) (declaredBy (a .declared)) (j .columns) f → answeredOutcome r a left ≡ repairs (beside j a) f
 mended-outcome j a f e n l = rw (e, n, l) refl
 
-pub passed-size : (s : Shape) (f : List ℕ) → outcome (frameTests s f) ≡ passed → length f ≡ s .rows * s .columns
-passed-size s f e = frame-passes s f (passed-pass (frameTests s f) e) .size
-
-pub passed-symbols : (s : Shape) (f : List ℕ) → outcome (frameTests s f) ≡ passed → (k : ℕ) → k < length f → getD f k 0 < 257
-passed-symbols s f e = frame-passes s f (passed-pass (frameTests s f) e) .symbols
+pub passed-read : (s : Shape) (words f : List ℕ) → outcome (readTests s (declaredBy words) f) ≡ passed → WellFormedRead s (declaredBy words) f
+passed-read s words f e = read-passes s (declaredBy words) f (passed-pass (readTests s (declaredBy words) f) e)
 
 -- ---- shape
 
@@ -90,20 +89,20 @@ module _ (j : Job) (f : List ℕ) where
 
 -- ---- locate
 
-module _ (j : Job) (f : List ℕ) where
-  pub locate-empty : isEmpty j ≡ true → refusing j f 21 ≡ step j (locate f)
+module _ (j : Job) (words f : List ℕ) where
+  pub locate-empty : isEmpty j ≡ true → refusing j f 21 ≡ step j (locate words f)
   unfolding step
   locate-empty e = rw e refl
 
   module _ (full : isEmpty j ≡ false) where
-    pub locate-refused : (k : ℕ) → outcome (frameTests (j .head .shape) f) ≡ refused k → refusing j f k ≡ step j (locate f)
+    pub locate-refused : (k : ℕ) → outcome (readTests (j .head .shape) (declaredBy words) f) ≡ refused k → refusing j f k ≡ step j (locate words f)
     unfolding step
-    locate-refused k e = rw full (sym (given-refused (refusing j f) _ (frameTests (j .head .shape) f) k e))
+    locate-refused k e = rw full (sym (given-refused (refusing j f) _ (readTests (j .head .shape) (declaredBy words) f) k e))
 
-    pub locate-goes-on : outcome (frameTests (j .head .shape) f) ≡ passed
-        → fromSums (j .head .shape) (j .arrays) (heldSums (j .head .shape) f) f ≡ step j (locate f)
+    pub locate-goes-on : outcome (readTests (j .head .shape) (declaredBy words) f) ≡ passed
+        → fromSums (j .head .shape) (j .arrays) words (heldSums (j .head .shape) (asRead (j .head .shape) (declaredBy words) f)) f ≡ step j (locate words f)
     unfolding step
-    locate-goes-on e = rw full (sym (given-passed (refusing j f) _ (frameTests (j .head .shape) f) e))
+    locate-goes-on e = rw full (sym (given-passed (refusing j f) _ (readTests (j .head .shape) (declaredBy words) f) e))
 
 -- ---- repair
 
@@ -113,25 +112,38 @@ module _ (j : Job) (f : List ℕ) where
   repair-empty e = rw e refl
 
   module _ (full : isEmpty j ≡ false) where
-    pub repair-unlocated : isLocatedPhase (j .head .phase) ≡ false → refusing j f 22 ≡ step j (repair f)
+    pub repair-unlocated : isLocated j ≡ false → refusing j f 22 ≡ step j (repair f)
     unfolding step
     repair-unlocated e = rw (full, e) refl
 
-    module _ (located : isLocatedPhase (j .head .phase) ≡ true) where
-      -- the tests of the frame come next, then that of the sums
-      next : step j (repair f) ≡ firstOf (refusing j f) (frameTests (j .head .shape) f) (firstOf (refusing j f) (sumsTest j f ∷ []) (repairs j f))
+    module _ (located : isLocated j ≡ true) (ok : declarable (j .head .shape) (declaredIn j) ≡ true) where
+      abbrev read : List Test
+      read = readTests (j .head .shape) (declaredIn j) f
+
+      -- cells that can be declared are not refused, so that the tests are those of a frame that is read for the first time
+      reread : {A : Type 0} (refuse : ℕ → A) (otherwise : A)
+          → firstOf refuse (rereadTests (j .head .shape) (declaredIn j) f) otherwise ≡ firstOf refuse read otherwise
+      unfolding readTests rereadTests
+      reread refuse otherwise = rw ok refl
+
+      -- these come next, then the test of the sums
+      next : step j (repair f) ≡ firstOf (refusing j f) read (firstOf (refusing j f) (sumsTest j f ∷ []) (repairs j f))
       unfolding step
-      next = rw (full, located) (firstOf-append (refusing j f) (frameTests (j .head .shape) f) (sumsTest j f ∷ []) (repairs j f))
+      next =
+          rw (full, located)
+          (firstOf-append (refusing j f) (rereadTests (j .head .shape) (declaredIn j) f) (sumsTest j f ∷ []) (repairs j f) ∙ reread (refusing j f) _)
 
-      pub repair-refused : (k : ℕ) → outcome (frameTests (j .head .shape) f) ≡ refused k → refusing j f k ≡ step j (repair f)
-      repair-refused k e = sym (given-refused (refusing j f) _ (frameTests (j .head .shape) f) k e) ∙ sym next
+      pub repair-refused : (k : ℕ) → outcome (readTests (j .head .shape) (declaredIn j) f) ≡ refused k → refusing j f k ≡ step j (repair f)
+      repair-refused k e = sym (given-refused (refusing j f) _ read k e) ∙ sym next
 
-      module _ (well-formed : outcome (frameTests (j .head .shape) f) ≡ passed) where
+      module _ (well-formed : outcome (readTests (j .head .shape) (declaredIn j) f) ≡ passed) where
         goes-on : firstOf (refusing j f) (sumsTest j f ∷ []) (repairs j f) ≡ step j (repair f)
-        goes-on = sym (given-passed (refusing j f) _ (frameTests (j .head .shape) f) well-formed) ∙ sym next
+        goes-on = sym (given-passed (refusing j f) _ read well-formed) ∙ sym next
 
-        pub repair-differs : sameSums (heldSums (j .head .shape) f) (j .arrays .sums) ≡ false → refusing j f 23 ≡ step j (repair f)
+        pub repair-differs : sameSums (heldSums (j .head .shape) (asRead (j .head .shape) (declaredIn j) f)) (j .arrays .sums) ≡ false
+            → refusing j f 23 ≡ step j (repair f)
         repair-differs e = rw e at goes-on
 
-        pub repair-mends : sameSums (heldSums (j .head .shape) f) (j .arrays .sums) ≡ true → repairs j f ≡ step j (repair f)
+        pub repair-mends : sameSums (heldSums (j .head .shape) (asRead (j .head .shape) (declaredIn j) f)) (j .arrays .sums) ≡ true
+            → repairs j f ≡ step j (repair f)
         repair-mends e = rw e at goes-on

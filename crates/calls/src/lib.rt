@@ -1,5 +1,6 @@
 // The calls on a job (SPECIFICATION.md, "Jobs").
 pub mod encode;
+mod finding;
 mod from_sums;
 pub mod locate;
 pub mod repair;

@@ -1,20 +1,26 @@
-// Repair: the rows of a frame completed at the marked columns.
+// Repair: the rows of a frame completed at their marked and declared columns.
 use crate::sound::counts_as_empty;
 use crate::states::is_located;
 use crate::states::length_of;
 use crate::states::mended;
 use crate::states::refuse;
-use codec::sums::frame_sums;
-use completion::mend::mend;
+use erasures::cells::is_declarable;
+use erasures::cells::left_reach;
+use erasures::cells::nothing;
+use erasures::fill::fill;
+use erasures::reading::check_read;
+use erasures::reading::sums_read;
+use frame::Shape;
 use job::Answered;
 use job::Head;
 use refusal::Checked;
 use refusal::Refusal;
-use shapes::symbols::check_frame;
 ghost use mathlib.Core.Path.{_≡_};
+ghost use Rattle.calls.specs.Repairing.{Held};
+ghost use Rattle.frame.specs.DeclaredCells.{declaredBy};
 ghost use Rattle.job.specs.Answers.{answeredOutcome};
 ghost use Rattle.job.specs.Calls.{repair, sameSums, step};
-ghost use Rattle.job.specs.Job.{Arrays, beside, withSums};
+ghost use Rattle.job.specs.Job.{Arrays, beside, declaredSound, withRead};
 
 // All sums are read, with no way out between, so that several are compared at once.
 fn same_sums(a: &[u16; 512], b: &[u16; 512]) -> bool
@@ -31,10 +37,24 @@ fn same_sums(a: &[u16; 512], b: &[u16; 512]) -> bool
     same
 }
 
-// The sums are read, and the taps play no part: whatever they hold is left as it was.
-pub fn repair(j: Head, sums: &[u16; 512], frame: &mut [u16]) -> Answered
-    ensures { λ r. ⌜ ((a : Arrays) → answeredOutcome r (withSums a (now (sums .entry))) (now (frame .exit))
-        ≡ step (beside j (withSums a (now (sums .entry)))) (repair (now (frame .entry)))) ⌝ }
+// With the cells that a job of length c holds a locate can have left it. Where these are none, its head being sound says so.
+fn cells_sound(s: Shape, none: bool, held: &[u64; 32], c: usize) -> bool
+    requires { ⌜ Held s none (now held) c ⌝ }
+    ensures { λ r. ⌜ r ≡ declaredSound s (declaredBy (now (held .entry))) c ⌝ }
+{
+    if none {
+        return true;
+    }
+    if !is_declarable(s, held) {
+        return false;
+    }
+    left_reach(s, held, c)
+}
+
+// The sums and the declared cells are read, and the taps play no part: whatever they hold is left as it was.
+pub fn repair(j: Head, sums: &[u16; 512], held: &[u64; 32], frame: &mut [u16]) -> Answered
+    ensures { λ r. ⌜ ((a : Arrays) → answeredOutcome r (withRead a (now (sums .entry)) (now (held .entry))) (now (frame .exit))
+        ≡ step (beside j (withRead a (now (sums .entry)) (now (held .entry)))) (repair (now (frame .entry)))) ⌝ }
 {
     if counts_as_empty(j) {
         return refuse(j, Refusal::Empty);
@@ -43,15 +63,19 @@ pub fn repair(j: Head, sums: &[u16; 512], frame: &mut [u16]) -> Answered
     if !is_located(phase) {
         return refuse(j, Refusal::NotLocated);
     }
-    let checked = check_frame(j.shape, frame);
+    let none = nothing(held);
+    if !cells_sound(j.shape, none, held, length_of(phase)) {
+        return refuse(j, Refusal::NotLocated);
+    }
+    let checked = check_read(j.shape, none, held, frame);
     if let Checked::Refuse(r) = checked {
         return refuse(j, r);
     }
-    let summed = frame_sums(j.shape, frame);
+    let summed = sums_read(j.shape, none, held, frame);
     if !same_sums(&summed, sums) {
         return refuse(j, Refusal::SumsDiffer);
     }
     let set = j.columns;
-    mend(j.shape, set, &summed, frame);
+    fill(j.shape, none, held, set, &summed, frame);
     mended(j.shape, length_of(phase), set)
 }

@@ -8,7 +8,7 @@ use Rattle.refusal.specs.Order.{firstOf}
 use Rattle.refusal.proofs.Orders.{firstOf-map}
 use Rattle.job.specs.Calls.{Call, shape, encode, locate, repair, Outcome, describe, refusing, reshaped, step}
 use Rattle.job.specs.Runs.{runFrom, run}
-use Rattle.job.specs.Job.{Arrays, Job, beside, withSums, withFound, emptyJob}
+use Rattle.job.specs.Job.{Arrays, Job, beside, withRead, withFound, emptyJob}
 use Rattle.job.specs.declared.Head.{Head}
 use Rattle.job.proofs.Cases.{by-call}
 use Rattle.capi.specs.Exports.{CShapes, CEncodes, CLocates, CRepairs, HeadShapes, HeadEncodes, HeadRepairs}
@@ -47,13 +47,13 @@ gives m (encode f) r (k, left, p, e) =
     let q : CEncodes (jobOf m) (step (jobOf m) (encode f)) k left = p (m .arrays) in
     subst⁻¹ (Gives m (jobOf m) (encode f)) e
     (record { reply = ap number (q .answers); job = inr (refl, q .job); frame = q .leaves })
-gives m (locate f) r (s, sums, taps, p, e) =
-    let q : CLocates (step (jobOf m) (locate f)) s (withFound (m .arrays) sums taps) = p (m .arrays) in
-    subst⁻¹ (Gives m (jobOf m) (locate f)) e
+gives m (locate words f) r (s, sums, taps, held, p, e) =
+    let q : CLocates (step (jobOf m) (locate words f)) s (withFound (m .arrays) sums taps held) = p (m .arrays) in
+    subst⁻¹ (Gives m (jobOf m) (locate words f)) e
     (record {
       reply = ap (λ (x : CAnswered). answer (x .answer)) (q .answers);
       job = inl (ap₂ struct (ap (λ (x : CAnswered). x .head) (q .answers)) (q .arrays));
-      frame = by-call (jobOf m) (locate f) (λ o. f ≡ o .frame) (λ k a. refl) (λ k l a. refl) (λ k l. refl);
+      frame = by-call (jobOf m) (locate words f) (λ o. f ≡ o .frame) (λ k a. refl) (λ k l a. refl) (λ k l. refl);
     })
 gives m (repair f) r (s, left, p, e) =
     let q : CRepairs (m .arrays) (step (jobOf m) (repair f)) s left = p (m .arrays) in
@@ -136,9 +136,10 @@ module _ (m : CJob) where
         leaves = seen-of (λ o. o .frame) (jobOf m) (encode f) refl ∙ sym (seen-of (λ o. o .frame) j (encode f) refl);
       }
 
-  can-repair : (f : List ℕ) → HeadRepairs (m .head) (m .arrays .sums) f (answeredOf (step (jobOf m) (repair f))) (step (jobOf m) (repair f) .frame)
+  can-repair : (f : List ℕ)
+      → HeadRepairs (m .head) (m .arrays .sums) (m .arrays .declared) f (answeredOf (step (jobOf m) (repair f))) (step (jobOf m) (repair f) .frame)
   can-repair f a =
-      let j : Job = beside (headOf (m .head)) (withSums a (m .arrays .sums)) in
+      let j : Job = beside (headOf (m .head)) (withRead a (m .arrays .sums) (m .arrays .declared)) in
       record {
         answers = seen-of answeredOf (jobOf m) (repair f) refl ∙ sym (seen-of answeredOf j (repair f) refl);
         arrays = by-call j (repair f) (λ o. o .job .arrays ≡ j .arrays) (λ k b. refl) (λ k p b. absurd b) (λ p q. refl);
@@ -148,9 +149,9 @@ module _ (m : CJob) where
   total : (c : Call) → (r : CReturn) × CStep m c r
   total (shape n checks) = (_, (_, can-shape n checks, refl))
   total (encode f) = (_, (_, _, can-encode f, refl))
-  total (locate f) =
-      let o : Outcome = step (jobOf m) (locate f) in
-      (_, (answeredOf o, o .job .arrays .sums, o .job .arrays .taps, λ a. record { answers = refl; arrays = refl }, refl))
+  total (locate words f) =
+      let o : Outcome = step (jobOf m) (locate words f) in
+      (_, (answeredOf o, o .job .arrays .sums, o .job .arrays .taps, o .job .arrays .declared, λ a. record { answers = refl; arrays = refl }, refl))
   total (repair f) = (_, (_, _, can-repair f, refl))
 
 pub c-edge : CEdge

@@ -8,7 +8,7 @@ use Rattle.finder.specs.Finder as Finder
 use Rattle.finder.specs.Finder.{answer}
 use Rattle.sequences.specs.Tests.{tests}
 use Rattle.frame.specs.Encode.{encodeTests}
-use Rattle.frame.specs.Frame.{frameTests}
+use Rattle.frame.specs.DeclaredCells.{readTests, rereadTests}
 use Rattle.frame.specs.Shape.{shapeTests}
 use Rattle.refusal.specs.Order.{Test}
 use Rattle.refusal.proofs.Orders.{Among, by-tests}
@@ -34,17 +34,17 @@ nonzero k e = omega arith
 -- ---- the calls on a job
 
 keeping-numbered : (j : Job) (c : Call) → Numbered (describe j c .keeping)
-unfolding shapeTests encodeTests frameTests
+unfolding shapeTests encodeTests readTests rereadTests
 keeping-numbered j (shape n checks) = (nonzero _, (nonzero _, (nonzero _, tt)))
 keeping-numbered j (encode f) = (nonzero _, (nonzero _, (nonzero _, tt)))
-keeping-numbered j (locate f) = (nonzero _, (nonzero _, (nonzero _, tt)))
+keeping-numbered j (locate words f) = (nonzero _, (nonzero _, (nonzero _, (nonzero _, tt))))
 keeping-numbered j (repair f) = (nonzero _, (nonzero _, (nonzero _, (nonzero _, (nonzero _, tt)))))
 
 shaping-numbered : (j : Job) (c : Call) → Numbered (describe j c .shaping)
 unfolding registerTests
 shaping-numbered j (shape n checks) = tt
 shaping-numbered j (encode f) = tt
-shaping-numbered j (locate f) = (nonzero _, (nonzero _, (nonzero _, tt)))
+shaping-numbered j (locate words f) = (nonzero _, (nonzero _, (nonzero _, tt)))
 shaping-numbered j (repair f) = tt
 
 refused-nonzero : (j : Job) (c : Call) (k : ℕ) → step j c .answer ≡ refused k → k ≡ 0 → ⊥

@@ -1,12 +1,12 @@
 -- What the exported functions do, by the definitions of the finder and of the calls on a job: what they return, and what they leave in the lent arrays and
--- buffers. What is not lent is kept: shape and encode keep both arrays, and repair, which only reads the sums, the taps.
+-- buffers. What is not lent is kept: shape and encode keep all arrays, and repair, which only reads the sums and the declared cells, the taps.
 use mathlib.Core.Path.{_≡_}
 use mathlib.Core.List.{List}
 use Prim.Native.Nat.{ℕ}
 use lib.ListN.{length}
 use Rattle.finder.specs.Finder.{answer, tapsLeft}
 use Rattle.job.specs.Calls.{Outcome, step, shape, encode, locate, repair}
-use Rattle.job.specs.Job.{Arrays, Job, beside, withSums, withFound}
+use Rattle.job.specs.Job.{Arrays, Job, beside, withFound, withRead}
 use Rattle.capi.specs.Mirror.{headOf, registerOf, refusalOf, shapedOf, answeredOf}
 use Rattle.capi.specs.declared.CAnswered.{CAnswered}
 use Rattle.capi.specs.declared.CHead.{CHead}
@@ -48,10 +48,11 @@ HeadShapes m n checks r = (a : Arrays) → CShapes a (step (beside (headOf m) a)
 abbrev pub HeadEncodes : (head : CHead) (frame : List ℕ) (r : ℕ) (left : List ℕ) → Type 0
 HeadEncodes m f r left = (a : Arrays) → CEncodes (beside (headOf m) a) (step (beside (headOf m) a) (encode f)) r left
 
-abbrev pub HeadLocates : (head : CHead) (sums taps frame : List ℕ) (r : CAnswered) (sumsLeft tapsLeft : List ℕ) → Type 0
-HeadLocates m sums taps f r sumsLeft tapsLeft =
-    (a : Arrays) → CLocates (step (beside (headOf m) (withFound a sums taps)) (locate f)) r (withFound a sumsLeft tapsLeft)
+abbrev pub HeadLocates : (head : CHead) (sums taps held declared frame : List ℕ) (r : CAnswered) (sumsLeft tapsLeft heldLeft : List ℕ) → Type 0
+HeadLocates m sums taps held declared f r sumsLeft tapsLeft heldLeft =
+    (a : Arrays) →
+    CLocates (step (beside (headOf m) (withFound a sums taps held)) (locate declared f)) r (withFound a sumsLeft tapsLeft heldLeft)
 
-abbrev pub HeadRepairs : (head : CHead) (sums frame : List ℕ) (r : CAnswered) (left : List ℕ) → Type 0
-HeadRepairs m sums f r left =
-    (a : Arrays) → CRepairs (withSums a sums) (step (beside (headOf m) (withSums a sums)) (repair f)) r left
+abbrev pub HeadRepairs : (head : CHead) (sums held frame : List ℕ) (r : CAnswered) (left : List ℕ) → Type 0
+HeadRepairs m sums held f r left =
+    (a : Arrays) → CRepairs (withRead a sums held) (step (beside (headOf m) (withRead a sums held)) (repair f)) r left

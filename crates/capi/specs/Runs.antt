@@ -38,11 +38,12 @@ CStep m (shape n checks) r =
     (r ≡ record { reply = number (s .refusal); job = record { head = s .head; arrays = m .arrays }; frame = [] })
 CStep m (encode f) r =
     (k : ℕ) × (left : List ℕ) × HeadEncodes (m .head) f k left × (r ≡ record { reply = number k; job = m; frame = left })
-CStep m (locate f) r =
-    (s : CAnswered) × (sums : List ℕ) × (taps : List ℕ) × HeadLocates (m .head) (m .arrays .sums) (m .arrays .taps) f s sums taps ×
-    (r ≡ record { reply = answer (s .answer); job = record { head = s .head; arrays = withFound (m .arrays) sums taps }; frame = f })
+CStep m (locate words f) r =
+    (s : CAnswered) × (sums : List ℕ) × (taps : List ℕ) × (held : List ℕ) ×
+    HeadLocates (m .head) (m .arrays .sums) (m .arrays .taps) (m .arrays .declared) words f s sums taps held ×
+    (r ≡ record { reply = answer (s .answer); job = record { head = s .head; arrays = withFound (m .arrays) sums taps held }; frame = f })
 CStep m (repair f) r =
-    (s : CAnswered) × (left : List ℕ) × HeadRepairs (m .head) (m .arrays .sums) f s left ×
+    (s : CAnswered) × (left : List ℕ) × HeadRepairs (m .head) (m .arrays .sums) (m .arrays .declared) f s left ×
     (r ≡ record { reply = answer (s .answer); job = record { head = s .head; arrays = m .arrays }; frame = left })
 
 -- the calls of a list, each on the job that the one before it left
@@ -67,7 +68,7 @@ mirrorJob j = record { head = mirrorOf (j .head); arrays = j .arrays }
 abbrev pub replyOf : Call → Outcome → CReply
 replyOf (shape n checks) o = number (refusalOf (o .answer))
 replyOf (encode f) o = number (refusalOf (o .answer))
-replyOf (locate f) o = answer (answeredOf o .answer)
+replyOf (locate words f) o = answer (answeredOf o .answer)
 replyOf (repair f) o = answer (answeredOf o .answer)
 
 abbrev pub returnOf : Call → Outcome → CReturn

@@ -96,20 +96,24 @@ pub extern "C" fn tomkhadi_head_locate(
     head: CHead,
     sums: &mut [u16; 512],
     taps: &mut [u16; 65],
+    held: &mut [u64; 32],
+    declared: &[u64; 32],
     frame: &[u16],
 ) -> CAnswered
-    ensures { λ r. ⌜ HeadLocates head (now (sums .entry)) (now (taps .entry)) (now (frame .entry)) r (now (sums .exit)) (now (taps .exit)) ⌝ }
+    ensures { λ r. ⌜ HeadLocates head (now (sums .entry)) (now (taps .entry)) (now (held .entry)) (now (declared .entry)) (now (frame .entry)) r
+        (now (sums .exit)) (now (taps .exit)) (now (held .exit)) ⌝ }
 {
-    answered_of(locate(head_of(head), sums, taps, frame))
+    answered_of(locate(head_of(head), sums, taps, held, declared, frame))
 }
 
 #[no_mangle]
 pub extern "C" fn tomkhadi_head_repair(
     head: CHead,
     sums: &[u16; 512],
+    held: &[u64; 32],
     frame: &mut [u16],
 ) -> CAnswered
-    ensures { λ r. ⌜ HeadRepairs head (now (sums .entry)) (now (frame .entry)) r (now (frame .exit)) ⌝ }
+    ensures { λ r. ⌜ HeadRepairs head (now (sums .entry)) (now (held .entry)) (now (frame .entry)) r (now (frame .exit)) ⌝ }
 {
-    answered_of(repair(head_of(head), sums, frame))
+    answered_of(repair(head_of(head), sums, held, frame))
 }

@@ -152,8 +152,8 @@ module _ (J K : Columns) where
           pick (inl e) = ap₂ _&&_ e (apart i h e)
           pick (inr e) = ap (λ (b : Bool). b && has K i) e
 
-  pub apart-of-size : length (members (either J K)) ≡ length (members J) + length (members K) → Apart
-  apart-of-size adds i h e = pick (by-test (has K i))
+  pub apart-of-size : length (members J) + length (members K) ≤ length (members (either J K)) → Apart
+  apart-of-size many i h e = pick (by-test (has K i))
     where
       pick : (has K i ≡ true) ⊎ (has K i ≡ false) → has K i ≡ false
       pick (inl t) = absurd (let z : ⊥ = omega (arith, sizes, count-lt i 256 (λ i. has J i && has K i) h (ap₂ _&&_ e t)) in z)

@@ -46,7 +46,7 @@ by-test false = inr refl
 
 -- ---- counts
 
-count-le : (n : ℕ) (P : ℕ → Bool) → count n P ≤ n
+pub count-le : (n : ℕ) (P : ℕ → Bool) → count n P ≤ n
 unfolding count
 count-le zero P = zero-le
 count-le (suc n) P = step (count-le n P) (by-test (P n))

@@ -18,7 +18,7 @@ use Rattle.columns.specs.declared.Columns.{Columns}
 use Rattle.columns.specs.Listed.{listed}
 use Rattle.columns.specs.Columns.{bit, number, has, columnsOf, members, Sound}
 use Rattle.columns.proofs.Bits.{bit-of-zero, bit-number, number-lt, number-ext, number-bit}
-use Rattle.columns.proofs.Listing.{listed-ext}
+use Rattle.columns.proofs.Listing.{count-le, length-listed, listed-ext}
 
 -- from what a function is told of its parameter: `sound c (search needs) (λ w. search needs)`
 pub sound : (c : Columns) → length (c .words) ≡ 4 → ((w : ℕ) → Fits w64 (getD (c .words) w 0)) → Sound c
@@ -87,6 +87,9 @@ columnsOf-has c s =
 
 pub members-columnsOf : (P : ℕ → Bool) → members (columnsOf P) ≡ listed 256 P
 members-columnsOf P = listed-ext 256 (has (columnsOf P)) P (has-columnsOf P)
+
+pub size-most : (c : Columns) → length (members c) ≤ 256
+size-most c = omega (arith, length-listed 256 (has c), count-le 256 (has c))
 
 -- ---- adding a column
 

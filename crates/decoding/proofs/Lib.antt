@@ -11,6 +11,7 @@ pub mod Recovery
 pub mod Recurrence
 pub mod RegisterPolynomial
 pub mod RemainingSums
+pub mod RowsApart
 pub mod SameRead
 pub mod Searching
 pub mod SequenceRegister

@@ -10,7 +10,7 @@ use native.Mathlib.Decide.{decLt}
 use native.Mathlib.Omega.{arith}
 use lib.Dec.{ltb}
 use lib.ListN.{length}
-use borrow.Author.Tests.{lt-ltb, le-ltb, leb-true}
+use borrow.Author.Tests.{lt-ltb, le-ltb, leb-true, le-leb}
 use Rattle.columns.specs.Columns.{has, either}
 use Rattle.columns.specs.Listed.{count}
 use Rattle.columns.specs.declared.Columns.{Columns}
@@ -18,7 +18,7 @@ use Rattle.columns.proofs.Joined.{has-either, either-neither, size-either}
 use Rattle.columns.proofs.Listing.{by-test}
 use Rattle.columns.proofs.Marks.{columnsOf-ext}
 use Rattle.columns.proofs.Subset.{Within, within-le, within-same}
-use Rattle.decoding.specs.Locating.{sizeOf, tapsOf, aloneOf, named, namedColumns, namesAll}
+use Rattle.decoding.specs.Locating.{sizeOf, tapsOf, aloneOf, rowsReach, named, namedColumns, namesAll}
 use Rattle.decoding.specs.Remaining.{sumsRead, readSequences, leftReach, completable, mended}
 use Rattle.decoding.proofs.LeftSequences.{same-undeclared, left-power}
 use Rattle.decoding.proofs.MendedFrame.{Read, mended-size, mended-kept, mended-well-formed, keeps-fits, completable-says, mended-only}
@@ -27,16 +27,21 @@ use Rattle.decoding.proofs.PowerSums.{size-at-most, names-P, names-enou
 use Rattle.decoding.proofs.SequenceRegister.{generator-of}
 use Rattle.frame.specs.DeclaredCells.{Declared, checksLeft, asRead, differsRead, distanceRead, differingRead}
 use Rattle.frame.specs.Frame.{cell, Codeword, Legal, differs, distance, differing}
-use Rattle.frame.specs.Shape.{isShape}
+use Rattle.frame.specs.Shape.{isShape, checksOf}
 use Rattle.frame.specs.declared.Shape.{Shape}
 use Rattle.frame.proofs.Distances.{agreeing}
 use Rattle.frame.proofs.ReadFrames.{read-declared, read-kept}
 use Rattle.frame.proofs.Shapes.{shape-ranges}
-use Rattle.lists.proofs.Tabulated.{every-at}
+use Rattle.lists.proofs.Tabulated.{every-at, every-of}
 
 pub left-reach : (s : Shape) (D : Declared) (c : ℕ) → leftReach s D c ≡ true → (h : ℕ) → h < s .rows → c ≤ checksLeft s D h
 unfolding leftReach
 left-reach s D c e h below = leb-true c (checksLeft s D h) (every-at (s .rows) _ e h below)
+
+-- a row has no fewer checks than are left of them
+pub rows-reach : (s : Shape) (D : Declared) (c : ℕ) → leftReach s D c ≡ true → rowsReach s c ≡ true
+unfolding rowsReach
+rows-reach s D c e = every-of (s .rows) _ (λ h below. le-leb c (checksOf s h) (let l = left-reach s D c e h below in omega arith))
 
 module _ (s : Shape) (shape : isShape s ≡ true) (D : Declared) (f : List ℕ) (read : Read s D f) where
   abbrev n : ℕ

@@ -8,14 +8,18 @@ use Prim.Native.Nat.{ℕ, suc, _+_}
 use lib.ListN.{length, replicate, take}
 use Rattle.columns.specs.Columns.{members}
 use Rattle.decoding.specs.Locating.{sizeOf, tapsOf, aloneOf}
+use Rattle.decoding.specs.Remaining.{sumsRead, readSequences}
 use Rattle.examples.specs.Enumeration.{registers}
 use Rattle.finder.specs.Finder as Finder
 use Rattle.finder.specs.Finder.{answer, tapsLeft}
+use Rattle.frame.specs.DeclaredCells.{Declared, declaredBy}
 use Rattle.frame.specs.Frame.{sequences}
 use Rattle.frame.specs.Shape.{shapeOf}
+use Rattle.frame.specs.declared.Shape.{Shape}
 use Rattle.job.specs.Calls as Calls
 use Rattle.job.specs.Calls.{Outcome, step}
 use Rattle.job.specs.Job.{emptyJob, noArrays}
+use Rattle.job.specs.NothingDeclared.{noWords}
 use Rattle.lists.specs.Tabulate.{tabulate, joined}
 use Rattle.register.specs.Sequences.{longest}
 
@@ -24,6 +28,11 @@ pub data Example : Type 0 where
   register : (p : ℕ) (ss : List (List ℕ)) (found : Finder.Answer) (taps : List ℕ) (all : List (List (List ℕ))) → Example
   -- columns, check counts and frame; the check sums, the register's length, taps and alone mark; what locate answers, and the columns
   frame : (n : ℕ) (checks f : List ℕ) (sums : List (List ℕ)) (c : ℕ) (taps : List ℕ) (alone : Bool) (said : Calls.Answer) (marked : List ℕ) → Example
+  -- columns, check counts, declared cells and frame; the check sums of the frame as read, what is left of them, the register's length, taps and alone mark;
+  -- what locate answers, the columns, and the frame that repair leaves after it
+  declared :
+      (n : ℕ) (checks words f : List ℕ) (sums sequences : List (List ℕ)) (c : ℕ) (taps : List ℕ) (alone : Bool) (said : Calls.Answer)
+      (marked left : List ℕ) → Example
   -- columns, check counts and frame; the frame that encode leaves
   encoded : (n : ℕ) (checks f left : List ℕ) → Example
 
@@ -39,8 +48,15 @@ computed (register p ss found taps all) =
     (tabulate (suc (lengthOf said)) (λ l. registers p l ss))
 computed (frame n checks f sums c taps alone said marked) =
     let ss : List (List ℕ) = sequences (shapeOf n checks) f in
-    let o : Outcome = step (step (emptyJob noArrays) (Calls.shape n checks) .job) (Calls.locate f) in
+    let o : Outcome = step (step (emptyJob noArrays) (Calls.shape n checks) .job) (Calls.locate noWords f) in
     frame n checks f ss (sizeOf ss) (tapsOf ss) (aloneOf ss) (o .answer) (members (o .marks))
+computed (declared n checks words f sums ss c taps alone said marked left) =
+    let s : Shape = shapeOf n checks in
+    let D : Declared = declaredBy words in
+    let xs : List (List ℕ) = readSequences s D f in
+    let o : Outcome = step (step (emptyJob noArrays) (Calls.shape n checks) .job) (Calls.locate words f) in
+    declared n checks words f (sumsRead s D f) xs (sizeOf xs) (tapsOf xs) (aloneOf xs) (o .answer) (members (o .marks))
+    (step (o .job) (Calls.repair f) .frame)
 computed (encoded n checks f left) =
     encoded n checks f (step (step (emptyJob noArrays) (Calls.shape n checks) .job) (Calls.encode f) .frame)
 
@@ -89,6 +105,14 @@ table =
     -- one row of 256 columns, damaged in column 64, the first of a word of marks, and in the last one
     frame 256 (4 ∷ []) (replicate 64 0 ++ (1 ∷ (replicate 190 0 ++ (3 ∷ []))))
     ((242 ∷ 85 ∷ 216 ∷ 239 ∷ []) ∷ []) 2 (1 ∷ 187 ∷ 166 ∷ []) true (Calls.columns 2) (64 ∷ 255 ∷ []) ∷
+    -- the one named column is declared in row 2, which cannot be completed there; the repair that follows is refused
+    declared 3 (2 ∷ 2 ∷ []) (replicate 4 0 ++ (1 ∷ replicate 27 0)) (1 ∷ 0 ∷ 0 ∷ 65535 ∷ 1 ∷ 0 ∷ [])
+    ((1 ∷ 1 ∷ []) ∷ (3 ∷ 9 ∷ []) ∷ []) ((1 ∷ 1 ∷ []) ∷ (6 ∷ []) ∷ []) 1 (1 ∷ 256 ∷ []) true (Calls.refused 26) []
+    (1 ∷ 0 ∷ 0 ∷ 65535 ∷ 1 ∷ 0 ∷ []) ∷
+    -- column 0 of row 1 declared, and filled
+    declared 4 (3 ∷ 3 ∷ []) (1 ∷ replicate 31 0) (65535 ∷ 0 ∷ 5 ∷ 0 ∷ 0 ∷ 0 ∷ 7 ∷ 0 ∷ [])
+    ((45 ∷ 148 ∷ 47 ∷ []) ∷ (63 ∷ 53 ∷ 220 ∷ []) ∷ []) ((103 ∷ 156 ∷ []) ∷ (63 ∷ 53 ∷ 220 ∷ []) ∷ []) 1 (1 ∷ 248 ∷ []) true
+    (Calls.columns 1) (2 ∷ []) (replicate 8 0) ∷
     []
 
 abbrev pub Examples : Type 0

@@ -60,11 +60,11 @@ both-false : (a b : Bool) → (a || b) ≡ false → (a ≡ false) × (b ≡ fal
 both-false true b e = absurd (false≢true (sym e))
 both-false false b e = (refl, e)
 
-one-false : (a b : Bool) → (a && b) ≡ false → (a ≡ false) ⊎ (b ≡ false)
+pub one-false : (a b : Bool) → (a && b) ≡ false → (a ≡ false) ⊎ (b ≡ false)
 one-false true b e = inr e
 one-false false b e = inl refl
 
-bad-cells : (s : Shape) (D : Declared) → declarable s D ≡ false → BadCells s D
+pub bad-cells : (s : Shape) (D : Declared) → declarable s D ≡ false → BadCells s D
 unfolding declarable marksInside
 bad-cells s D e = pick (one-false (every 8 (marksInside s D)) _ e)
   where

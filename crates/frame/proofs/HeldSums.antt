@@ -2,13 +2,12 @@
 use mathlib.Core.Path.{_≡_, refl, sym, ap, ap₂, _∙_}
 use mathlib.Core.Bool.{true}
 use mathlib.Core.List.{List, _++_}
-use Prim.Native.Nat.{ℕ, zero, suc, _+_, _-_, _<_}
+use Prim.Native.Nat.{ℕ, _+_, _-_, _<_}
 use native.Mathlib.Nat.{mod-lt}
 use native.Mathlib.Omega.{arith}
 use lib.ListN.{length, getD, take, drop, replicate, length-append, length-replicate}
-use Rattle.lists.proofs.Totals.{total-zero, total-suc}
 use Rattle.lists.specs.Tabulate.{tabulate, joined}
-use Rattle.lists.proofs.Joined.{joined-zero, joined-more, joined-part, length-joined, tabulate-each, replicate-each, append-each, joined-each}
+use Rattle.lists.proofs.Joined.{joined-part, length-joined, length-joined-total, tabulate-each, replicate-each, append-each, joined-each}
 use Rattle.lists.proofs.Tabulated.{length-tabulate, tabulate-ext}
 use Rattle.frame.specs.Frame.{checkSum, checkSums, rowSums, sequences, heldSums, sumsBefore, heldSequences}
 use Rattle.frame.specs.Shape.{checksOf, isShape}
@@ -55,10 +54,7 @@ unfolding sequences
 length-sequences s f = length-tabulate (s .rows) _
 
 pub sums-before : (s : Shape) (f : List ℕ) (h : ℕ) → length (joined (tabulate h (rowSums s f))) ≡ sumsBefore s h
-sums-before s f zero = ap length (joined-zero (rowSums s f)) ∙ sym (total-zero (checksOf s))
-sums-before s f (suc h) =
-    ap length (joined-more h (rowSums s f)) ∙ length-append (joined (tabulate h (rowSums s f))) (rowSums s f h)
-    ∙ ap₂ _+_ (sums-before s f h) (length-rowSums s f h) ∙ sym (total-suc h (checksOf s))
+sums-before s f h = length-joined-total (checksOf s) h (rowSums s f) (λ k l. length-rowSums s f k)
 
 -- the check sums of row h stand at their place among those that are held
 pub held-row : (s : Shape) (f : List ℕ) (h : ℕ) → h < s .rows → take (checksOf s h) (drop (sumsBefore s h) (heldSums s f)) ≡ rowSums s f h

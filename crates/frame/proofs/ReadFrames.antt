@@ -2,20 +2,22 @@
 use mathlib.Core.Path.{_≡_, sym, ap, _∙_}
 use mathlib.Core.Bool.{true, false}
 use mathlib.Core.List.{List}
+use mathlib.Core.Logic.{_⊎_, inl, inr}
 use Prim.Native.Nat.{ℕ, _*_, _<_}
 use native.Mathlib.Omega.{arith}
 use lib.ListN.{length, getD}
 use Rattle.columns.specs.Columns.{has}
 use Rattle.columns.specs.declared.Columns.{Columns}
+use Rattle.columns.proofs.Listing.{by-test}
 use Rattle.lists.proofs.Tabulated.{length-tabulate}
 use Rattle.frame.proofs.CompletionLaws.{cleared-kept, cleared-empty}
 use Rattle.frame.proofs.Rows.{row-cell, length-eachRow, eachRow-row, same-frames}
 use Rattle.frame.specs.Completion.{cleared}
-use Rattle.frame.specs.Frame.{row, cell}
-use Rattle.frame.specs.DeclaredCells.{Declared, asRead}
+use Rattle.frame.specs.Frame.{row, cell, distance, differing}
+use Rattle.frame.specs.DeclaredCells.{Declared, asRead, distanceRead, differingRead}
 use Rattle.frame.specs.declared.Shape.{Shape}
 
-length-cleared : (n : ℕ) (J : Columns) (x : List ℕ) → length (cleared n J x) ≡ n
+pub length-cleared : (n : ℕ) (J : Columns) (x : List ℕ) → length (cleared n J x) ≡ n
 unfolding cleared
 length-cleared n J x = length-tabulate n _
 
@@ -41,5 +43,24 @@ module _ (s : Shape) (D : Declared) (f : List ℕ) (whole : length f ≡ s .rows
   read-kept h i r c e = read-cell h i r c ∙ cleared-kept n (D h) (row n f h) i c e ∙ row-cell n f h i c
 
   -- with nothing declared a frame is read as it stands
-  pub read-none : ((h i : ℕ) → has (D h) i ≡ false) → asRead s D f ≡ f
-  read-none none = same-frames n (s .rows) (asRead s D f) f length-read whole (λ h i r c. read-kept h i r c (none h i))
+  pub read-none : ((h i : ℕ) → h < s .rows → i < s .columns → has (D h) i ≡ false) → asRead s D f ≡ f
+  read-none none = same-frames n (s .rows) (asRead s D f) f length-read whole (λ h i r c. read-kept h i r c (none h i r c))
+
+-- what the declared cells hold plays no part: frames that agree in all others are read alike, and every frame is as far from the one as from the other
+module _ (s : Shape) (D : Declared) (f g : List ℕ) (whole : length f ≡ s .rows * s .columns) (sized : length g ≡ s .rows * s .columns)
+    (same : (h i : ℕ) → h < s .rows → i < s .columns → has (D h) i ≡ false → cell (s .columns) f h i ≡ cell (s .columns) g h i) where
+  pub read-same : asRead s D f ≡ asRead s D g
+  read-same =
+      same-frames (s .columns) (s .rows) (asRead s D f) (asRead s D g) (length-read s D f whole) (length-read s D g sized) (λ h i r c.
+      by-mark h i r c (by-test (has (D h) i)))
+    where
+      by-mark : (h i : ℕ) → h < s .rows → i < s .columns → (has (D h) i ≡ true) ⊎ (has (D h) i ≡ false)
+          → cell (s .columns) (asRead s D f) h i ≡ cell (s .columns) (asRead s D g) h i
+      by-mark h i r c (inl mem) = read-declared s D f whole h i r c mem ∙ sym (read-declared s D g sized h i r c mem)
+      by-mark h i r c (inr out) = read-kept s D f whole h i r c out ∙ same h i r c out ∙ sym (read-kept s D g sized h i r c out)
+
+  pub distance-same : (x : List ℕ) → distanceRead s D x f ≡ distanceRead s D x g
+  distance-same x = ap (distance s (asRead s D x)) read-same
+
+  pub differing-same : (x : List ℕ) → differingRead s D x f ≡ differingRead s D x g
+  differing-same x = ap (differing s (asRead s D x)) read-same

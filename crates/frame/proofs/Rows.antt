@@ -75,6 +75,16 @@ pub eachRow-suc : (n : ℕ) (g : ℕ → List ℕ → List ℕ) (h : ℕ) (f : L
 unfolding eachRow
 eachRow-suc n g h f = refl
 
+-- rows that are changed alike
+pub eachRow-ext : (n : ℕ) (g k : ℕ → List ℕ → List ℕ) (f : List ℕ) (rows : ℕ) → ((h : ℕ) (x : List ℕ) → h < rows → g h x ≡ k h x)
+    → eachRow n g rows f ≡ eachRow n k rows f
+unfolding eachRow
+eachRow-ext n g k f zero same = refl
+eachRow-ext n g k f (suc h) same =
+    let e = eachRow-ext n g k f h (λ i x l. same i x (omega arith)) in
+    ap (λ (x : List ℕ). withRow n x h (g h (row n x h))) e
+    ∙ ap (withRow n (eachRow n k h f) h) (same h (row n (eachRow n k h f) h) (omega arith))
+
 module _ (n : ℕ) (g : ℕ → List ℕ → List ℕ) (sized : (h : ℕ) (x : List ℕ) → length (g h x) ≡ n) (f : List ℕ) where
   pub length-eachRow : (rows : ℕ) → rows * n ≤ length f → length (eachRow n g rows f) ≡ length f
   unfolding eachRow

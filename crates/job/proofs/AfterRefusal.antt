@@ -5,8 +5,8 @@ use mathlib.Core.Bool.{Bool, true, false, false≢true}
 use mathlib.Core.List.{List, [], _∷_}
 use Prim.Native.Nat.{ℕ}
 use native.Mathlib.Omega.{arith}
+use Rattle.frame.specs.DeclaredCells.{readTests, rereadTests}
 use Rattle.frame.specs.Encode.{encodeTests}
-use Rattle.frame.specs.Frame.{frameTests}
 use Rattle.frame.specs.Shape.{shapeTests}
 use Rattle.refusal.specs.Order.{Test}
 use Rattle.refusal.proofs.Orders.{Among}
@@ -27,17 +27,20 @@ late-among b k (t ∷ ts) l (inl a) = ap late a ∙ l .0
 late-among b k (t ∷ ts) l (inr a) = late-among b k ts (l .1) a
 
 keeping-early : (j : Job) (c : Call) → AllLate false (describe j c .keeping)
-unfolding late shapeTests encodeTests frameTests
+unfolding late shapeTests encodeTests readTests rereadTests
 keeping-early j (shape n checks) = (refl, (refl, (refl, tt)))
 keeping-early j (encode f) = (refl, (refl, (refl, tt)))
-keeping-early j (locate f) = (refl, (refl, (refl, tt)))
+keeping-early j (locate words f) = (refl, (refl, (refl, (refl, tt))))
 keeping-early j (repair f) = (refl, (refl, (refl, (refl, (refl, tt)))))
+
+pub early-number : (j : Job) (c : Call) (k : ℕ) → Among k (describe j c .keeping) → late k ≡ false
+early-number j c k = late-among false k (describe j c .keeping) (keeping-early j c)
 
 shaping-late : (j : Job) (c : Call) → AllLate true (describe j c .shaping)
 unfolding late registerTests
 shaping-late j (shape n checks) = tt
 shaping-late j (encode f) = tt
-shaping-late j (locate f) = (refl, (refl, (refl, tt)))
+shaping-late j (locate words f) = (refl, (refl, (refl, tt)))
 shaping-late j (repair f) = tt
 
 -- ---- answers
@@ -54,7 +57,7 @@ never-done e = let z : _≡_ {A = ℕ} 0 1 = cc in omega arith
 pub gives-no-refusal : (j : Job) (c : Call) {k : ℕ} → describe j c .gives .answer ≡ refused k → ⊥
 gives-no-refusal j (shape n checks) = never-done
 gives-no-refusal j (encode f) = never-done
-gives-no-refusal j (locate f) = never-columns
+gives-no-refusal j (locate words f) = never-columns
 gives-no-refusal j (repair f) = never-columns
 
 -- ---- what is left
@@ -62,7 +65,7 @@ gives-no-refusal j (repair f) = never-columns
 lent-frame : (j : Job) (c : Call) → describe j c .lent ≡ lentTo c
 lent-frame j (shape n checks) = refl
 lent-frame j (encode f) = refl
-lent-frame j (locate f) = refl
+lent-frame j (locate words f) = refl
 lent-frame j (repair f) = refl
 
 pub left : (j : Job) (c : Call) (k : ℕ) → step j c .answer ≡ refused k → Refused j c k (step j c)
@@ -71,7 +74,7 @@ left j c k =
     (λ m a e. record {
       frame = lent-frame j c;
       marks = refl;
-      shaped = λ l. absurd (false≢true (sym (number-late false m (late-among false m (describe j c .keeping) (keeping-early j c) a) e) ∙ l));
+      shaped = λ l. absurd (false≢true (sym (number-late false m (early-number j c m a) e) ∙ l));
       kept = λ l. refl;
     })
     (λ m p a e. record {

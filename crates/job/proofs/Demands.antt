@@ -1,32 +1,35 @@
 -- Demands 2 and 3, about every list of calls on one job from an empty one.
 use mathlib.Core.Path.{_≡_, refl, sym, ap, subst, subst⁻¹, _∙_}
 use mathlib.Core.Logic.{_↔_}
-use mathlib.Core.Bool.{true, false}
+use mathlib.Core.Bool.{Bool, true, false, and-eq-true-iff}
 use mathlib.Core.List.{List, [], _∷_, _++_}
 use mathlib.Core.Option.{some}
 use Prim.Native.Nat.{ℕ, _≤_, _<_}
-use Rattle.decoding.specs.Locating.{sizeOf}
-use Rattle.decoding.proofs.Recovery.{recovers-half}
+use Rattle.decoding.specs.Remaining.{readSequences}
+use Rattle.decoding.proofs.MendedFrame.{read-facts}
+use Rattle.decoding.proofs.Recovery.{recovers-twice}
+use Rattle.frame.specs.DeclaredCells.{Declared, declaredBy, checksLeft, WellFormedRead}
 use Rattle.frame.specs.Encode.{encodeTests}
-use Rattle.frame.specs.Frame.{WellFormed, sequences, heldSums, heldSequences}
-use Rattle.frame.specs.Shape.{isShape, checksOf, shapeOf}
+use Rattle.frame.specs.Shape.{isShape, shapeOf}
 use Rattle.frame.specs.declared.Shape.{Shape}
+use Rattle.frame.proofs.Declarable.{read-passes}
 use Rattle.frame.proofs.Demands as frames
-use Rattle.frame.proofs.Reasons.{frame-passes}
 use Rattle.refusal.specs.Outcome as outcome
 use Rattle.refusal.specs.Outcome.{passed}
-use Rattle.refusal.proofs.Orders.{Pass, pass-otherwise}
+use Rattle.refusal.proofs.Orders.{Pass, no-fail, pass-otherwise}
 use Rattle.register.specs.Register.{Shortest, Alone}
 use Rattle.job.specs.Calls.{Call, shape, encode, locate, repair, done, columns, refused, Outcome, describe, step, repairs}
-use Rattle.job.specs.Demands.{ShapeGives, Encoded, Mended, Found, LocateExact, CheckSumsDiffer, RepairExact, DamageMended, Demand2, Demand3}
-use Rattle.job.specs.Job.{Arrays, emptyJob, isEmpty, lengthOf}
+use Rattle.job.specs.Demands.{ShapeGives, Encoded, Mended, Found, LocateExact, RepairMends, CheckSumsDiffer, RepairExact, DamageMended}
+use Rattle.job.specs.Demands.{Demand2, Demand3}
+use Rattle.job.specs.Job.{Arrays, Job, emptyJob, isEmpty, isLocatedPhase, lengthOf, declaredIn, declaredSound}
 use Rattle.job.specs.Left.{Given, LeftShaped}
 use Rattle.job.specs.Refusals.{LegalAt}
-use Rattle.job.specs.Runs.{run, runFrom, lastShape, IsRefused, Taken, Between}
+use Rattle.job.specs.Runs.{run, runFrom, lastShape, IsRefused, Taken, Between, GoesBack}
 use Rattle.job.proofs.AfterRefusal.{never-columns}
 use Rattle.job.proofs.Between.{between-keeps}
 use Rattle.job.proofs.Cases.{by-call}
 use Rattle.job.proofs.Forms.{Locates, locatedFrame, locatesFrame, has-shape, register-passes, run-form, run-append}
+use Rattle.job.proofs.GoingBack.{goes-back}
 use Rattle.job.proofs.LastShape.{shape-is-last}
 use Rattle.job.proofs.Left.{shape-given}
 use Rattle.job.proofs.Locating.{locate-takes, exact-at, found}
@@ -36,6 +39,9 @@ use Rattle.job.proofs.Repairing.{repair-mended, repair-takes}
 use Rattle.job.proofs.Soundness.{reached, holds-last-shape, not-empty-held, shape-held}
 
 -- ---- calls that are not refused
+
+abbrev soundCells : Job → Bool
+soundCells j = declaredSound (j .head .shape) (declaredIn j) (lengthOf (j .head .phase))
 
 module _ (a : Arrays) (calls : List Call) (f : List ℕ) where
   abbrev After : (Shape → ℕ → Outcome → Type 0) → Outcome → Type 0
@@ -54,15 +60,22 @@ module _ (a : Arrays) (calls : List Call) (f : List ℕ) where
         by-call (run a calls) c (After P) (λ k m taken. absurd (taken (k, refl))) (λ k p m taken. absurd (taken (k, refl)))
         (λ p q taken. (run a calls .head .shape, n, last-shape (not-empty p), answers, given p q))
 
-  mends : After (λ s c o. Mended s f c (run a calls) o) (step (run a calls) (repair f))
-  mends =
-      taken-gives (repair f) (λ s c o. Mended s f c (run a calls) o) (lengthOf (run a calls .head .phase)) refl (λ p. p .0)
-      (λ p q. repair-mended (run a calls) f (run-form a calls) p)
+  -- a repair, with the words of the locate that it goes back to
+  abbrev MendedBack : Shape → ℕ → Outcome → Type 0
+  MendedBack s c o = (words : List ℕ) × GoesBack a calls words × Mended s (declaredBy words) f c (run a calls) o
 
-  finds : After (λ s c o. Found s f c o) (step (run a calls) (locate f))
-  finds =
-      taken-gives (locate f) (λ s c o. Found s f c o)
-      (sizeOf (heldSequences (run a calls .head .shape) (heldSums (run a calls .head .shape) f))) refl (λ p. p .0) (λ (e, p) q. found (run a calls) f e p q)
+  mends : After MendedBack (step (run a calls) (repair f))
+  mends =
+      taken-gives (repair f) MendedBack (lengthOf (run a calls .head .phase)) refl (λ p. p .0) (λ p q. (
+        run a calls .arrays .declared,
+        goes-back a calls (and-eq-true-iff (isLocatedPhase (run a calls .head .phase)) (soundCells (run a calls)) .0 (no-fail _ (p .1 .0)) .0),
+        repair-mended (run a calls) f (run-form a calls) p,
+      ))
+
+  finds : (words : List ℕ) → After (λ s c o. Found s words f c o) (step (run a calls) (locate words f))
+  finds words =
+      taken-gives (locate words f) (λ s c o. Found s words f c o) (lengthOf (describe (run a calls) (locate words f) .gives .job .head .phase)) refl
+      (λ p. p .0) (λ (e, p) q. found (run a calls) words f e p q)
 
   fills : Taken (step (run a calls) (encode f)) → (s : Shape) × (lastShape calls ≡ some s) × Encoded s f (run a calls) (step (run a calls) (encode f))
   fills =
@@ -88,63 +101,73 @@ shape-gives a calls n checks =
       record { phase = refl; shape = refl; columns = refl; arrays = refl },
     ))
 
+repair-mends : RepairMends
+repair-mends a calls f taken =
+    let (s, c, last, answer, (words, back, mended)) = mends a calls f taken in (s, words, c, last, back, answer, mended)
+
 -- ---- a locate of a frame whose register is alone
 
 locate-exact : LocateExact
-locate-exact a calls s f c σ last =
+locate-exact a calls s words f c σ last =
     let (not-empty, same) = shape-held a calls s last in
-    subst (λ (x : Shape). WellFormed x f → Shortest 257 c (sequences x f) σ → Alone 257 c (sequences x f) σ
-    → ((h : ℕ) → h < x .rows → c ≤ checksOf x h) → IsRefused (step (run a calls) (locate f)) ↔ (LegalAt x f c → ⊥)) same
-    (exact-at (run a calls) f not-empty c σ)
+    let D : Declared = declaredBy words in
+    subst (λ (x : Shape). WellFormedRead x D f → Shortest 257 c (readSequences x D f) σ → Alone 257 c (readSequences x D f) σ
+    → ((h : ℕ) → h < x .rows → c ≤ checksLeft x D h) → IsRefused (step (run a calls) (locate words f)) ↔ (LegalAt x D f c → ⊥)) same
+    (exact-at (run a calls) words f not-empty c σ)
 
 -- ---- a frame that was damaged
 
-module _ (a : Arrays) (before : List Call) (s : Shape) (f : List ℕ) (last : lastShape before ≡ some s) where
-  shaped-so : isShape s ≡ true
+module _ (a : Arrays) (before : List Call) (s : Shape) (words f : List ℕ) (last : lastShape before ≡ some s) where
+  pub shaped-so : isShape s ≡ true
   shaped-so = let (not-empty, same) = shape-held a before s last in subst (λ (x : Shape). isShape x ≡ true) same (has-shape (run a before .head) not-empty)
 
-  module _ (l : Locates s f) where
-    taken : step (run a before) (locate f) ≡ locatesFrame s (run a before .arrays) f
+  module _ (l : Locates s (declaredBy words) f) where
+    abbrev j : Job
+    j = locatedFrame s (run a before .arrays) words f
+
+    taken : step (run a before) (locate words f) ≡ locatesFrame s (run a before .arrays) words f
     taken =
         let (not-empty, same) = shape-held a before s last in
-        subst (λ (x : Shape). Locates x f → step (run a before) (locate f) ≡ locatesFrame x (run a before .arrays) f) same
-        (locate-takes (run a before) f not-empty) l
+        subst (λ (x : Shape). Locates x (declaredBy words) f → step (run a before) (locate words f) ≡ locatesFrame x (run a before .arrays) words f) same
+        (locate-takes (run a before) words f not-empty) l
 
-    located-then : run a (before ++ (locate f ∷ [])) ≡ locatedFrame s (run a before .arrays) f
+    located-then : run a (before ++ (locate words f ∷ [])) ≡ j
     unfolding runFrom
-    located-then = run-append (emptyJob a) before (locate f ∷ []) ∙ ap (λ o. o .job) taken
+    located-then = run-append (emptyJob a) before (locate words f ∷ []) ∙ ap (λ o. o .job) taken
 
-    still-located : (between : List Call) → Between (run a (before ++ (locate f ∷ []))) between
-        → run a (before ++ (locate f ∷ between)) ≡ locatedFrame s (run a before .arrays) f
+    still-located : (between : List Call) → Between (run a (before ++ (locate words f ∷ []))) between → run a (before ++ (locate words f ∷ between)) ≡ j
     unfolding runFrom
     still-located between kept =
-        run-append (emptyJob a) before (locate f ∷ between) ∙ ap (λ o. runFrom (o .job) between) taken
-        ∙ between-keeps (locatedFrame s (run a before .arrays) f) between (subst (λ j. Between j between) located-then kept)
+        run-append (emptyJob a) before (locate words f ∷ between) ∙ ap (λ o. runFrom (o .job) between) taken
+        ∙ between-keeps j between (subst (λ i. Between i between) located-then kept)
 
-    repair-then : (between : List Call) → Between (run a (before ++ (locate f ∷ []))) between
-        → step (run a (before ++ (locate f ∷ between))) (repair f) ≡ repairs (locatedFrame s (run a before .arrays) f) f
-    repair-then between kept = ap (λ j. step j (repair f)) (still-located between kept) ∙ repair-takes s (run a before .arrays) f shaped-so l
+    repair-then : (between : List Call) → Between (run a (before ++ (locate words f ∷ []))) between
+        → step (run a (before ++ (locate words f ∷ between))) (repair f) ≡ repairs j f
+    repair-then between kept = ap (λ i. step i (repair f)) (still-located between kept) ∙ repair-takes s (run a before .arrays) words f shaped-so l
 
-  locates : Taken (step (run a before) (locate f)) → Locates s f
+  pub locates : Taken (step (run a before) (locate words f)) → Locates s (declaredBy words) f
   locates =
-      subst (λ (x : Shape). Taken (step (run a before) (locate f)) → Locates x f) (shape-held a before s last .1)
-      (by-call (run a before) (locate f) (λ o. Taken o → Locates (run a before .head .shape) f) (λ k m t. absurd (t (k, refl)))
-      (λ k p m t. absurd (t (k, refl))) (λ p q t. register-passes _ f (frame-passes _ f (p .1)) q))
+      subst (λ (x : Shape). Taken (step (run a before) (locate words f)) → Locates x (declaredBy words) f) (shape-held a before s last .1)
+      (by-call (run a before) (locate words f) (λ o. Taken o → Locates (run a before .head .shape) (declaredBy words) f) (λ k m t. absurd (t (k, refl)))
+      (λ k p m t. absurd (t (k, refl))) (λ p q t. register-passes _ (declaredBy words) f (read-passes _ (declaredBy words) f (p .1)) q))
 
 repair-exact : RepairExact
-repair-exact a before between s f g last taken kept w =
-    let l : Locates s g = locates a before s g last taken in
-    subst⁻¹ (λ j. (IsRefused (step j (repair f)) ↔ CheckSumsDiffer s f g) × ((step j (repair f) .answer ≡ refused 23) ↔ CheckSumsDiffer s f g))
-    (still-located a before s g last l between kept)
-    (refused-where-differ s (run a before .arrays) f g (shaped-so a before s g last) l w)
+repair-exact a before between s words f g last taken kept w =
+    let D : Declared = declaredBy words in
+    let l : Locates s D g = locates a before s words g last taken in
+    subst⁻¹ (λ j. (IsRefused (step j (repair f)) ↔ CheckSumsDiffer s D f g) × ((step j (repair f) .answer ≡ refused 23) ↔ CheckSumsDiffer s D f g))
+    (still-located a before s words g last l between kept)
+    (refused-where-differ s (run a before .arrays) words f g (shaped-so a before s words g last) l w)
 
 damage-mended : DamageMended
-damage-mended a before between s f g last legal w half kept =
-    let r = recovers-half s (shaped-so a before s f last) g f legal w half in
-    let l : Locates s f = record { well-formed = w; alone = r .alone; reach = r .reaches; names = r .names } in
-    let after = repair-then a before s f last l between kept in
+damage-mended a before between s words f g last legal w twice kept =
+    let D : Declared = declaredBy words in
+    let t : isShape s ≡ true = shaped-so a before s words f last in
+    let r = recovers-twice s t D g f legal (read-facts s t D f w) twice in
+    let l : Locates s D f = record { well-formed = w; alone = r .alone; reach = r .reaches; names = r .names; fits = r .fits } in
+    let after = repair-then a before s words f last l between kept in
     record {
-      located = λ (k, refusal). never-columns (sym (ap (λ o. o .answer) (taken a before s f last l)) ∙ refusal);
+      located = λ (k, refusal). never-columns (sym (ap (λ o. o .answer) (taken a before s words f last l)) ∙ refusal);
       mended = λ (k, refusal). never-columns (sym (ap (λ o. o .answer) after) ∙ refusal);
       frame = ap (λ o. o .frame) after ∙ r .frame;
     }
@@ -157,9 +180,9 @@ demand-3 = record {
   reached = reached;
   shape-is-last = shape-is-last;
   shape-gives = shape-gives;
-  locate-finds = finds;
+  locate-finds = λ a calls words f. finds a calls f words;
   locate-exact = locate-exact;
-  repair-mends = mends;
+  repair-mends = repair-mends;
   repair-exact = repair-exact;
   damage-mended = damage-mended;
   arrays = play-no-part;

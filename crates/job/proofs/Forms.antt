@@ -1,15 +1,18 @@
--- The forms of a job that calls leave: empty, shaped, or located by a well-formed frame whose register is alone, reached by every row and names its columns.
--- Every call keeps to them.
+-- The forms of a job that calls leave: empty, shaped, or located with declared cells by a well-formed frame whose register is alone, reached by what is left of
+-- every row, and names columns at which the rows can be completed. Every call keeps to them.
 use mathlib.Core.Path.{_≡_, refl, sym, subst, subst⁻¹}
 use mathlib.Core.Bool.{true, false, not, _||_, and-eq-true-iff, false≢true}
 use mathlib.Core.List.{List, [], _∷_, _++_}
 use Prim.Native.Nat.{ℕ}
-use Rattle.decoding.specs.Locating.{sizeOf, tapsOf, aloneOf, rowsReach, namesAll}
-use Rattle.frame.specs.Frame.{WellFormed, sequences, heldSums, heldSequences}
+use Rattle.decoding.specs.Locating.{sizeOf, tapsOf, aloneOf, namesAll, namedColumns}
+use Rattle.decoding.specs.Remaining.{allRemaining, sumsRead, readSequences, leftReach, completable}
+use Rattle.frame.specs.DeclaredCells.{Declared, declaredBy, asRead, WellFormedRead}
+use Rattle.frame.specs.Frame.{heldSums, heldSequences}
 use Rattle.frame.specs.Shape.{isShape, shapeOf}
 use Rattle.frame.specs.declared.Shape.{Shape}
+use Rattle.frame.proofs.Declarable.{read-passes}
 use Rattle.frame.proofs.HeldSums.{held-sequences}
-use Rattle.frame.proofs.Reasons.{shape-passes, frame-passes}
+use Rattle.frame.proofs.Reasons.{shape-passes}
 use Rattle.refusal.proofs.Orders.{Among, Pass, no-fail}
 use Rattle.job.specs.Calls.{Call, shape, encode, locate, repair, Outcome, describe, step, registerTests, locatedBy, locates}
 use Rattle.job.specs.Job.{Arrays, Job, emptyJob, shapedJob, headSound, phaseSound, findingsSound, isEmptyPhase, countsEmpty}
@@ -19,24 +22,28 @@ use Rattle.job.specs.declared.Phase.the-variants.{Empty, Shaped, Located
 use Rattle.job.specs.declared.Phase.{Phase}
 use Rattle.job.proofs.Cases.{by-call}
 
--- a frame that locate takes
-pub record Locates (s : Shape) (f : List ℕ) : Type 0 where
-  pub well-formed : WellFormed s f
-  pub alone : aloneOf (sequences s f) ≡ true
-  pub reach : rowsReach s (sizeOf (sequences s f)) ≡ true
-  pub names : namesAll s (tapsOf (sequences s f)) (sizeOf (sequences s f)) ≡ true
+-- a frame that locate takes, D being its declared cells
+pub record Locates (s : Shape) (D : Declared) (f : List ℕ) : Type 0 where
+  pub well-formed : WellFormedRead s D f
+  pub alone : aloneOf (readSequences s D f) ≡ true
+  pub reach : leftReach s D (sizeOf (readSequences s D f)) ≡ true
+  pub names : namesAll s (tapsOf (readSequences s D f)) (sizeOf (readSequences s D f)) ≡ true
+  pub fits : completable s D (namedColumns s (tapsOf (readSequences s D f))) (sumsRead s D f) ≡ true
 
--- the job that the frame leaves located, and what it gives
-abbrev pub locatedFrame : Shape → Arrays → (f : List ℕ) → Job
-locatedFrame s a f = locatedBy s a (sequences s f) (heldSums s f)
+-- the job that the frame leaves located with the cells that the words declare, and what it gives
+abbrev pub locatedFrame : Shape → Arrays → (words f : List ℕ) → Job
+locatedFrame s a words f =
+    locatedBy s a words (readSequences s (declaredBy words) f) (heldSums s (asRead s (declaredBy words) f))
 
-abbrev pub locatesFrame : Shape → Arrays → (f : List ℕ) → Outcome
-locatesFrame s a f = locates s a (sequences s f) (heldSums s f) f
+abbrev pub locatesFrame : Shape → Arrays → (words f : List ℕ) → Outcome
+locatesFrame s a words f =
+    locates s a words (readSequences s (declaredBy words) f) (heldSums s (asRead s (declaredBy words) f)) f
 
 pub data Form : Job → Type 0 where
   empty : (a : Arrays) → Form (emptyJob a)
   shaped : (s : Shape) (a : Arrays) → isShape s ≡ true → Form (shapedJob s a)
-  located : (s : Shape) (a : Arrays) (f : List ℕ) → isShape s ≡ true → Locates s f → Form (locatedFrame s a f)
+  located : (s : Shape) (a : Arrays) (words f : List ℕ) → isShape s ≡ true → Locates s (declaredBy words) f
+      → Form (locatedFrame s a words f)
 
 -- a head that does not count as empty has a shape
 pub has-shape : (h : Head) → countsEmpty h ≡ false → isShape (h .shape) ≡ true
@@ -48,28 +55,33 @@ has-shape h e = of-phase (h .phase) e
     of-phase Shaped e = no-fail _ e
     of-phase (Located c a) e = and-eq-true-iff (isShape (h .shape)) (findingsSound (h .shape) (h .columns) c a) .0 (no-fail _ e) .0
 
-module _ (s : Shape) (f : List ℕ) where
-  of-sequences : WellFormed s f → Pass (registerTests s (sequences s f)) → Locates s f
+module _ (s : Shape) (D : Declared) (f : List ℕ) where
+  of-sequences : WellFormedRead s D f → Pass (registerTests s D (sumsRead s D f)) → Locates s D f
   unfolding registerTests
-  of-sequences w (a, (r, (n, u))) = record { well-formed = w; alone = no-fail _ a; reach = no-fail _ r; names = no-fail _ n }
+  of-sequences w (a, (r, (n, u))) =
+      let ss : List (List ℕ) = readSequences s D f in
+      let (names, fits) =
+      and-eq-true-iff (namesAll s (tapsOf ss) (sizeOf ss)) (completable s D (namedColumns s (tapsOf ss)) (sumsRead s D f)) .0 (no-fail _ n) in
+      record { well-formed = w; alone = no-fail _ a; reach = no-fail _ r; names = names; fits = fits }
 
-  pub register-passes : WellFormed s f → Pass (registerTests s (heldSequences s (heldSums s f))) → Locates s f
-  register-passes w p = of-sequences w (subst (λ ss. Pass (registerTests s ss)) (held-sequences s f) p)
+  pub register-passes : WellFormedRead s D f → Pass (registerTests s D (heldSequences s (heldSums s (asRead s D f)))) → Locates s D f
+  register-passes w p = of-sequences w (subst (λ S. Pass (registerTests s D S)) (held-sequences s (asRead s D f)) p)
 
 -- a call that may leave the job shaped tests first that it is not empty
 shaped-before : (j : Job) (c : Call) (k : ℕ) → Pass (describe j c .keeping) → Among k (describe j c .shaping) → isShape (j .head .shape) ≡ true
 shaped-before j (shape n checks) k p a = absurd a
 shaped-before j (encode f) k p a = absurd a
-shaped-before j (locate f) k p a = has-shape (j .head) (p .0)
+shaped-before j (locate words f) k p a = has-shape (j .head) (p .0)
 shaped-before j (repair f) k p a = absurd a
 
 gives-form : (j : Job) (c : Call) → Form j → Pass (describe j c .keeping) → Pass (describe j c .shaping) → Form (describe j c .gives .job)
 gives-form j (shape n checks) form p q = shaped (shapeOf n checks) (j .arrays) (shape-passes n checks p)
 gives-form j (encode f) form p q = form
-gives-form j (locate f) form (e, p) q =
+gives-form j (locate words f) form (e, p) q =
     let s : Shape = j .head .shape in
-    subst⁻¹ (λ ss. Form (locatedBy s (j .arrays) ss (heldSums s f))) (held-sequences s f)
-    (located s (j .arrays) f (has-shape (j .head) e) (register-passes s f (frame-passes s f p) q))
+    let D : Declared = declaredBy words in
+    subst⁻¹ (λ S. Form (locatedBy s (j .arrays) words (allRemaining s D S) (heldSums s (asRead s D f)))) (held-sequences s (asRead s D f))
+    (located s (j .arrays) words f (has-shape (j .head) e) (register-passes s D f (read-passes s D f p) q))
 gives-form j (repair f) form (e, p) q = shaped (j .head .shape) (j .arrays) (has-shape (j .head) e)
 
 step-form : (j : Job) (c : Call) → Form j → Form (step j c .job)

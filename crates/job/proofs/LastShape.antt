@@ -27,7 +27,7 @@ kept-shape s j (shape n checks) refusal =
     let (k, e) = refusal (n, checks, refl) in
     absurd (gives-no-refusal j (shape n checks) (ap (λ o. o .answer) (sym (step-gives j (shape n checks) p tt)) ∙ e)))
 kept-shape s j (encode f) refusal = refl
-kept-shape s j (locate f) refusal = refl
+kept-shape s j (locate words f) refusal = refl
 kept-shape s j (repair f) refusal = refl
 
 none-shapes : (s : Option Shape) (j : Job) (calls : List Call) → NoneShapes j calls → lastShapeFrom s calls ≡ s

@@ -4,11 +4,13 @@ pub mod Cases
 pub mod Demands
 pub mod Emptiness
 pub mod Forms
+pub mod GoingBack
 pub mod LastShape
 pub mod Left
 pub mod Locating
 pub mod Marked
 pub mod NoPart
+pub mod NothingDeclared
 pub mod OtherSums
 pub mod Reasons
 pub mod Refusals

@@ -1,26 +1,30 @@
--- Locating a well-formed frame of a job that has a shape. It is taken where the register is alone, reached by every row and names its columns; and where
--- it is alone and reached by every row, it is refused exactly when no legal frame lies at a distance of its length.
-use mathlib.Core.Path.{_≡_, refl, ap, sym, subst, subst⁻¹, _∙_}
-use mathlib.Core.Bool.{Bool, true, false, not, false≢true}
+-- Locating a well-formed frame, with declared cells, of a job that has a shape. It is taken where the register is alone, reached by what is left of every row,
+-- and names columns at which the rows can be completed; and where it is alone and reached, it is refused exactly when no legal frame lies at a distance of its
+-- length.
+use mathlib.Core.Path.{_≡_, refl, ap, ap₂, sym, subst, subst⁻¹, _∙_}
+use mathlib.Core.Bool.{Bool, true, false, not, _&&_, and-eq-true-iff, false≢true}
 use mathlib.Core.List.{List}
 use mathlib.Core.Logic.{_↔_}
 use Prim.Native.Nat.{ℕ, _≤_, _<_}
 use native.Mathlib.Omega.{arith}
 use borrow.Author.Tests.{le-leb}
-use Rattle.decoding.specs.Locating.{sizeOf, tapsOf, aloneOf, rowsReach, namesAll, namedColumns, repaired}
+use Rattle.decoding.specs.Locating.{sizeOf, tapsOf, aloneOf, namesAll, namedColumns}
+use Rattle.decoding.specs.Remaining.{allRemaining, sumsRead, readSequences, leftReach, completable, mended}
+use Rattle.decoding.proofs.MendedFrame.{Read, read-facts}
 use Rattle.decoding.proofs.SequenceRegister.{register-of, length-taps, same-size, alone-marked}
-use Rattle.decoding.proofs.SoleNearest.{legal-at-size, mended-legal, mended-distance, mended-differing}
-use Rattle.frame.specs.Frame.{WellFormed, sequences, heldSums, heldSequences, frameTests}
-use Rattle.frame.specs.Shape.{isShape, checksOf}
+use Rattle.decoding.proofs.SoleNearest.{rows-reach, legal-at-size, mended-legal, mended-distance, mended-differing}
+use Rattle.frame.specs.DeclaredCells.{Declared, declaredBy, checksLeft, asRead, readTests, WellFormedRead}
+use Rattle.frame.specs.Frame.{heldSums, heldSequences}
+use Rattle.frame.specs.Shape.{isShape}
 use Rattle.frame.specs.declared.Shape.{Shape}
+use Rattle.frame.proofs.Declarable.{read-passes, well-formed-read}
 use Rattle.frame.proofs.HeldSums.{held-sequences}
-use Rattle.frame.proofs.Reasons.{frame-passes, well-formed-passes}
 use Rattle.lists.proofs.Tabulated.{every-of}
 use Rattle.refusal.proofs.Orders.{Pass, pass-otherwise}
 use Rattle.register.specs.Register.{Shortest, Alone}
 use Rattle.job.specs.Calls.{locate, refused, refusing, describe, step, registerTests, locates}
 use Rattle.job.specs.Demands.{Found}
-use Rattle.job.specs.Job.{Job, isEmpty}
+use Rattle.job.specs.Job.{Job, isEmpty, lengthOf}
 use Rattle.job.specs.Refusals.{LegalAt}
 use Rattle.job.specs.Runs.{IsRefused}
 use Rattle.job.proofs.AfterRefusal.{never-columns}
@@ -29,81 +33,102 @@ use Rattle.job.proofs.Forms.{Locates, locatesFrame, has-shape, register
 use Rattle.job.proofs.Left.{sums-held, taps-held}
 use Rattle.job.proofs.Soundness.{marked-number}
 
-module _ (j : Job) (f : List ℕ) (not-empty : isEmpty j ≡ false) where
+module _ (j : Job) (words f : List ℕ) (not-empty : isEmpty j ≡ false) where
   abbrev s : Shape
   s = j .head .shape
+
+  abbrev D : Declared
+  D = declaredBy words
+
+  abbrev ss : List (List ℕ)
+  ss = readSequences s D f
+
+  -- what 26 tests
+  abbrev fitting : Bool
+  fitting = namesAll s (tapsOf ss) (sizeOf ss) && completable s D (namedColumns s (tapsOf ss)) (sumsRead s D f)
 
   t : isShape s ≡ true
   t = has-shape (j .head) not-empty
 
-  passes-register : Locates s f → Pass (registerTests s (sequences s f))
+  same-sums : heldSequences s (heldSums s (asRead s D f)) ≡ sumsRead s D f
+  same-sums = held-sequences s (asRead s D f)
+
+  passes-register : Locates s D f → Pass (registerTests s D (sumsRead s D f))
   unfolding registerTests
-  passes-register l = (ap not (l .alone), (ap not (l .reach), (ap not (l .names), tt)))
+  passes-register l = (ap not (l .alone), (ap not (l .reach), (ap not (ap₂ _&&_ (l .names) (l .fits)), tt)))
 
-  pub locate-takes : Locates s f → step j (locate f) ≡ locatesFrame s (j .arrays) f
+  pub locate-takes : Locates (j .head .shape) (declaredBy words) f → step j (locate words f) ≡ locatesFrame (j .head .shape) (j .arrays) words f
   locate-takes l =
-      step-gives j (locate f) (not-empty, well-formed-passes s f (l .well-formed))
-      (subst⁻¹ (λ ss. Pass (registerTests s ss)) (held-sequences s f) (passes-register l))
-      ∙ ap (λ ss. locates s (j .arrays) ss (heldSums s f) f) (held-sequences s f)
+      step-gives j (locate words f) (not-empty, well-formed-read s D f (l .well-formed))
+      (subst⁻¹ (λ S. Pass (registerTests s D S)) same-sums (passes-register l))
+      ∙ ap (λ S. locates s (j .arrays) words (allRemaining s D S) (heldSums s (asRead s D f)) f) same-sums
 
-  locate-refuses : WellFormed s f → aloneOf (sequences s f) ≡ true → rowsReach s (sizeOf (sequences s f)) ≡ true
-      → namesAll s (tapsOf (sequences s f)) (sizeOf (sequences s f)) ≡ false → step j (locate f) .answer ≡ refused 26
+  locate-refuses : WellFormedRead s D f → aloneOf ss ≡ true → leftReach s D (sizeOf ss) ≡ true → fitting ≡ false
+      → step j (locate words f) .answer ≡ refused 26
   unfolding step registerTests
   locate-refuses w a r n =
-      rw (pass-otherwise (refusing j f) _ (describe j (locate f) .keeping) (not-empty, well-formed-passes s f w), held-sequences s f) (rw (a, r, n) refl)
+      rw (pass-otherwise (refusing j f) _ (describe j (locate words f) .keeping) (not-empty, well-formed-read s D f w), same-sums) (rw (a, r, n) refl)
 
-  exact-at-size : WellFormed s f → aloneOf (sequences s f) ≡ true → rowsReach s (sizeOf (sequences s f)) ≡ true
-      → IsRefused (step j (locate f)) ↔ (LegalAt s f (sizeOf (sequences s f)) → ⊥)
-  exact-at-size w a r = pick (namesAll s (tapsOf (sequences s f)) (sizeOf (sequences s f))) refl
+  exact-at-size : WellFormedRead s D f → aloneOf ss ≡ true → leftReach s D (sizeOf ss) ≡ true
+      → IsRefused (step j (locate words f)) ↔ (LegalAt s D f (sizeOf ss) → ⊥)
+  exact-at-size w a r = pick fitting refl
     where
-      legal-there : (namesAll s (tapsOf (sequences s f)) (sizeOf (sequences s f)) ≡ true) ↔ LegalAt s f (sizeOf (sequences s f))
-      legal-there = legal-at-size s t f w a
+      both : (fitting ≡ true) ↔ ((namesAll s (tapsOf ss) (sizeOf ss) ≡ true) × (completable s D (namedColumns s (tapsOf ss)) (sumsRead s D f) ≡ true))
+      both = and-eq-true-iff (namesAll s (tapsOf ss) (sizeOf ss)) (completable s D (namedColumns s (tapsOf ss)) (sumsRead s D f))
 
-      pick : (b : Bool) → namesAll s (tapsOf (sequences s f)) (sizeOf (sequences s f)) ≡ b
-          → IsRefused (step j (locate f)) ↔ (LegalAt s f (sizeOf (sequences s f)) → ⊥)
+      legal-there : (fitting ≡ true) ↔ LegalAt s D f (sizeOf ss)
+      legal-there =
+          let exact = legal-at-size s t D f (read-facts s t D f w) a in (λ e. exact .0 (both .0 e), λ l. both .1 (exact .1 l))
+
+      pick : (b : Bool) → fitting ≡ b → IsRefused (step j (locate words f)) ↔ (LegalAt s D f (sizeOf ss) → ⊥)
       pick true n =
-          let taken = locate-takes (record { well-formed = w; alone = a; reach = r; names = n }) in (
+          let (names, fits) = both .0 n in
+          let taken = locate-takes (record { well-formed = w; alone = a; reach = r; names = names; fits = fits }) in (
             λ (k, refusal). absurd (never-columns (sym (ap (λ o. o .answer) taken) ∙ refusal)),
             λ none. absurd (none (legal-there .0 n)),
           )
       pick false n = (λ refusal l. false≢true (sym n ∙ legal-there .1 l), λ none. (26, locate-refuses w a r n))
 
-  pub exact-at : (c : ℕ) (σ : List ℕ) → WellFormed s f → Shortest 257 c (sequences s f) σ → Alone 257 c (sequences s f) σ
-      → ((h : ℕ) → h < s .rows → c ≤ checksOf s h) → IsRefused (step j (locate f)) ↔ (LegalAt s f c → ⊥)
-  unfolding rowsReach
+  pub exact-at : (c : ℕ) (σ : List ℕ) → WellFormedRead (j .head .shape) (declaredBy words) f
+      → Shortest 257 c (readSequences (j .head .shape) (declaredBy words) f) σ → Alone 257 c (readSequences (j .head .shape) (declaredBy words) f) σ
+      → ((h : ℕ) → h < j .head .shape .rows → c ≤ checksLeft (j .head .shape) (declaredBy words) h)
+      → IsRefused (step j (locate words f)) ↔ (LegalAt (j .head .shape) (declaredBy words) f c → ⊥)
+  unfolding leftReach
   exact-at c σ w shortest alone checks =
-      let q : c ≡ sizeOf (sequences s f) = same-size (sequences s f) c σ shortest in
-      subst (λ (l : ℕ). IsRefused (step j (locate f)) ↔ (LegalAt s f l → ⊥)) (sym q)
-      (exact-at-size w (alone-marked (sequences s f) c σ shortest alone)
-      (every-of (s .rows) _ (λ h l. le-leb (sizeOf (sequences s f)) (checksOf s h) (omega (arith, checks h l)))))
+      let q : c ≡ sizeOf ss = same-size ss c σ shortest in
+      subst (λ (l : ℕ). IsRefused (step j (locate words f)) ↔ (LegalAt s D f l → ⊥)) (sym q)
+      (exact-at-size w (alone-marked ss c σ shortest alone)
+      (every-of (s .rows) _ (λ h l. le-leb (sizeOf ss) (checksLeft s D h) (omega (arith, checks h l)))))
 
   -- what is found
-  located-found : Locates s f → Found s f (sizeOf (sequences s f)) (locatesFrame s (j .arrays) f)
+  located-found : Locates s D f → Found s words f (sizeOf ss) (locatesFrame s (j .arrays) words f)
   located-found l =
-      let r = register-of (sequences s f) in
+      let r = register-of ss in
+      let read : Read s D f = read-facts s t D f (l .well-formed) in
       record {
-        taps = tapsOf (sequences s f);
+        taps = tapsOf ss;
         shortest = r .shortest;
         alone = r .alone (l .alone);
         legal-at = (
-          repaired s (namedColumns s (tapsOf (sequences s f))) f,
-          mended-legal s t f (l .well-formed) (l .names),
-          mended-distance s t f (l .well-formed) (l .names),
-          sym (mended-differing s t f (l .well-formed) (l .names)),
+          mended s D (namedColumns s (tapsOf ss)) f,
+          mended-legal s t D f read (l .names) (l .fits),
+          mended-distance s t D f read (l .names) (l .fits),
+          sym (mended-differing s t D f read (l .names) (l .fits)),
         );
-        number = marked-number s f t l;
+        number = marked-number s D f t l;
         frame = refl;
         job = record {
           phase = refl;
           shape = refl;
           columns = refl;
-          sums = sums-held s f t;
-          taps = taps-held s (sizeOf (sequences s f)) (tapsOf (sequences s f)) t (l .reach) (length-taps (sequences s f));
+          sums = sums-held s (asRead s D f) t;
+          taps = taps-held s (sizeOf ss) (tapsOf ss) t (rows-reach s D (sizeOf ss) (l .reach)) (length-taps ss);
+          declared = refl;
         };
       }
 
-  pub found : Pass (frameTests s f) → Pass (describe j (locate f) .shaping)
-      → Found s f (sizeOf (heldSequences s (heldSums s f))) (describe j (locate f) .gives)
+  pub found : Pass (readTests (j .head .shape) (declaredBy words) f) → Pass (describe j (locate words f) .shaping)
+      → Found (j .head .shape) words f (lengthOf (describe j (locate words f) .gives .job .head .phase)) (describe j (locate words f) .gives)
   found early late =
-      subst⁻¹ (λ ss. Found s f (sizeOf ss) (locates s (j .arrays) ss (heldSums s f) f)) (held-sequences s f)
-      (located-found (register-passes s f (frame-passes s f early) late))
+      subst⁻¹ (λ S. Found s words f (sizeOf (allRemaining s D S)) (locates s (j .arrays) words (allRemaining s D S) (heldSums s (asRead s D f)) f)) same-sums
+      (located-found (register-passes s D f (read-passes s D f early) late))

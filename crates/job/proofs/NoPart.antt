@@ -1,15 +1,16 @@
 -- What an array holds that the phase does not speak for plays no part in any answer.
 use mathlib.Core.Path.{_≡_, refl, sym, ap, ap₂, subst, _∙_}
-use mathlib.Core.Bool.{Bool, true, false, not, false≢true}
+use mathlib.Core.Bool.{Bool, true, false, not, _&&_, false≢true}
 use mathlib.Core.List.{List, [], _∷_}
 use Prim.Native.Nat.{ℕ}
+use Rattle.frame.specs.DeclaredCells.{declaredBy}
 use Rattle.frame.specs.Shape.{shapeOf, shapeTests}
 use Rattle.frame.specs.declared.Shape.{Shape}
 use Rattle.refusal.specs.Order.{Test, firstOf}
 use Rattle.refusal.proofs.Orders.{Pass}
-use Rattle.job.specs.Calls.{Call, shape, encode, locate, repair, Outcome, Described, refusing, reshaped, describe, step}
+use Rattle.job.specs.Calls.{Call, shape, encode, locate, repair, Outcome, Described, refusing, reshaped, notLocatedTest, describe, step}
 use Rattle.job.specs.Demands.{Alike, SameOutcome, ArraysPlayNoPart}
-use Rattle.job.specs.Job.{Arrays, Job, beside, isLocatedPhase, shapedJob}
+use Rattle.job.specs.Job.{Arrays, Job, beside, isLocatedPhase, lengthOf, declaredSound, shapedJob}
 use Rattle.job.specs.declared.Head.{Head}
 
 -- ---- two orders that are the same up to a test that fails
@@ -40,12 +41,12 @@ module _ (R : Outcome → Outcome → Type 0) (p q : ℕ → Outcome) (refusals 
 
 -- ---- one head that is not located beside two arrays
 
--- calls that are lent the same, are refused by the same tests and give the same
+-- calls that are lent the same, are refused by the same tests, and give the same where they are not refused early
 record SameCall (d e : Described) : Type 0 where
   lent : d .lent ≡ e .lent
   keeping : Agree (d .keeping) (e .keeping)
   shaping : Agree (d .shaping) (e .shaping)
-  gives : SameOutcome (d .gives) (e .gives)
+  gives : Pass (d .keeping) → SameOutcome (d .gives) (e .gives)
 
 module _ (h : Head) (a b : Arrays) (none : isLocatedPhase (h .phase) ≡ false) where
   abbrev i : Job
@@ -60,31 +61,43 @@ module _ (h : Head) (a b : Arrays) (none : isLocatedPhase (h .phase) ≡ false) 
   shaped-alike : (s : Shape) → Alike (shapedJob s a) (shapedJob s b)
   shaped-alike s = (refl, λ l. absurd (false≢true l))
 
-  -- of the tests only repair's comparison of the sums reads an array, and the refusal 22 comes before it
+  -- the refusal 22 falls whatever cells the arrays declare
+  unlocated : Test
+  unlocated = record { number = 22; fails = true }
+
+  not-located : (c : Arrays) → notLocatedTest (beside h c) ≡ unlocated
+  unfolding unlocated
+  not-located c = ap (λ b. record { number = 22; fails = not (b && declaredSound (h .shape) (declaredBy (c .declared)) (lengthOf (h .phase))) }) none
+
+  located-fails : notLocatedTest i .fails ≡ false → ⊥
+  unfolding unlocated
+  located-fails l = false≢true (sym l ∙ ap (λ (t : Test). t .fails) (not-located a))
+
+  -- of the calls only repair reads an array, and the refusal 22 comes before it does
   same-call : (c : Call) → SameCall (describe i c) (describe j c)
   same-call (shape n checks) = record {
     lent = refl;
     keeping = same-tests (shapeTests n checks);
     shaping = tt;
-    gives = record { answer = refl; marks = refl; frame = refl; job = shaped-alike (shapeOf n checks) };
+    gives = λ p. record { answer = refl; marks = refl; frame = refl; job = shaped-alike (shapeOf n checks) };
   }
   same-call (encode f) = record {
     lent = refl;
     keeping = same-tests (describe i (encode f) .keeping);
     shaping = tt;
-    gives = record { answer = refl; marks = refl; frame = refl; job = kept };
+    gives = λ p. record { answer = refl; marks = refl; frame = refl; job = kept };
   }
-  same-call (locate f) = record {
+  same-call (locate words f) = record {
     lent = refl;
-    keeping = same-tests (describe i (locate f) .keeping);
-    shaping = same-tests (describe i (locate f) .shaping);
-    gives = record { answer = refl; marks = refl; frame = refl; job = (refl, λ l. refl) };
+    keeping = same-tests (describe i (locate words f) .keeping);
+    shaping = same-tests (describe i (locate words f) .shaping);
+    gives = λ p. record { answer = refl; marks = refl; frame = refl; job = (refl, λ l. refl) };
   }
   same-call (repair f) = record {
     lent = refl;
-    keeping = (refl, λ e. (refl, λ l. absurd (false≢true (sym l ∙ ap not none))));
+    keeping = (refl, λ e. (not-located a ∙ sym (not-located b), λ l. absurd (located-fails l)));
     shaping = tt;
-    gives = record { answer = refl; marks = refl; frame = refl; job = shaped-alike (h .shape) };
+    gives = λ (e, (l, p)). absurd (located-fails l);
   }
 
   refused-same : (i j : Job) → Alike i j → (f g : List ℕ) → f ≡ g → (k : ℕ) → SameOutcome (refusing i f k) (refusing j g k)
@@ -96,7 +109,7 @@ module _ (h : Head) (a b : Arrays) (none : isLocatedPhase (h .phase) ≡ false) 
       let s : SameCall (describe i c) (describe j c) = same-call c in
       related SameOutcome _ _ (refused-same i j kept _ _ (s .lent)) _ _ (describe i c .keeping) (describe j c .keeping) (s .keeping) (λ p.
       related SameOutcome _ _ (refused-same (reshaped i) (reshaped j) (shaped-alike (h .shape)) _ _ (s .lent)) _ _ (describe i c .shaping)
-      (describe j c .shaping) (s .shaping) (λ q. s .gives))
+      (describe j c .shaping) (s .shaping) (λ q. s .gives p))
 
 -- ---- any two jobs that are alike
 

@@ -1,4 +1,5 @@
--- Every job that calls leave is sound, holds the shape of the last shape call that is not refused, and no marks where it is not located.
+-- Every job that calls leave is sound, holds the shape of the last shape call that is not refused, and no marks where it is not located; and one that is
+-- located holds cells that can be declared, with as many checks left in each row as its register is long.
 use mathlib.Core.Path.{_≡_, refl, sym, ap, ap₂, _∙_}
 use mathlib.Core.Bool.{Bool, true, false, not, _&&_, _||_, or-true, false≢true}
 use mathlib.Core.List.{List, [], _∷_}
@@ -10,22 +11,25 @@ use lib.ListN.{length}
 use borrow.Author.Tests.{eq-eqb}
 use Rattle.columns.specs.Columns.{has, members}
 use Rattle.decoding.specs.Locating.{sizeOf, tapsOf, named, namedColumns}
-use Rattle.decoding.proofs.NamedColumns.{has-named, size-named}
-use Rattle.decoding.proofs.SoleNearest.{names-count}
-use Rattle.frame.specs.Frame.{sequences}
+use Rattle.decoding.specs.Remaining.{readSequences}
+use Rattle.decoding.proofs.NamedColumns.{names-all, has-named, size-named}
+use Rattle.decoding.proofs.SequenceRegister.{generator-of}
+use Rattle.decoding.proofs.SoleNearest.{rows-reach}
+use Rattle.frame.specs.DeclaredCells.{Declared, declaredBy}
 use Rattle.frame.specs.Shape.{isShape, shapeTests}
 use Rattle.frame.specs.declared.Shape.{Shape}
+use Rattle.frame.proofs.Declarable.{well-formed-declarable}
 use Rattle.lists.proofs.Tabulated.{every-of}
 use Rattle.refusal.proofs.Orders.{Among, Pass, firstOf-map}
 use Rattle.job.specs.Calls.{Call, shape, encode, locate, repair, refusing, describe, step, shapes}
 use Rattle.job.specs.Demands.{heldShape, Reached}
 use Rattle.job.specs.Job.{Arrays, Job, emptyJob, noColumns, sound, headSound, phaseSound, findingsSound}
-use Rattle.job.specs.Job.{isEmpty, isEmptyPhase, isLocatedPhase, countsEmpty}
+use Rattle.job.specs.Job.{isEmpty, isEmptyPhase, isLocatedPhase, isLocated, declaredSound, countsEmpty}
 use Rattle.job.specs.Runs.{run, runFrom, shapeAfter, lastShape, lastShapeFrom}
 use Rattle.job.specs.declared.Phase.the-variants.{Empty, Shaped, Located}
 use Rattle.job.specs.declared.Phase.{Phase}
 use Rattle.job.proofs.Cases.{by-call}
-use Rattle.job.proofs.Forms.{Locates, Form, empty, shaped, located, run-form}
+use Rattle.job.proofs.Forms.{Locates, locatedFrame, Form, empty, shaped, located, run-form}
 
 -- ---- the shape
 
@@ -52,7 +56,7 @@ shape-step : (j : Job) (c : Call) → shapeHeld (step j c .job) ≡ shapeAfter (
 unfolding step
 shape-step j (shape n checks) = firstOf-map (λ o. shapeHeld (o .job)) (refusing j []) (shapeTests n checks) (shapes (j .arrays) n checks)
 shape-step j (encode f) = kept-shape j (encode f) (λ k p a. absurd a) (λ p. refl)
-shape-step j (locate f) = kept-shape j (locate f) (λ k p a. p .0) (λ p. sym (not-empty-held j (p .0)))
+shape-step j (locate words f) = kept-shape j (locate words f) (λ k p a. p .0) (λ p. sym (not-empty-held j (p .0)))
 shape-step j (repair f) = kept-shape j (repair f) (λ k p a. absurd a) (λ p. sym (not-empty-held j (p .0)))
 
 run-shape : (j : Job) (calls : List Call) → shapeHeld (runFrom j calls) ≡ lastShapeFrom (shapeHeld j) calls
@@ -68,7 +72,7 @@ holds-last-shape a calls = run-shape (emptyJob a) calls
 unmarked : (j : Job) → Form j → isLocatedPhase (j .head .phase) ≡ false → j .head .columns ≡ noColumns
 unmarked _ (empty a) e = refl
 unmarked _ (shaped s a t) e = refl
-unmarked _ (located s a f t l) e = absurd (false≢true (sym e))
+unmarked _ (located s a words f t l) e = absurd (false≢true (sym e))
 
 -- ---- soundness
 
@@ -82,22 +86,30 @@ marked-inside s σ i h = rw (has-named s σ i h) (inside (ltb i (s .columns)) _)
     inside false b = refl
 
 -- as many columns are marked as the register is long
-pub marked-number : (s : Shape) (f : List ℕ) → isShape s ≡ true → Locates s f
-    → length (members (namedColumns s (tapsOf (sequences s f)))) ≡ sizeOf (sequences s f)
-marked-number s f t l = size-named s (tapsOf (sequences s f)) t ∙ names-count s t f (l .well-formed) (l .names)
+module _ (s : Shape) (D : Declared) (f : List ℕ) (t : isShape s ≡ true) (l : Locates s D f) where
+  abbrev ss : List (List ℕ)
+  ss = readSequences s D f
 
-located-sound : (s : Shape) (f : List ℕ) → isShape s ≡ true → Locates s f
-    → findingsSound s (namedColumns s (tapsOf (sequences s f))) (sizeOf (sequences s f)) true ≡ true
-unfolding findingsSound
-located-sound s f t l =
-    ap₂ _&&_ (every-of 256 _ (marked-inside s (tapsOf (sequences s f))))
-    (ap₂ _&&_ (eq-eqb _ _ (marked-number s f t l)) (l .reach))
+  pub marked-number : length (members (namedColumns s (tapsOf (readSequences s D f)))) ≡ sizeOf (readSequences s D f)
+  marked-number =
+      size-named s (tapsOf ss) t ∙ names-all s (sizeOf ss) (tapsOf ss) (generator-of ss .register) t .0 (l .names)
+
+  found-sound : findingsSound s (namedColumns s (tapsOf (readSequences s D f))) (sizeOf (readSequences s D f)) true ≡ true
+  unfolding findingsSound
+  found-sound =
+      ap₂ _&&_ (every-of 256 _ (marked-inside s (tapsOf ss)))
+      (ap₂ _&&_ (eq-eqb _ _ marked-number) (rows-reach s D (sizeOf ss) (l .reach)))
+
+-- a frame that was located leaves the job located
+pub frame-located : (s : Shape) (a : Arrays) (words f : List ℕ) → Locates s (declaredBy words) f → isLocated (locatedFrame s a words f) ≡ true
+unfolding declaredSound
+frame-located s a words f l = ap₂ _&&_ (well-formed-declarable s (declaredBy words) f (l .well-formed)) (l .reach)
 
 pub form-sound : (j : Job) → Form j → sound j ≡ true
 unfolding headSound phaseSound
 form-sound _ (empty a) = refl
 form-sound _ (shaped s a t) = t
-form-sound _ (located s a f t l) = ap₂ _&&_ t (located-sound s f t l)
+form-sound _ (located s a words f t l) = ap₂ _&&_ t (found-sound s (declaredBy words) f t l)
 
 pub reached : (a : Arrays) (calls : List Call) → Reached a calls
 reached a calls = record {

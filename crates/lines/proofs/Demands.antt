@@ -17,14 +17,17 @@ use Rattle.record.specs.Line.{refusalLine, registerLine, columnsLine, frameLine
 use Rattle.record.specs.Record.{bad, recordOf, sequences, frame}
 use Rattle.record.proofs.Parsing.{bad-line}
 use Rattle.reader.specs.Fields.{fieldOf}
-use Rattle.frame.specs.Demands.{shapeReasons, frameReasons}
-use Rattle.frame.specs.Frame.{heldSums, heldSequences, frameTests}
+use Rattle.frame.specs.DeclaredCells.{Declared, declaredBy, asRead, readTests, readReasons}
+use Rattle.frame.specs.Demands.{shapeReasons}
+use Rattle.frame.specs.Frame.{heldSums, heldSequences}
 use Rattle.frame.specs.Shape.{isShape, shapeOf, shapeTests}
 use Rattle.frame.specs.declared.Shape.{Shape}
-use Rattle.frame.proofs.Reasons.{shape-says, frame-says, shape-passes}
+use Rattle.frame.proofs.Declarable.{read-says}
+use Rattle.frame.proofs.Reasons.{shape-says, shape-passes}
 use Rattle.job.specs.Calls as Calls
 use Rattle.job.specs.Calls.{Outcome, shape, locate, step, shapes, registerTests}
 use Rattle.job.specs.Job.{Job, emptyJob, shapedJob, noArrays, headSound, phaseSound}
+use Rattle.job.specs.NothingDeclared.{noWords}
 use Rattle.job.specs.Refusals.{emptyReason, registerReasons}
 use Rattle.job.proofs.Cases.{by-call}
 use Rattle.job.proofs.Reasons.{shaping-says}
@@ -142,12 +145,15 @@ module _ (n : ℕ) (checks f text : List ℕ) (output : text ≡ outputOf (frame
   abbrev j : Job
   j = shapedJob s noArrays
 
-  abbrev whyLocate : List Reason
-  whyLocate = frameReasons s f ++ registerReasons s f
+  abbrev D : Declared
+  D = declaredBy noWords
 
-  by-outcome : (o : Outcome) → step start (shape n checks) ≡ o → text ≡ frameLine (o .answer) o (step (o .job) (locate f))
+  abbrev whyLocate : List Reason
+  whyLocate = readReasons s D f ++ registerReasons s D f
+
+  by-outcome : (o : Outcome) → step start (shape n checks) ≡ o → text ≡ frameLine (o .answer) o (step (o .job) (locate noWords f))
   unfolding outputOf
-  by-outcome o e = output ∙ ap (λ (x : Outcome). frameLine (x .answer) x (step (x .job) (locate f))) e
+  by-outcome o e = output ∙ ap (λ (x : Outcome). frameLine (x .answer) x (step (x .job) (locate noWords f))) e
 
   shape-refused : (k : ℕ) (i : Job) → step start (shape n checks) ≡ Calls.refusing i [] k → text ≡ refusalLine k
   unfolding frameLine
@@ -155,11 +161,11 @@ module _ (n : ℕ) (checks f text : List ℕ) (output : text ≡ outputOf (frame
 
   -- the job has its shape
   module _ (given : step start (shape n checks) ≡ shapes noArrays n checks) (t : isShape s ≡ true) where
-    by-located : (o : Outcome) → step j (locate f) ≡ o → text ≡ columnsLine (o .answer) (o .marks)
+    by-located : (o : Outcome) → step j (locate noWords f) ≡ o → text ≡ columnsLine (o .answer) (o .marks)
     unfolding frameLine
     by-located o e = by-outcome (shapes noArrays n checks) given ∙ ap (λ (x : Outcome). columnsLine (x .answer) (x .marks)) e
 
-    locate-refused : (k : ℕ) (i : Job) → step j (locate f) ≡ Calls.refusing i f k → text ≡ refusalLine k
+    locate-refused : (k : ℕ) (i : Job) → step j (locate noWords f) ≡ Calls.refusing i f k → text ≡ refusalLine k
     unfolding columnsLine
     locate-refused k i e = by-located (Calls.refusing i f k) e
 
@@ -168,14 +174,14 @@ module _ (n : ℕ) (checks f text : List ℕ) (output : text ≡ outputOf (frame
     not-empty (inl e) = let z : _≡_ {A = ℕ} 0 1 = cc in omega arith
     not-empty (inr e) = false≢true (sym e ∙ t)
 
-    first-of : (k : ℕ) → step j (locate f) .answer ≡ Calls.refused k → First k whyLocate
-    first-of k e = past (Refusals.demand-1 .exact j (locate f) k .0 e)
+    first-of : (k : ℕ) → step j (locate noWords f) .answer ≡ Calls.refused k → First k whyLocate
+    first-of k e = past (Refusals.demand-1 .exact j (locate noWords f) k .0 e)
       where
         past : First k (emptyReason j ∷ whyLocate) → First k whyLocate
         past (inl (h, d)) = absurd (not-empty h)
         past (inr (l, g)) = g
 
-    columns-shown : (o : Outcome) (c : ℕ) → step j (locate f) ≡ o → o .answer ≡ Calls.columns c → ShowsColumns n checks f text
+    columns-shown : (o : Outcome) (c : ℕ) → step j (locate noWords f) ≡ o → o .answer ≡ Calls.columns c → ShowsColumns n checks f text
     unfolding columnsLine
     columns-shown o c e a =
         record {
@@ -184,17 +190,18 @@ module _ (n : ℕ) (checks f text : List ℕ) (output : text ≡ outputOf (frame
           located = o;
           written = by-located o e ∙ ap (λ (x : Calls.Answer). columnsLine x (o .marks)) a;
           shape-done = (refl, ap (λ (x : Outcome). x .answer) given);
-          answered = (sym e ∙ ap (λ (x : Outcome). step (x .job) (locate f)) (sym given), a);
+          answered = (sym e ∙ ap (λ (x : Outcome). step (x .job) (locate noWords f)) (sym given), a);
         }
 
     located-either : Either whyLocate text (ShowsColumns n checks f text)
     located-either =
-        by-call j (locate f) (λ o. step j (locate f) ≡ o → Either whyLocate text (ShowsColumns n checks f text))
+        by-call j (locate noWords f) (λ o. step j (locate noWords f) ≡ o → Either whyLocate text (ShowsColumns n checks f text))
         (λ k _ e. inl (k, first-of k (ap (λ (o : Outcome). o .answer) e), locate-refused k j e))
         (λ k _ _ e. inl (k, first-of k (ap (λ (o : Outcome). o .answer) e), locate-refused k (Calls.reshaped j) e))
         (λ kept passed e. inr (
-          none-append (frameReasons s f) (registerReasons s f) (pass-none (frameTests s f) (frameReasons s f) (frame-says s f) (kept .1))
-              (none-in-turn (registerTests s (heldSequences s (heldSums s f))) (registerReasons s f) (shaping-says j (locate f) kept) passed),
+          none-append (readReasons s D f) (registerReasons s D f) (pass-none (readTests s D f) (readReasons s D f) (read-says s D f) (kept .1))
+              (none-in-turn (registerTests s D (heldSequences s (heldSums s (asRead s D f)))) (registerReasons s D f)
+              (shaping-says j (locate noWords f) kept) passed),
           columns-shown _ _ e refl,
         ))
         refl

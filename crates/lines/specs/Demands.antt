@@ -9,11 +9,13 @@ use lib.ListN.{length, take}
 use Rattle.columns.specs.Columns.{members}
 use Rattle.finder.specs.Demands as Finder
 use Rattle.finder.specs.Finder.{register, answer, tapsLeft}
-use Rattle.frame.specs.Demands.{shapeReasons, frameReasons}
+use Rattle.frame.specs.DeclaredCells.{declaredBy, readReasons}
+use Rattle.frame.specs.Demands.{shapeReasons}
 use Rattle.frame.specs.Shape.{shapeOf}
 use Rattle.frame.specs.declared.Shape.{Shape}
 use Rattle.job.specs.Calls.{Outcome, shape, locate, done, columns, step}
 use Rattle.job.specs.Job.{emptyJob, noArrays}
+use Rattle.job.specs.NothingDeclared.{noWords}
 use Rattle.job.specs.Refusals.{registerReasons}
 use Rattle.lists.specs.Tabulate.{tabulate}
 use Rattle.reader.specs.Fields.{fieldOf}
@@ -98,12 +100,13 @@ checkCountsOf r = fieldsFrom r 4 (fieldOf r 2)
 abbrev pub frameSymbols : List ℕ → List ℕ
 frameSymbols r = symbolsAfter r (fieldOf r 2)
 
--- 9, then the refusals of shape, 2, 5, 6, then those of locate on the shaped job, 7, 4, 24, 25, 26: it is not empty, so that 21 cannot be
+-- 9, then the refusals of shape, 2, 5, 6, then those of locate on the shaped job, 7, 4, 24, 25, 26: it is not empty, so that 21 cannot be, and nothing is
+-- declared, so that 31 cannot be
 abbrev pub frameReasonsOf : List ℕ → List Reason
 frameReasonsOf r =
     let s : Shape = shapeOf (fieldOf r 3) (checkCountsOf r) in
     let f : List ℕ = frameSymbols r in
-    badReason r ∷ (shapeReasons (fieldOf r 3) (checkCountsOf r) ++ (frameReasons s f ++ registerReasons s f))
+    badReason r ∷ (shapeReasons (fieldOf r 3) (checkCountsOf r) ++ (readReasons s (declaredBy noWords) f ++ registerReasons s (declaredBy noWords) f))
 
 -- the text is `F`, the number of columns and the columns, rising, of what locate answers on an empty job that was given its shape
 pub record ShowsColumns (n : ℕ) (checks symbols text : List ℕ) : Type 0 where
@@ -112,7 +115,7 @@ pub record ShowsColumns (n : ℕ) (checks symbols text : List ℕ) : Type 0 wher
   pub located : Outcome
   pub written : text ≡ line 70 (count ∷ members (located .marks))
   pub shape-done : (shaped ≡ step (emptyJob noArrays) (shape n checks)) × (shaped .answer ≡ done)
-  pub answered : (located ≡ step (shaped .job) (locate symbols)) × (located .answer ≡ columns count)
+  pub answered : (located ≡ step (shaped .job) (locate noWords symbols)) × (located .answer ≡ columns count)
 
 -- ---- the line
 

@@ -7,7 +7,9 @@ use native.Mathlib.Omega.{arith}
 use lib.ListN.{length, getD, take, drop, replicate, length-append}
 use lib.Seq.{take-at, drop-at}
 use Rattle.lists.proofs.Tabulated.{tabulate-zero, tabulate-suc}
+use Rattle.lists.proofs.Totals.{total-zero, total-suc}
 use Rattle.lists.specs.Tabulate.{tabulate, joined}
+use Rattle.lists.specs.Total.{total}
 
 module _ {ℓ} {A : Type ℓ} where
   pub joined-zero : (f : ℕ → List A) → joined (tabulate 0 f) ≡ []
@@ -59,6 +61,14 @@ module _ {ℓ} {A : Type ℓ} where
       let l = short 0 (omega arith) in
       let ih = length-joined b n (λ h. f (suc h)) (λ h p. short (suc h) (omega arith)) in
       omega arith
+
+  pub length-joined-total : (size : ℕ → ℕ) (n : ℕ) (f : ℕ → List A) → ((h : ℕ) → h < n → length (f h) ≡ size h)
+      → length (joined (tabulate n f)) ≡ total n size
+  length-joined-total size zero f each = ap length (joined-zero f) ∙ sym (total-zero size)
+  length-joined-total size (suc n) f each =
+      let e = ap length (joined-more n f) ∙ length-append (joined (tabulate n f)) (f n) in
+      let ih = length-joined-total size n f (λ h l. each h (omega arith)) in
+      omega (arith, each n (omega arith), total-suc n size)
 
   module _ (P : A → Type ℓ) (d : A) where
     pub append-each : (xs ys : List A) → ((i : ℕ) → P (getD xs i d)) → ((i : ℕ) → P (getD ys i d)) → (i : ℕ) → P (getD (xs ++ ys) i d)

@@ -1,7 +1,10 @@
+pub mod Appending
 pub mod BlockSums
+pub mod Copying
 pub mod DataCells
 pub mod Entries
 pub mod Filling
+pub mod Fours
 pub mod Joined
 pub mod Mapped
 pub mod Moving
@@ -11,4 +14,5 @@ pub mod Summing
 pub mod Tabulated
 pub mod Testing
 pub mod Totals
+pub mod Truth
 pub mod Zeros

@@ -8,18 +8,21 @@ use lib.ListN.{length}
 use Rattle.columns.specs.Columns.{number as bits, has, columnsOf, members}
 use Rattle.columns.specs.Listed.{listed}
 use Rattle.columns.specs.declared.Columns.{Columns}
-use Rattle.frame.specs.Frame.{sequences, heldSums}
+use Rattle.frame.specs.DeclaredCells.{Declared, declaredBy, asRead}
+use Rattle.frame.specs.Frame.{heldSums}
 use Rattle.frame.specs.Shape.{isShape}
 use Rattle.frame.specs.declared.Shape.{Shape}
 use Rattle.frame.proofs.HeldSums.{held-sequences}
-use Rattle.frame.proofs.Reasons.{frame-passes}
+use Rattle.frame.proofs.Declarable.{read-passes}
 use Rattle.frame.proofs.Shapes.{shape-ranges}
-use Rattle.decoding.specs.Locating.{sizeOf, rowsReach}
-use Rattle.decoding.proofs.SoleNearest.{reach}
+use Rattle.decoding.specs.Locating.{sizeOf}
+use Rattle.decoding.specs.Remaining.{allRemaining, readSequences, leftReach}
+use Rattle.decoding.proofs.SoleNearest.{left-reach}
 use Rattle.job.specs.Answers.{replyAnswer, checkedAnswer, shapeOutcome, answeredOutcome}
 use Rattle.job.specs.Calls as Calls
 use Rattle.job.specs.Calls.{Answer, Outcome, locates, step, shape, locate}
 use Rattle.job.specs.Job.{Arrays, Job, beside, emptyHead, noArrays, noColumns}
+use Rattle.job.specs.NothingDeclared.{noWords}
 use Rattle.job.specs.declared.Answered.{Answered}
 use Rattle.job.specs.declared.Head.{Head}
 use Rattle.job.specs.declared.Reply.{Reply}
@@ -50,30 +53,32 @@ none-marked : length (members noColumns) ≡ 0
 unfolding noColumns columnsOf bits has listed
 none-marked = refl
 
-few-located : (j : Job) (f : List ℕ) → Few (step j (locate f))
-few-located j f =
+few-located : (j : Job) (words f : List ℕ) → Few (step j (locate words f))
+few-located j words f =
     let none = none-marked in
-    by-call j (locate f) Few (λ k a. (omega arith, omega arith)) (λ k p a. (omega arith, omega arith)) (λ (e, p) q.
+    by-call j (locate words f) Few (λ k a. (omega arith, omega arith)) (λ k p a. (omega arith, omega arith)) (λ (e, p) q.
     let s = j .head .shape in
+    let D = declaredBy words in
     let t : isShape s ≡ true = has-shape (j .head) e in
-    let l : Locates s f = register-passes s f (frame-passes s f p) q in
-    let few : sizeOf (sequences s f) ≤ 64 = at-most s (sizeOf (sequences s f)) t (l .reach) in
-    subst⁻¹ (λ ss. Few (locates s (j .arrays) ss (heldSums s f) f)) (held-sequences s f) (few, omega (arith, marked-number s f t l)))
+    let l : Locates s D f = register-passes s D f (read-passes s D f p) q in
+    let few : sizeOf (readSequences s D f) ≤ 64 = at-most s D (sizeOf (readSequences s D f)) t (l .reach) in
+    subst⁻¹ (λ S. Few (locates s (j .arrays) words (allRemaining s D S) (heldSums s (asRead s D f)) f)) (held-sequences s (asRead s D f))
+    (few, omega (arith, marked-number s D f t l)))
   where
-    at-most : (s : Shape) (c : ℕ) → isShape s ≡ true → rowsReach s c ≡ true → c ≤ 64
-    at-most s c t r =
+    at-most : (s : Shape) (D : Declared) (c : ℕ) → isShape s ≡ true → leftReach s D c ≡ true → c ≤ 64
+    at-most s D c t r =
         let ranges = shape-ranges s t in
         let first : 0 < s .rows = omega (arith, ranges .rows-least) in
-        omega (arith, reach s c r 0 first, ranges .checks 0 first .most)
+        omega (arith, left-reach s D c r 0 first, ranges .checks 0 first .most)
 
 reply-count : (r : Reply) → counted (replyAnswer r) ≡ columnCount r
 reply-count (Count c) = refl
 reply-count (Refused k) = refl
 
-pub few-marks : (j : Job) (b : Arrays) (f : List ℕ) (a : Answered) → answeredOutcome a b f ≡ step j (locate f)
+pub few-marks : (j : Job) (b : Arrays) (words f : List ℕ) (a : Answered) → answeredOutcome a b f ≡ step j (locate words f)
     → (columnCount (a .reply) ≤ 64) × (length (members (a .columns)) ≤ 64)
-few-marks j b f a e =
-    let few : Few (answeredOutcome a b f) = subst Few (sym e) (few-located j f) in
+few-marks j b words f a e =
+    let few : Few (answeredOutcome a b f) = subst Few (sym e) (few-located j words f) in
     (omega (arith, few .0, reply-count (a .reply)), few .1)
 
 -- ---- the line, by what is returned
@@ -96,20 +101,20 @@ module _ (n : ℕ) (checks symbols : List ℕ) (h : Head) (start : h ≡ emptyHe
   abbrev after : Outcome
   after = shapeOutcome shaped noArrays
 
-  by-outcome : frameLine (checkedAnswer (shaped .checked)) after (step (after .job) (locate symbols)) ≡ outputOf (frame n checks symbols)
+  by-outcome : frameLine (checkedAnswer (shaped .checked)) after (step (after .job) (locate noWords symbols)) ≡ outputOf (frame n checks symbols)
   unfolding outputOf
   by-outcome =
-      ap (λ (o : Outcome). frameLine (o .answer) o (step (o .job) (locate symbols)))
+      ap (λ (o : Outcome). frameLine (o .answer) o (step (o .job) (locate noWords symbols)))
       (given noArrays ∙ ap (λ (i : Head). step (beside i noArrays) (shape n checks)) start)
 
   pub frame-refused : (k : Refusal) → shaped .checked ≡ Refuse k → refusalLine (number k) ≡ outputOf (frame n checks symbols)
   unfolding frameLine
   frame-refused k e =
-      ap (λ (v : Checked). frameLine (checkedAnswer v) after (step (after .job) (locate symbols))) (sym e) ∙ by-outcome
+      ap (λ (v : Checked). frameLine (checkedAnswer v) after (step (after .job) (locate noWords symbols))) (sym e) ∙ by-outcome
 
-  pub frame-located : (a : Answered) (b : Arrays) → shaped .checked ≡ Pass → answeredOutcome a b symbols ≡ step (after .job) (locate symbols)
+  pub frame-located : (a : Answered) (b : Arrays) → shaped .checked ≡ Pass → answeredOutcome a b symbols ≡ step (after .job) (locate noWords symbols)
       → columnsLine (replyAnswer (a .reply)) (a .columns) ≡ outputOf (frame n checks symbols)
   unfolding frameLine
   frame-located a b e l =
       ap (λ (o : Outcome). columnsLine (o .answer) (o .marks)) l ∙
-      ap (λ (v : Checked). frameLine (checkedAnswer v) after (step (after .job) (locate symbols))) (sym e) ∙ by-outcome
+      ap (λ (v : Checked). frameLine (checkedAnswer v) after (step (after .job) (locate noWords symbols))) (sym e) ∙ by-outcome

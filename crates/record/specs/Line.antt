@@ -9,6 +9,7 @@ use Rattle.finder.specs.Finder.{answer}
 use Rattle.job.specs.Calls as Calls
 use Rattle.job.specs.Calls.{Outcome, step}
 use Rattle.job.specs.Job.{emptyJob, noArrays}
+use Rattle.job.specs.NothingDeclared.{noWords}
 use Rattle.register.specs.Algorithm4.{found}
 use Rattle.register.specs.Sequences.{longest, split}
 use Rattle.record.specs.Record.{Record, bad, sequences, frame, recordOf}
@@ -33,7 +34,7 @@ columnsLine Calls.done J = []
 columnsLine (Calls.columns c) J = line 70 (c ∷ members J)
 columnsLine (Calls.refused k) J = refusalLine k
 
--- the line of a frame located on an empty job that was given its shape; refusals of the shape come first
+-- the line of a frame located, with nothing declared, on an empty job that was given its shape; refusals of the shape come first
 unfoldable pub frameLine : Calls.Answer → (shaped located : Outcome) → List ℕ
 frameLine Calls.done shaped located = columnsLine (located .answer) (located .marks)
 frameLine (Calls.columns c) shaped located = []
@@ -47,7 +48,7 @@ outputOf (sequences p lengths symbols) =
     registerLine (answer p lengths symbols 129) (found p ss (longest ss) .taps)
 outputOf (frame n checks symbols) =
     let shaped : Outcome = step (emptyJob noArrays) (Calls.shape n checks) in
-    frameLine (shaped .answer) shaped (step (shaped .job) (Calls.locate symbols))
+    frameLine (shaped .answer) shaped (step (shaped .job) (Calls.locate noWords symbols))
 
 -- from the bytes got of a record, its length first, to the text of its line
 unfoldable pub lineOf : List ℕ → List ℕ

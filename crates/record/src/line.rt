@@ -28,7 +28,7 @@ fn register_line(out: &mut [u8], at: usize, p: u16, lengths: &[u16], symbols: &[
     found_line(out, at, found, &taps)
 }
 
-// The frame is located on an empty job that is given its shape. Refusals of the shape come first.
+// The frame is located, with nothing declared, on an empty job that is given its shape. Refusals of the shape come first.
 fn frame_line(out: &mut [u8], at: usize, n: u16, checks: &[u16], symbols: &[u16]) -> usize
     requires { ⌜ at + 1024 ≤ length (now out) ⌝ }
     ensures { λ r. ⌜ Written (now (out .entry)) at (outputOf (frame n (now (checks .entry)) (now (symbols .entry)))) (now (out .exit)) r ⌝ }
@@ -41,7 +41,16 @@ fn frame_line(out: &mut [u8], at: usize, n: u16, checks: &[u16], symbols: &[u16]
     }
     let mut sums = [0u16; 512];
     let mut taps = [0u16; 65];
-    let located = locate(shaped.head, &mut sums, &mut taps, symbols);
+    let mut held = [0u64; 32];
+    let none = [0u64; 32];
+    let located = locate(
+        shaped.head,
+        &mut sums,
+        &mut taps,
+        &mut held,
+        &none,
+        symbols,
+    );
     let reply = located.reply;
     reply_line(out, at, reply, located.columns)
 }

@@ -1,1 +1,4 @@
 pub mod RowLeft
+pub mod RowsCompletable
+pub mod RowsLeft
+pub mod SequencesLent

@@ -1,1 +1,3 @@
 pub mod Removable
+pub mod SequencesLeft
+pub mod Testable

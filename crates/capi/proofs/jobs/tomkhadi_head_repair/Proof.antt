@@ -4,7 +4,7 @@ use mathlib.Core.List.{[]}
 use borrow.Author.Needs.{needs}
 use Rattle.capi.specs.Mirror.{answeredOf}
 use Rattle.job.specs.Calls.{Outcome, step, repair}
-use Rattle.job.specs.Job.{beside, withSums}
+use Rattle.job.specs.Job.{beside, withRead}
 use Rattle.job.specs.declared.Head.{Head}
 use Rattle.capi.proofs.jobs.tomkhadi_head_repair.Statement.{statement}
 use Rattle.capi.proofs.jobs.tomkhadi_head_repair.Tie as tie
@@ -25,7 +25,7 @@ returns : tie.Need-returns
 returns c = λ b.
     let called = c .before .before .before in
     let a = called .before .before .before .before .args in
-    let done = called .repair .ensures b ∙ ap (λ (h : Head). step (beside h (withSums b (a .sums .now))) (repair (a .frame .now)))
+    let done = called .repair .ensures b ∙ ap (λ (h : Head). step (beside h (withRead b (a .sums .now) (a .held .now))) (repair (a .frame .now)))
     (called .before .before .head-of .ensures) in
     record {
       answers = c .answered-of .ensures b [] ∙ ap answeredOf done;

@@ -15,7 +15,7 @@ returns c =
 
 reply-line-requires : tie.Need-reply-line-requires
 reply-line-requires c κs =
-    let few = few-marks _ _ _ (c .before .locate .result) (c .before .locate .ensures noArrays) in
+    let few = few-marks _ _ _ _ (c .before .locate .result) (c .before .locate .ensures noArrays) in
     record { room = search needs; few = few .0; few-marks = few .1 }
 
 returns-2 : tie.Need-returns-2

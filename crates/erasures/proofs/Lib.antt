@@ -1,0 +1,4 @@
+pub mod FilledFrame
+pub mod ReadCopy
+pub mod RowsDeclarable
+pub mod RowsFilled
