@@ -2,17 +2,24 @@
  *
  * Link with target/staticlib/libcapi.a, which 'rt staticlib capi' builds. Every call is total: it answers for every argument, and a refusal is the number
  * that the documentation gives it; 0 means that nothing is refused. Nothing here allocates, blocks or keeps state: what a call knows stands in the job
- * and in what is lent. A pointer must be valid for the count of 16-bit numbers that follows it, and what is written must not overlap the job or anything
- * else lent.
+ * and in what is lent. A pointer must be valid for the count of 16-bit numbers that follows it, `declared` for 32 64-bit numbers, and what is written must
+ * not overlap the job or anything else lent. The job itself is written: do not lend the `declared` of a job to its own locate.
  *
  * The calls on a job, which is empty, shaped or located: what each wants, and how it leaves the job
  *   tomkhadi_empty    wants nothing; the job is empty, whatever it was
  *   tomkhadi_shape    wants nothing; the job is shaped, whatever it was, and nothing is located any more
  *   tomkhadi_encode   wants a job that is shaped or located, and makes a frame legal; the job is as it was
- *   tomkhadi_locate   wants a job that is shaped or located, and finds the damaged columns of a frame; the job is located by this frame
+ *   tomkhadi_locate   wants a job that is shaped or located, and finds the damaged columns of a frame, some of whose cells may be declared lost; the job
+ *                     is located by this frame, with these cells
  *   tomkhadi_repair   wants a job that is located, and a frame with the check sums of the frame that it is located by, and mends it; the job is shaped
  * A refused call writes nothing to what is lent and leaves the job as it was, but that locate refused by 24, 25 or 26 leaves it shaped. So between a locate
  * and its repair there may be encodes, and calls that are refused by other numbers.
+ *
+ * Declared cells are known to be lost: locate and repair read them as 0 whatever they hold, and repair fills them too. Each row has 256 marks, in the form of
+ * an answer's: bit b of word 4*h + w declares column 64*w + b of the row at place h. Places count from 0, like those of the check counts lent to shape; the
+ * documents number rows from 1, so words 0 to 3 are row 1's and words 28 to 31 row 8's. Zeros declare nothing. A declared cell costs its row one check, and
+ * a damaged column two: where 2*w plus a row's declared cells is within its checks for each row, w being the columns damaged in other cells, repair gives back
+ * what was sent.
  *
  * What is proved: the functions of the archive do what is said here, whatever they are given (crates/capi/src). The calls on a job are inline functions of
  * one to three lines over them, and C is not proved: that such lines, in a list of any length, do what is said here is proved of their description
@@ -22,18 +29,19 @@
  *    1  p is below 2, above 65521 or not prime
  *    2  the count of sequences or rows is outside 1 to 8
  *    3  a length is above 128, or the lengths do not add up to the number of symbols
- *    4  a symbol is not below p (for frames, 257); encode looks at data cells only
+ *    4  a symbol is not below p (for frames, 257); encode looks at data cells only, locate and repair at cells that are not declared
  *    5  columns outside 2 to 256
  *    6  a check count outside 1 to 64 or not below the columns
  *    7  the frame does not have rows x columns symbols
  *    8  the tap buffer has fewer entries than the longest length plus 1
+ *   31  more declared cells than checks in a row, or a mark past the last column or row
  * Refusals because of the state of the job
  *   21  the job is empty
  *   22  repair of a job that is not located
  *   23  repair of a frame whose check sums differ from those located
  *   24  locate: the shortest register is not alone
- *   25  locate: it is alone, and some row has fewer checks than its length
- *   26  locate: neither of these, and no legal frame lies at a distance of that length
+ *   25  locate: it is alone, and some row has fewer checks, less its declared cells, than its length
+ *   26  locate: neither of these, and no legal frame lies at a distance of that length, counted in columns that differ in cells not declared
  */
 #ifndef TOMKHADI_H
 #define TOMKHADI_H
@@ -72,9 +80,11 @@ typedef struct {
 /* A job. Treat it as opaque: make it empty, then hand it from call to call. One of zeros is empty. Any other value is safe too: it counts as empty, and
  * may be left as another that does, unless the numbers of its head are in their ranges (a shape that is not refused; where it is located, alone is 1,
  * `length` columns are marked, all below `columns`, and no row has fewer checks than `length`). The arrays hold what the last locate found that was
- * not refused, and play a part only where the job is located. */
+ * not refused, and the cells declared to it, and play a part only where the job is located: it counts as shaped where its cells would be refused by 31,
+ * or leave some row fewer checks than `length`. */
 typedef struct {
   tomkhadi_head head;
+  uint64_t declared[32];
   uint16_t sums[512];
   uint16_t taps[65];
 } tomkhadi_job;
@@ -101,8 +111,9 @@ typedef struct {
 tomkhadi_head tomkhadi_head_empty(void);
 tomkhadi_head_shaped tomkhadi_head_shape(tomkhadi_head head, size_t columns, const uint16_t *checks, size_t rows);
 uint32_t tomkhadi_head_encode(tomkhadi_head head, uint16_t *frame, size_t size);
-tomkhadi_head_answered tomkhadi_head_locate(tomkhadi_head head, uint16_t sums[512], uint16_t taps[65], const uint16_t *frame, size_t size);
-tomkhadi_head_answered tomkhadi_head_repair(tomkhadi_head head, const uint16_t sums[512], uint16_t *frame, size_t size);
+tomkhadi_head_answered tomkhadi_head_locate(tomkhadi_head head, uint16_t sums[512], uint16_t taps[65], uint64_t held[32], const uint64_t declared[32],
+                                            const uint16_t *frame, size_t size);
+tomkhadi_head_answered tomkhadi_head_repair(tomkhadi_head head, const uint16_t sums[512], const uint64_t held[32], uint16_t *frame, size_t size);
 
 /* Makes the job empty, and its arrays zeros. Refuses nothing. */
 static inline void tomkhadi_empty(tomkhadi_job *job) {
@@ -122,18 +133,19 @@ static inline uint32_t tomkhadi_encode(const tomkhadi_job *job, uint16_t *frame,
   return tomkhadi_head_encode(job->head, frame, size);
 }
 
-/* Finds the damaged columns of a frame, which it only reads. Leaves the job located; refused by 24, 25 or 26, shaped. Answers the number of columns to mend,
- * and the columns. Refusals: 21, 7, 4, 24, 25, 26. */
-static inline tomkhadi_answer tomkhadi_locate(tomkhadi_job *job, const uint16_t *frame, size_t size) {
-  tomkhadi_head_answered located = tomkhadi_head_locate(job->head, job->sums, job->taps, frame, size);
+/* Finds the damaged columns of a frame, whose declared cells do not count. It only reads both; `declared` is not the job's own. Leaves the job located; refused
+ * by 24, 25 or 26, shaped. Answers the number of columns to mend, and the columns. Refusals: 21, 7, 31, 4, 24, 25, 26. */
+static inline tomkhadi_answer tomkhadi_locate(tomkhadi_job *job, const uint64_t declared[32], const uint16_t *frame, size_t size) {
+  tomkhadi_head_answered located = tomkhadi_head_locate(job->head, job->sums, job->taps, job->declared, declared, frame, size);
   job->head = located.head;
   return located.answer;
 }
 
-/* Mends the located columns of a frame, which must have the check sums of the frame located. Leaves the job shaped; refused, as it was. Answers the number of
- * columns mended, and the columns. Refusals: 21, 22, 7, 4, 23. */
+/* Mends the located columns of a frame, and the cells declared to locate. The frame must have the check sums of the frame located, both read with these cells
+ * as 0. Leaves the job shaped; refused, as it was. Answers the number of columns mended, and the columns, those of declared cells not among them where no
+ * other cell of theirs is mended. Refusals: 21, 22, 7, 4, 23. */
 static inline tomkhadi_answer tomkhadi_repair(tomkhadi_job *job, uint16_t *frame, size_t size) {
-  tomkhadi_head_answered repaired = tomkhadi_head_repair(job->head, job->sums, frame, size);
+  tomkhadi_head_answered repaired = tomkhadi_head_repair(job->head, job->sums, job->declared, frame, size);
   job->head = repaired.head;
   return repaired.answer;
 }

@@ -8,7 +8,7 @@ mod flint;
 use std::hint::black_box;
 use std::time::{Duration, Instant};
 
-use common::interface::{Calls, Head, Job, Marks};
+use common::interface::{Calls, Declared, Head, Job, Marks, NOTHING};
 use common::random::Random;
 use plain::Plain;
 
@@ -27,6 +27,7 @@ enum Call {
     Encode,
     Locate {
         head: Head,
+        declared: Box<Declared>,
         frame: Vec<u16>,
     },
     Repair {
@@ -42,10 +43,16 @@ struct Lent {
     buffer: Vec<u16>,
 }
 
-struct Case {
-    name: String,
+struct Work {
     call: Call,
     lent: Lent,
+}
+
+/// Where cells are declared, with the same call of the frame in which they are not lost.
+struct Case {
+    name: String,
+    work: Work,
+    nothing_declared: Option<Work>,
 }
 
 /// What a call answers.
@@ -71,9 +78,13 @@ impl Call {
                 (register.refusal, register.length, [0; 4])
             }
             Call::Encode => (calls.encode(job, buffer), 0, [0; 4]),
-            Call::Locate { head, frame } => {
+            Call::Locate {
+                head,
+                declared,
+                frame,
+            } => {
                 job.head = *head;
-                let answer = calls.locate(job, frame);
+                let answer = calls.locate(job, declared, frame);
                 (answer.refusal, answer.count, answer.marks)
             }
             Call::Repair { head, frame } => {
@@ -87,6 +98,25 @@ impl Call {
             refusal,
             count,
             marks,
+        }
+    }
+}
+
+impl Case {
+    fn new(name: String, call: Call, job: Job, buffer: Vec<u16>) -> Case {
+        let lent = Lent { job, buffer };
+        Case {
+            name,
+            work: Work { call, lent },
+            nothing_declared: None,
+        }
+    }
+
+    /// The case of declared cells, with that of none.
+    fn beside(self, other: Case) -> Case {
+        Case {
+            nothing_declared: Some(other.work),
+            ..self
         }
     }
 }
@@ -110,69 +140,102 @@ fn find_cases(random: &mut Random) -> Vec<Case> {
                 lengths: lengths.clone(),
                 symbols,
             };
-            cases.push(Case {
-                name,
-                call,
-                lent: Lent {
-                    job: Job::EMPTY,
-                    buffer: vec![0; 129],
-                },
-            });
+            cases.push(Case::new(name, call, Job::EMPTY, vec![0; 129]));
         }
     }
     cases
 }
 
-fn frame_cases(
-    random: &mut Random,
-    rows: usize,
+/// Frames of one shape, with the same number of checks in all rows.
+struct Frames {
+    size: String,
     columns: usize,
-    checks: u16,
-    damages: &[usize],
-) -> Vec<Case> {
-    let size = format!("{rows} x {columns}, {checks} checks");
-    let mut job = Job::EMPTY;
-    Plain.shape(&mut job, columns, &vec![checks; rows]);
-    let data = random.symbols(257, rows * columns);
-    let mut sent = data.clone();
-    Plain.encode(&job, &mut sent);
-    let mut cases = vec![Case {
-        name: format!("encode {size}"),
-        call: Call::Encode,
-        lent: Lent { job, buffer: data },
-    }];
-    let mut repairs = Vec::new();
-    for &damage in damages {
-        let mut frame = sent.clone();
-        let hit = random.subset(columns, damage);
-        random.damage(&mut frame, columns, &hit);
-        let mut located = job;
-        Plain.locate(&mut located, &frame);
-        repairs.push(Case {
-            name: format!("repair {size}, {damage} damaged"),
-            call: Call::Repair {
-                head: located.head,
-                frame: frame.clone(),
-            },
-            lent: Lent {
-                job: located,
-                buffer: frame.clone(),
-            },
-        });
-        cases.push(Case {
-            name: format!("locate {size}, {damage} damaged"),
-            call: Call::Locate {
-                head: job.head,
-                frame,
-            },
-            lent: Lent {
-                job,
-                buffer: Vec::new(),
-            },
-        });
+    job: Job,
+    data: Vec<u16>,
+    sent: Vec<u16>,
+}
+
+impl Frames {
+    fn new(random: &mut Random, rows: usize, columns: usize, checks: u16) -> Frames {
+        let mut job = Job::EMPTY;
+        Plain.shape(&mut job, columns, &vec![checks; rows]);
+        let data = random.symbols(257, rows * columns);
+        let mut sent = data.clone();
+        Plain.encode(&job, &mut sent);
+        Frames {
+            size: format!("{rows} x {columns}, {checks} checks"),
+            columns,
+            job,
+            data,
+            sent,
+        }
     }
-    cases.extend(repairs);
-    cases
+
+    fn encode(&self) -> Case {
+        let name = format!("encode {}", self.size);
+        Case::new(name, Call::Encode, self.job, self.data.clone())
+    }
+
+    /// Locate and repair of a frame.
+    fn mend(&self, damage: &str, declared: &Declared, frame: &[u16]) -> [Case; 2] {
+        let mut located = self.job;
+        Plain.locate(&mut located, declared, frame);
+        let locate = Call::Locate {
+            head: self.job.head,
+            declared: Box::new(*declared),
+            frame: frame.to_vec(),
+        };
+        let repair = Call::Repair {
+            head: located.head,
+            frame: frame.to_vec(),
+        };
+        let name = |call| format!("{call} {}, {damage}", self.size);
+        [
+            Case::new(name("locate"), locate, self.job, Vec::new()),
+            Case::new(name("repair"), repair, located, frame.to_vec()),
+        ]
+    }
+
+    fn damaged(&self, random: &mut Random, count: usize) -> Vec<u16> {
+        let mut frame = self.sent.clone();
+        let hit = random.subset(self.columns, count);
+        random.damage(&mut frame, self.columns, &hit);
+        frame
+    }
+
+    /// Loses so many cells of each row of the frame, and declares them.
+    fn lose(&self, random: &mut Random, frame: &mut [u16], count: usize) -> Declared {
+        let mut declared = NOTHING;
+        for (h, row) in frame.chunks_mut(self.columns).enumerate() {
+            for i in random.subset(self.columns, count) {
+                declared[4 * h + i / 64] |= 1 << (i % 64);
+                row[i] = u16::MAX;
+            }
+        }
+        declared
+    }
+
+    /// The locates, then the repairs, of frames with so many damaged columns, and with so many cells
+    /// of each row declared.
+    fn received(&self, random: &mut Random, damages: &[usize], lost: usize) -> Vec<Case> {
+        let (mut locates, mut repairs) = (Vec::new(), Vec::new());
+        for &count in damages {
+            let mut frame = self.damaged(random, count);
+            let damage = format!("{count} damaged");
+            let [mut locate, mut repair] = self.mend(&damage, &NOTHING, &frame);
+            if lost > 0 {
+                let declared = self.lose(random, &mut frame, lost);
+                let damage = format!("{damage}, {lost} declared");
+                let [lost_locate, lost_repair] = self.mend(&damage, &declared, &frame);
+                locate = lost_locate.beside(locate);
+                repair = lost_repair.beside(repair);
+            }
+            locates.push(locate);
+            repairs.push(repair);
+        }
+        locates.append(&mut repairs);
+        locates
+    }
 }
 
 /// The time of one of `rounds` calls.
@@ -216,7 +279,7 @@ fn flint_time(case: &Case) -> Option<f64> {
         p,
         lengths,
         symbols,
-    } = &case.call
+    } = &case.work.call
     else {
         return None;
     };
@@ -243,37 +306,57 @@ fn flint_time(_: &Case) -> Option<f64> {
     None
 }
 
-/// Prints the times of a case and answers the ratio of the library's to the plain one.
-fn compare(case: &Case, library: &dyn Calls) -> f64 {
-    let (mut ours, mut theirs) = (case.lent.clone(), case.lent.clone());
-    let outcome = case.call.make(&Plain, &mut theirs);
+/// The ratios of the library's time: to the plain one, and, where cells are declared, to its own for
+/// the same call with nothing declared.
+struct Ratios {
+    to_plain: f64,
+    to_nothing_declared: Option<f64>,
+}
+
+/// Prints the times of a case and answers the ratios.
+fn compare(case: &Case, library: &dyn Calls) -> Ratios {
+    let Work { call, lent } = &case.work;
+    let (mut ours, mut theirs) = (lent.clone(), lent.clone());
+    let outcome = call.make(&Plain, &mut theirs);
     assert_eq!(outcome.refusal, 0, "{}", case.name);
     assert_eq!(
-        (case.call.make(library, &mut ours), &ours),
+        (call.make(library, &mut ours), &ours),
         (outcome, &theirs),
         "{}",
         case.name
     );
+    let other = case.nothing_declared.as_ref().unwrap_or(&case.work);
+    let mut others = other.lent.clone();
     let times = medians(&mut [
         &mut || {
-            black_box(case.call.make(&Plain, black_box(&mut theirs)));
+            black_box(call.make(&Plain, black_box(&mut theirs)));
         },
         &mut || {
-            black_box(case.call.make(library, black_box(&mut ours)));
+            black_box(call.make(library, black_box(&mut ours)));
+        },
+        &mut || {
+            black_box(other.call.make(library, black_box(&mut others)));
         },
     ]);
-    let ratio = times[1] / times[0];
+    let ratios = Ratios {
+        to_plain: times[1] / times[0],
+        to_nothing_declared: case.nothing_declared.as_ref().map(|_| times[1] / times[2]),
+    };
     print!(
-        "{:<44}{:>12.2}{:>12.2}{ratio:>8.2}",
+        "{:<52}{:>12.2}{:>12.2}{:>8.2}",
         case.name,
         times[0] / 1e3,
-        times[1] / 1e3
+        times[1] / 1e3,
+        ratios.to_plain
     );
-    match flint_time(case) {
-        Some(time) => println!("{:>12.2}", time / 1e3),
-        None => println!(),
+    if let Some(time) = flint_time(case) {
+        print!("{:>12.2}", time / 1e3);
     }
-    ratio
+    if let Some(ratio) = ratios.to_nothing_declared {
+        print!("{:>12}{ratio:>12.2}", "");
+    }
+    println!();
+    ratios
 }
 
 fn library() -> Box<dyn Calls> {
@@ -289,19 +372,31 @@ fn main() {
     let library = library();
     let mut random = Random::new(6);
     let mut cases = find_cases(&mut random);
-    cases.extend(frame_cases(&mut random, 8, 256, 64, &[0, 2, 32]));
-    cases.extend(frame_cases(&mut random, 2, 32, 8, &[0, 2, 4]));
+    let full = Frames::new(&mut random, 8, 256, 64);
+    cases.push(full.encode());
+    cases.extend(full.received(&mut random, &[0, 2, 32], 0));
+    let small = Frames::new(&mut random, 2, 32, 8);
+    cases.push(small.encode());
+    cases.extend(small.received(&mut random, &[0, 2, 4], 0));
+    cases.extend(full.received(&mut random, &[0, 2, 24], 8));
     println!(
-        "{:<44}{:>12}{:>12}{:>8}{:>12}",
-        "microseconds a call (median)", "plain", "library", "ratio", "FLINT"
+        "{:<52}{:>12}{:>12}{:>8}{:>12}{:>12}",
+        "microseconds a call (median)", "plain", "library", "ratio", "FLINT", "to none"
     );
-    let mut worst = (0.0, "");
+    let (mut worst, mut worst_declared) = ((0.0, ""), (0.0, ""));
     for case in &cases {
-        let ratio = compare(case, &*library);
-        if ratio > worst.0 {
-            worst = (ratio, &case.name);
+        let ratios = compare(case, &*library);
+        if ratios.to_plain > worst.0 {
+            worst = (ratios.to_plain, &case.name);
+        }
+        if ratios.to_nothing_declared > Some(worst_declared.0) {
+            worst_declared = (ratios.to_nothing_declared.unwrap_or(0.0), &case.name);
         }
     }
     println!("a job has {} bytes", size_of::<Job>());
+    println!(
+        "worst ratio to the same call with nothing declared: {:.2} ({})",
+        worst_declared.0, worst_declared.1
+    );
     println!("worst ratio: {:.2} ({})", worst.0, worst.1);
 }

@@ -1,4 +1,4 @@
-/* Sends a small frame over a link that damages one of its columns, and mends it.
+/* Sends a small frame over a link that damages one of its columns and loses a cell of another, and mends it.
  *
  * From the repository's root:
  *
@@ -14,7 +14,8 @@
 
 enum { ROWS = 2, COLUMNS = 8, SIZE = ROWS * COLUMNS };
 
-/* Row 1 has four checks and row 2 has two: half of two is one column that is always mended. */
+/* Row 1 has four checks and row 2 has two. A damaged column takes two of each row, a declared cell one of its own row: one column is always mended, and up to
+ * two declared cells of row 1 with it. */
 static const uint16_t checks[ROWS] = {4, 2};
 
 static void print_frame(const char *title, const uint16_t *frame) {
@@ -53,16 +54,18 @@ int main(void) {
   if (refused("encode", tomkhadi_encode(&job, frame, SIZE))) return 1;
   print_frame("sent", frame);
 
-  /* The link: column 5 is hit in both rows. */
+  /* The link: column 5 is hit in both rows, and the cell of row 1 in column 2 does not arrive. It holds no symbol, and is declared. */
   frame[5] = 256;
   frame[COLUMNS + 5] = 0;
+  frame[2] = 999;
+  const uint64_t declared[32] = {1 << 2};
   print_frame("received", frame);
 
   /* A job that has not located has nothing to mend by, and a refusal leaves job and frame alone. */
   if (!refused("repair before locate", tomkhadi_repair(&job, frame, SIZE).refusal)) return 1;
 
-  /* The receiver's side: locate names the column, and repair of the same frame mends it. */
-  tomkhadi_answer located = tomkhadi_locate(&job, frame, SIZE);
+  /* The receiver's side: locate names the column, and repair of the same frame mends it and fills the declared cell. */
+  tomkhadi_answer located = tomkhadi_locate(&job, declared, frame, SIZE);
   if (refused("locate", located.refusal)) return 1;
   print_columns(&located);
   if (refused("repair", tomkhadi_repair(&job, frame, SIZE).refusal)) return 1;

@@ -13,8 +13,8 @@ uint32_t header_encode(const tomkhadi_job *job, uint16_t *frame, size_t size) {
   return tomkhadi_encode(job, frame, size);
 }
 
-tomkhadi_answer header_locate(tomkhadi_job *job, const uint16_t *frame, size_t size) {
-  return tomkhadi_locate(job, frame, size);
+tomkhadi_answer header_locate(tomkhadi_job *job, const uint64_t declared[32], const uint16_t *frame, size_t size) {
+  return tomkhadi_locate(job, declared, frame, size);
 }
 
 tomkhadi_answer header_repair(tomkhadi_job *job, uint16_t *frame, size_t size) {

@@ -9,6 +9,12 @@ pub const LOCATED: u32 = 2;
 /// Column i is bit i mod 64 of word i / 64.
 pub type Marks = [u64; 4];
 
+/// The marks of each of eight rows: bit b of word 4·h + w declares column 64·w + b of the row at
+/// place h.
+pub type Declared = [u64; 32];
+
+pub const NOTHING: Declared = [0; 32];
+
 #[repr(C)]
 #[derive(Clone, Copy, Debug, PartialEq, Eq)]
 pub struct Register {
@@ -33,6 +39,7 @@ pub struct Head {
 #[derive(Clone, Copy, Debug, PartialEq, Eq)]
 pub struct Job {
     pub head: Head,
+    pub declared: Declared,
     pub sums: [u16; 512],
     pub taps: [u16; 65],
 }
@@ -78,6 +85,19 @@ impl Head {
         head
     }
 
+    /// Makes a shaped head located, and answers what locate answers then.
+    pub fn located(&mut self, length: usize, marks: Marks) -> Answer {
+        self.phase = LOCATED;
+        self.alone = 1;
+        self.length = length as u64;
+        self.marks = marks;
+        Answer {
+            refusal: 0,
+            count: self.length,
+            marks,
+        }
+    }
+
     /// The shaped head of the same shape.
     pub fn reshaped(&self) -> Head {
         Head {
@@ -93,6 +113,7 @@ impl Head {
 impl Job {
     pub const EMPTY: Job = Job {
         head: Head::EMPTY,
+        declared: NOTHING,
         sums: [0; 512],
         taps: [0; 65],
     };
@@ -114,7 +135,7 @@ pub trait Calls {
     fn empty(&self, job: &mut Job);
     fn shape(&self, job: &mut Job, columns: usize, checks: &[u16]) -> u32;
     fn encode(&self, job: &Job, frame: &mut [u16]) -> u32;
-    fn locate(&self, job: &mut Job, frame: &[u16]) -> Answer;
+    fn locate(&self, job: &mut Job, declared: &Declared, frame: &[u16]) -> Answer;
     fn repair(&self, job: &mut Job, frame: &mut [u16]) -> Answer;
 }
 
@@ -124,7 +145,7 @@ pub struct Library;
 
 #[cfg(library)]
 mod library {
-    use super::{Answer, Calls, Job, Library, Register};
+    use super::{Answer, Calls, Declared, Job, Library, Register};
 
     unsafe extern "C" {
         fn tomkhadi_find(
@@ -140,11 +161,16 @@ mod library {
         fn header_empty(job: *mut Job);
         fn header_shape(job: *mut Job, columns: usize, checks: *const u16, rows: usize) -> u32;
         fn header_encode(job: *const Job, frame: *mut u16, size: usize) -> u32;
-        fn header_locate(job: *mut Job, frame: *const u16, size: usize) -> Answer;
+        fn header_locate(
+            job: *mut Job,
+            declared: *const Declared,
+            frame: *const u16,
+            size: usize,
+        ) -> Answer;
         fn header_repair(job: *mut Job, frame: *mut u16, size: usize) -> Answer;
     }
 
-    // SAFETY, of every call: a pointer is that of a job, or of a slice and followed by its length;
+    // SAFETY, of every call: a pointer is that of a job, of 32 words, or of a slice and followed by its length;
     // what is lent mutably overlaps nothing else, and the header's functions keep nothing of it.
     impl Calls for Library {
         fn find(&self, p: u32, lengths: &[u16], symbols: &[u16], taps: &mut [u16]) -> Register {
@@ -173,8 +199,8 @@ mod library {
             unsafe { header_encode(job, frame.as_mut_ptr(), frame.len()) }
         }
 
-        fn locate(&self, job: &mut Job, frame: &[u16]) -> Answer {
-            unsafe { header_locate(job, frame.as_ptr(), frame.len()) }
+        fn locate(&self, job: &mut Job, declared: &Declared, frame: &[u16]) -> Answer {
+            unsafe { header_locate(job, declared, frame.as_ptr(), frame.len()) }
         }
 
         fn repair(&self, job: &mut Job, frame: &mut [u16]) -> Answer {

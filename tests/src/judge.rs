@@ -1,10 +1,11 @@
 //! Makes each call on the implementation under test and on the independent one, and compares all
-//! that the two answer and leave: the result, the job, and the lent buffers with what lies around.
+//! that the two answer and leave: the result, the job, and the lent buffers with what lies around. A
+//! refused call is held to what refusals leave besides, whatever the independent one does.
 
 use std::collections::BTreeMap;
 use std::fmt::Debug;
 
-use common::interface::{Answer, Calls, EMPTY, Head, Job, Register, SHAPED};
+use common::interface::{Answer, Calls, Declared, EMPTY, Head, Job, NOTHING, Register, SHAPED};
 
 use crate::independent::{Independent, shape_of};
 
@@ -13,7 +14,7 @@ const ANSWERS: [(&str, &[u32]); 5] = [
     ("find", &[0, 1, 2, 3, 4, 8]),
     ("shape", &[0, 2, 5, 6]),
     ("encode", &[0, 4, 7, 21]),
-    ("locate", &[0, 4, 7, 21, 24, 25, 26]),
+    ("locate", &[0, 4, 7, 21, 24, 25, 26, 31]),
     ("repair", &[0, 4, 7, 21, 22, 23]),
 ];
 
@@ -28,6 +29,7 @@ pub struct Judge<'a> {
 /// An empty job whose arrays hold what no call leaves.
 pub const FILLED: Job = Job {
     head: Head::EMPTY,
+    declared: [0xa5a5_a5a5_a5a5_a5a5; 32],
     sums: [0xa5a5; 512],
     taps: [0xa5a5; 65],
 };
@@ -50,24 +52,39 @@ impl Lent {
     }
 }
 
-/// A job and a frame, as lent to a call, each between two margins.
+/// A job, declared cells and a frame, as lent to a call, each between two margins.
 #[repr(C)]
 #[derive(Clone, Debug, PartialEq)]
 struct Held {
     before: u64,
     job: Job,
+    between: u64,
+    declared: Declared,
     after: u64,
     frame: Lent,
 }
 
 impl Held {
-    fn new(job: &Job, frame: &[u16]) -> Held {
+    fn new(job: &Job, declared: &Declared, frame: &[u16]) -> Held {
         Held {
             before: u64::MAX,
             job: *job,
+            between: u64::MAX,
+            declared: *declared,
             after: u64::MAX,
             frame: Lent::new(frame),
         }
+    }
+}
+
+/// What a refused call leaves: the job as it was, but shaped after the refusals of a register.
+fn refused(job: &Job, refusal: u32) -> Job {
+    match refusal {
+        24..=26 => Job {
+            head: job.head.reshaped(),
+            ..*job
+        },
+        _ => *job,
     }
 }
 
@@ -129,27 +146,40 @@ impl<'a> Judge<'a> {
         *self.answers.entry((call, refusal)).or_default() += 1;
     }
 
-    /// Makes a call on a job and a frame with both implementations, and compares what they answer,
-    /// the frame, and the whole job: to the letter where a call can leave the one given. Answers
-    /// what the call answers and the frame.
+    /// Makes a call on a job and what is lent beside it with both implementations, and compares what
+    /// they answer, the frame, and the whole job: to the letter where a call can leave the one
+    /// given. Answers what the call answers and the frame.
     fn both<T: Debug + PartialEq>(
         &mut self,
-        call: &str,
+        call: &'static str,
         inputs: &dyn Debug,
         job: &mut Job,
-        frame: &[u16],
-        make: &dyn Fn(&dyn Calls, &mut Job, &mut [u16]) -> T,
+        lent: (&Declared, &[u16]),
+        make: &dyn Fn(&dyn Calls, &mut Held) -> (u32, T),
     ) -> (T, Vec<u16>) {
-        let inputs = (inputs, ("frame", frame), *job);
+        let inputs = (inputs, ("declared and frame", lent), *job);
         let is_settled = job.head == settled(&job.head);
-        let (mut expected, mut got) = (Held::new(job, frame), Held::new(job, frame));
-        let wanted = make(&Independent, &mut expected.job, expected.frame.contents());
-        let answer = make(self.subject, &mut got.job, got.frame.contents());
+        let mut before = Held::new(job, lent.0, lent.1);
+        let (mut expected, mut got) = (before.clone(), before.clone());
+        let wanted = make(&Independent, &mut expected);
+        let answer = make(self.subject, &mut got);
         self.compare(&format!("{call}: the answer"), &inputs, &wanted, &answer);
         *job = got.job;
         if !is_settled {
-            expected.job.head = settled(&expected.job.head);
-            got.job.head = settled(&got.job.head);
+            for held in [&mut before, &mut expected, &mut got] {
+                held.job.head = settled(&held.job.head);
+            }
+        }
+        let (refusal, answer) = answer;
+        self.answered(call, refusal);
+        if refusal != 0 {
+            before.job = refused(&before.job, refusal);
+            self.compare(
+                &format!("{call}: what a refusal leaves"),
+                &inputs,
+                &before,
+                &got,
+            );
         }
         let left = got.frame.contents().to_vec();
         self.compare(
@@ -195,8 +225,8 @@ impl<'a> Judge<'a> {
             head: Head::shaped(7, &[3]),
             ..FILLED
         };
-        self.both("empty", &(), &mut job, &[], &|calls, job, _| {
-            calls.empty(job)
+        self.both("empty", &(), &mut job, (&NOTHING, &[]), &|calls, held| {
+            (0, calls.empty(&mut held.job))
         });
         job
     }
@@ -204,38 +234,39 @@ impl<'a> Judge<'a> {
     /// Answers the refusal.
     pub fn shape(&mut self, job: &mut Job, columns: usize, checks: &[u16]) -> u32 {
         let inputs = (("columns", columns), ("checks", checks));
-        let (refusal, _) = self.both("shape", &inputs, job, &[], &|calls, job, _| {
-            calls.shape(job, columns, checks)
+        let lent = (&NOTHING, &[][..]);
+        let (refusal, _) = self.both("shape", &inputs, job, lent, &|calls, held| {
+            let refusal = calls.shape(&mut held.job, columns, checks);
+            (refusal, refusal)
         });
-        self.answered("shape", refusal);
         refusal
     }
 
     /// Answers the refusal and the frame.
     pub fn encode(&mut self, job: &Job, frame: &[u16]) -> (u32, Vec<u16>) {
-        let (refusal, left) =
-            self.both("encode", &(), &mut { *job }, frame, &|calls, job, frame| {
-                calls.encode(job, frame)
-            });
-        self.answered("encode", refusal);
-        (refusal, left)
+        let lent = (&NOTHING, frame);
+        self.both("encode", &(), &mut { *job }, lent, &|calls, held| {
+            let refusal = calls.encode(&held.job, held.frame.contents());
+            (refusal, refusal)
+        })
     }
 
-    pub fn locate(&mut self, job: &mut Job, frame: &[u16]) -> Answer {
-        let (answer, _) = self.both("locate", &(), job, frame, &|calls, job, frame| {
-            calls.locate(job, frame)
+    pub fn locate(&mut self, job: &mut Job, declared: &Declared, frame: &[u16]) -> Answer {
+        let lent = (declared, frame);
+        let (answer, _) = self.both("locate", &(), job, lent, &|calls, held| {
+            let answer = calls.locate(&mut held.job, &held.declared, held.frame.contents());
+            (answer.refusal, answer)
         });
-        self.answered("locate", answer.refusal);
         answer
     }
 
     /// Answers the answer and the frame.
     pub fn repair(&mut self, job: &mut Job, frame: &[u16]) -> (Answer, Vec<u16>) {
-        let (answer, left) = self.both("repair", &(), job, frame, &|calls, job, frame| {
-            calls.repair(job, frame)
-        });
-        self.answered("repair", answer.refusal);
-        (answer, left)
+        let lent = (&NOTHING, frame);
+        self.both("repair", &(), job, lent, &|calls, held| {
+            let answer = calls.repair(&mut held.job, held.frame.contents());
+            (answer.refusal, answer)
+        })
     }
 
     /// Prints how often each answer came, and the verdict. True if all is well.

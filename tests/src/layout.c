@@ -1,7 +1,7 @@
 /* Sizes and places in the structs of the header, in the order of trials/layout.rs. */
 #include "tomkhadi.h"
 
-const size_t tomkhadi_layout[32] = {
+const size_t tomkhadi_layout[33] = {
     sizeof(tomkhadi_register),
     _Alignof(tomkhadi_register),
     offsetof(tomkhadi_register, refusal),
@@ -19,6 +19,7 @@ const size_t tomkhadi_layout[32] = {
     sizeof(tomkhadi_job),
     _Alignof(tomkhadi_job),
     offsetof(tomkhadi_job, head),
+    offsetof(tomkhadi_job, declared),
     offsetof(tomkhadi_job, sums),
     offsetof(tomkhadi_job, taps),
     sizeof(tomkhadi_answer),

@@ -28,7 +28,7 @@ fn subject() -> Box<dyn Calls> {
 
 type Trial = fn(&mut Judge);
 
-const TRIALS: [(&str, Trial); 9] = [
+const TRIALS: [(&str, Trial); 10] = [
     ("layout", trials::layout::run),
     ("prototypes", trials::prototypes::run),
     ("examples", trials::examples::run),
@@ -36,6 +36,7 @@ const TRIALS: [(&str, Trial); 9] = [
     ("finder", trials::finder::run),
     ("shapes", trials::shapes::run),
     ("frames", trials::frames::run),
+    ("declared cells", trials::declared::run),
     ("forged jobs", trials::forged::run),
     ("lists of calls", trials::lists::run),
 ];

@@ -1,6 +1,6 @@
 /* Calls every function of the header through a pointer of the type that is promised, so that a prototype with another type does not compile. No two arguments
- * of a call can change places without another answer. The frame is that of examples/c/repair.c; its check sums and taps were worked out apart from the library.
- * tests/run builds and runs it. */
+ * of a call can change places without another answer. The frame is that of examples/c/repair.c with another cell lost; its check sums and taps were worked out
+ * apart from the library. tests/run builds and runs it. */
 #include <stdio.h>
 
 #include "tomkhadi.h"
@@ -10,14 +10,15 @@ static tomkhadi_register (*const find)(uint32_t, const uint16_t *, size_t, const
 static tomkhadi_head (*const head_empty)(void) = tomkhadi_head_empty;
 static tomkhadi_head_shaped (*const head_shape)(tomkhadi_head, size_t, const uint16_t *, size_t) = tomkhadi_head_shape;
 static uint32_t (*const head_encode)(tomkhadi_head, uint16_t *, size_t) = tomkhadi_head_encode;
-static tomkhadi_head_answered (*const head_locate)(tomkhadi_head, uint16_t *, uint16_t *, const uint16_t *, size_t) = tomkhadi_head_locate;
-static tomkhadi_head_answered (*const head_repair)(tomkhadi_head, const uint16_t *, uint16_t *, size_t) = tomkhadi_head_repair;
+static tomkhadi_head_answered (*const head_locate)(tomkhadi_head, uint16_t *, uint16_t *, uint64_t *, const uint64_t *, const uint16_t *,
+                                                   size_t) = tomkhadi_head_locate;
+static tomkhadi_head_answered (*const head_repair)(tomkhadi_head, const uint16_t *, const uint64_t *, uint16_t *, size_t) = tomkhadi_head_repair;
 
 /* Those of the header. */
 static void (*const empty)(tomkhadi_job *) = tomkhadi_empty;
 static uint32_t (*const shape)(tomkhadi_job *, size_t, const uint16_t *, size_t) = tomkhadi_shape;
 static uint32_t (*const encode)(const tomkhadi_job *, uint16_t *, size_t) = tomkhadi_encode;
-static tomkhadi_answer (*const locate)(tomkhadi_job *, const uint16_t *, size_t) = tomkhadi_locate;
+static tomkhadi_answer (*const locate)(tomkhadi_job *, const uint64_t *, const uint16_t *, size_t) = tomkhadi_locate;
 static tomkhadi_answer (*const repair)(tomkhadi_job *, uint16_t *, size_t) = tomkhadi_repair;
 
 enum { ROWS = 2, COLUMNS = 8, SIZE = ROWS * COLUMNS };
@@ -25,10 +26,15 @@ enum { ROWS = 2, COLUMNS = 8, SIZE = ROWS * COLUMNS };
 static const uint16_t checks[ROWS] = {4, 2};
 static const uint16_t data[SIZE] = {0, 0, 0, 0, 10, 20, 30, 40, 0, 0, 1, 2, 3, 4, 5, 6};
 static const uint16_t sent[SIZE] = {119, 79, 107, 241, 10, 20, 30, 40, 122, 198, 1, 2, 3, 4, 5, 6};
-static const uint16_t received[SIZE] = {119, 79, 107, 241, 10, 256, 30, 40, 122, 198, 1, 2, 3, 0, 5, 6};
+static const uint16_t received[SIZE] = {119, 65535, 107, 241, 10, 256, 30, 40, 122, 198, 1, 2, 3, 0, 5, 6};
 
-/* Column 5 is damaged by 236 and by -4, and its locator 3^5 is 243: four sums of row 1 and two of row 2, and the taps 1 and -243. */
-static const uint16_t sums[512] = {37, 253, 56, 244, 56, 244};
+/* Column 1 of row 1 is declared, and read as 0. Column 5 is damaged by 236 and by -4, and its locator 3^5 is 243: four sums of row 1 and two of row 2, and the
+ * taps 1 and -243. */
+static const uint64_t declared[32] = {1 << 1};
+static const uint64_t other[32] = {1 << 1, 0, 0, 0, 1 << 5};
+static const uint64_t past[32] = {1 << 8};
+static const uint64_t nothing[32];
+static const uint16_t sums[512] = {57, 56, 236, 13, 56, 244};
 static const uint16_t taps[65] = {1, 14};
 
 static const tomkhadi_head zeros;
@@ -97,16 +103,25 @@ static void heads(void) {
 
   uint16_t held_sums[512] = {0};
   uint16_t held_taps[65] = {0};
-  tomkhadi_head_answered answered = head_locate(shaped, held_sums, held_taps, received, SIZE);
+  uint64_t held[32] = {0};
+  tomkhadi_head_answered answered = head_locate(shaped, held_sums, held_taps, held, past, received, SIZE);
+  CHECK(is_answer(answered.answer, 31) && is_head(answered.head, shaped));
+  SAME(held, nothing);
+  answered = head_locate(shaped, held_sums, held_taps, held, declared, received, SIZE);
   CHECK(is_answer(answered.answer, 0) && is_head(answered.head, located));
   SAME(held_sums, sums);
   SAME(held_taps, taps);
+  SAME(held, declared);
 
   memcpy(frame, received, sizeof frame);
-  answered = head_repair(shaped, sums, frame, SIZE);
+  answered = head_repair(shaped, sums, held, frame, SIZE);
   CHECK(is_answer(answered.answer, 22) && is_head(answered.head, shaped));
+  answered = head_repair(located, sums, past, frame, SIZE);
+  CHECK(is_answer(answered.answer, 22) && is_head(answered.head, located));
+  answered = head_repair(located, sums, nothing, frame, SIZE);
+  CHECK(is_answer(answered.answer, 4) && is_head(answered.head, located));
   SAME(frame, received);
-  answered = head_repair(located, sums, frame, SIZE);
+  answered = head_repair(located, sums, held, frame, SIZE);
   CHECK(is_answer(answered.answer, 0) && is_head(answered.head, shaped));
   SAME(frame, sent);
 }
@@ -115,7 +130,7 @@ static void heads(void) {
 static int is_job(const tomkhadi_job *job, tomkhadi_head head, int held) {
   static const tomkhadi_job none;
   return is_head(job->head, head) && memcmp(job->sums, held ? sums : none.sums, sizeof sums) == 0 &&
-         memcmp(job->taps, held ? taps : none.taps, sizeof taps) == 0;
+         memcmp(job->taps, held ? taps : none.taps, sizeof taps) == 0 && memcmp(job->declared, held ? declared : none.declared, sizeof declared) == 0;
 }
 
 static void jobs(void) {
@@ -135,9 +150,12 @@ static void jobs(void) {
   CHECK(is_job(&job, shaped, 0));
 
   memcpy(frame, received, sizeof frame);
-  CHECK(is_answer(locate(&job, frame, SIZE), 0));
+  CHECK(is_answer(locate(&job, nothing, frame, SIZE), 4));
+  CHECK(is_job(&job, shaped, 0));
+  CHECK(is_answer(locate(&job, declared, frame, SIZE), 0));
   SAME(frame, received);
   CHECK(is_job(&job, located, 1));
+  CHECK(is_answer(locate(&job, past, frame, SIZE), 31));
   CHECK(shape(&job, 4, checks, ROWS) == 6);
   CHECK(is_job(&job, located, 1));
   frame[0]++;
@@ -149,10 +167,16 @@ static void jobs(void) {
   CHECK(is_job(&job, shaped, 1));
 
   /* Three columns of row 1: the only shortest register of its four sums has length 2, and no root. */
-  CHECK(is_answer(locate(&job, received, SIZE), 0));
+  CHECK(is_answer(locate(&job, declared, received, SIZE), 0));
   frame[1]++, frame[2]++, frame[3]++;
-  CHECK(is_answer(locate(&job, frame, SIZE), 26));
+  CHECK(is_answer(locate(&job, nothing, frame, SIZE), 26));
   CHECK(is_job(&job, shaped, 1));
+
+  /* Column 5 declared in row 2 too leaves it one check, and one symbol that says nothing of column 4, where row 2 is altered besides. */
+  memcpy(frame, received, sizeof frame);
+  CHECK(is_answer(locate(&job, other, frame, SIZE), 0));
+  frame[COLUMNS + 4]++;
+  CHECK(is_answer(locate(&job, other, frame, SIZE), 26));
 }
 
 int main(void) {

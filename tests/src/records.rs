@@ -2,6 +2,8 @@
 
 use std::fmt::Write;
 
+use common::interface::NOTHING;
+
 use crate::independent::frames::columns_of;
 use crate::judge::Judge;
 
@@ -39,7 +41,7 @@ fn frame_line(judge: &mut Judge, body: &[u16]) -> Option<String> {
     if refusal != 0 {
         return Some(format!("E {refusal}"));
     }
-    let answer = judge.locate(&mut job, frame);
+    let answer = judge.locate(&mut job, &NOTHING, frame);
     if answer.refusal != 0 {
         return Some(format!("E {}", answer.refusal));
     }

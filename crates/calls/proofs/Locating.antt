@@ -1,7 +1,7 @@
 -- Locating from sums, step by step: what the finder answers, the taps that it leaves, and what is given after each test.
 use mathlib.Core.Path.{_≡_, refl, sym, ap, ap₂, subst, _∙_}
 use mathlib.Core.Bool.{Bool, true, false, not}
-use mathlib.Core.List.{List, [], _++_}
+use mathlib.Core.List.{List, _++_}
 use Prim.Native.Nat.{ℕ, suc, _+_, _-_, _≤_, _<_}
 use native.Mathlib.Omega.{arith}
 use lib.Dec.{ltb}
@@ -13,8 +13,8 @@ use Rattle.columns.specs.declared.Columns.{Columns}
 use Rattle.decoding.specs.Locating.{sizeOf, tapsOf, aloneOf, namedColumns, namesAll}
 use Rattle.decoding.specs.Remaining.{allRemaining, leftReach, completable}
 use Rattle.decoding.proofs.SequenceRegister.{generator-of, length-taps}
-use Rattle.decoding.proofs.NamedColumns.{size-named}
-use Rattle.finder.specs.Finder.{Answer, answerOf, register, refused}
+use Rattle.decoding.proofs.NamedColumns.{size-named, names-at-most}
+use Rattle.finder.specs.Finder.{answerOf, register, refused}
 use Rattle.finder.specs.declared.Found.{Found}
 use Rattle.frame.specs.DeclaredCells.{Declared, declaredBy, asRead}
 use Rattle.frame.specs.Frame.{heldSums, heldSequences}
@@ -114,6 +114,17 @@ module _ {s : Shape} {words sums : List ℕ} {l : ℕ} {a : Bool} {buffer : List
     module _ (enough : l ≤ length (members J)) where
       all-named : namesAll s (tapsOf ss) (sizeOf ss) ≡ true
       all-named = names ∙ ap not (le-ltb _ l enough)
+
+      -- no more columns are named than the register is long
+      pub marked-most : length (members J) ≡ l
+      marked-most =
+          omega (
+            arith,
+            ap (λ K. length (members K)) marked,
+            size-named s (tapsOf ss) (see .shape),
+            names-at-most s (sizeOf ss) (tapsOf ss) (generator-of ss .register) (see .shape),
+            see .size,
+          )
 
       -- what the test of the rows asks
       pub completable-asked : (none : Bool) → Locatable s none words sums → length (members J) ≡ l → Completable s none words J sums

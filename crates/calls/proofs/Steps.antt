@@ -1,21 +1,21 @@
 -- What each call gives after each of its tests, and the answers that it makes of it.
 use mathlib.Core.Path.{_≡_, refl, sym, ap, ap₂, _∙_}
-use mathlib.Core.Bool.{true, false, cond}
-use mathlib.Core.List.{List, [], _∷_, _++_}
-use Prim.Native.Nat.{ℕ, _*_, _≤_, _<_}
+use mathlib.Core.Bool.{true, false, and-eq-true-iff}
+use mathlib.Core.List.{List, [], _∷_}
+use Prim.Native.Nat.{ℕ, _≤_, _<_}
 use lib.ListN.{length, getD}
-use Rattle.decoding.specs.Remaining.{mended}
-use Rattle.frame.specs.DeclaredCells.{declaredBy, declarable, asRead, readTests, rereadTests, WellFormedRead}
+use Rattle.decoding.specs.Remaining.{leftReach, mended}
+use Rattle.frame.specs.DeclaredCells.{Declared, declaredBy, declarable, asRead, undeclaredBelow, readTests, rereadTests, WellFormedRead}
 use Rattle.frame.specs.Encode.{encoded, encodeTests}
-use Rattle.frame.specs.Frame.{heldSums}
+use Rattle.frame.specs.Frame.{heldSums, frameTests}
 use Rattle.frame.specs.Shape.{shapeOf, shapeTests}
 use Rattle.frame.specs.declared.Shape.{Shape}
 use Rattle.frame.proofs.Declarable.{read-passes}
-use Rattle.frame.proofs.Reasons.{shape-passes}
+use Rattle.frame.proofs.Reasons.{shape-passes, frame-passes}
 use Rattle.frame.proofs.Shapes.{shape-ranges}
 use Rattle.job.specs.Answers.{shapeOutcome, encodeOutcome, answeredOutcome}
 use Rattle.job.specs.Calls.{shape, encode, locate, repair, step, refusing, repairs, sameSums, sumsTest}
-use Rattle.job.specs.Job.{Arrays, Job, beside, isEmpty, isLocated, declaredIn, lengthOf, shapedHead}
+use Rattle.job.specs.Job.{Arrays, Job, beside, isEmpty, isLocated, declaredIn, declaredSound, lengthOf, shapedHead}
 use Rattle.job.specs.declared.Answered.{Answered}
 use Rattle.job.specs.declared.Head.{Head}
 use Rattle.refusal.specs.Number.{number}
@@ -25,7 +25,7 @@ use Rattle.refusal.specs.declared.Checked.{Checked}
 use Rattle.refusal.specs.declared.Checked.the-variants.{Pass, Refuse}
 use Rattle.refusal.specs.Order.{Test, firstOf}
 use Rattle.refusal.specs.Outcome.{passed, refused, outcome, outcomeOf}
-use Rattle.refusal.proofs.Orders.{firstOf-append, passed-pass}
+use Rattle.refusal.proofs.Orders.{firstOf-append, no-fail, passed-pass}
 use Rattle.refusal.proofs.Outcomes.{given-passed, given-refused}
 use Rattle.calls.specs.Answered as answer-of
 use Rattle.calls.specs.FromSums.{fromSums}
@@ -42,6 +42,13 @@ mended-outcome j a f e n l = rw (e, n, l) refl
 
 pub passed-read : (s : Shape) (words f : List ℕ) → outcome (readTests s (declaredBy words) f) ≡ passed → WellFormedRead s (declaredBy words) f
 passed-read s words f e = read-passes s (declaredBy words) f (passed-pass (readTests s (declaredBy words) f) e)
+
+pub passed-undeclared : (s : Shape) (words f : List ℕ) → outcome (readTests s (declaredBy words) f) ≡ passed → undeclaredBelow s (declaredBy words) f ≡ true
+unfolding readTests
+passed-undeclared s words f e = let (size, (declared, (symbols, u))) = passed-pass (readTests s (declaredBy words) f) e in no-fail _ symbols
+
+pub passed-symbols : (s : Shape) (f : List ℕ) → outcome (frameTests s f) ≡ passed → (k : ℕ) → k < length f → getD f k 0 < 257
+passed-symbols s f e = frame-passes s f (passed-pass (frameTests s f) e) .symbols
 
 -- ---- shape
 
@@ -105,6 +112,11 @@ module _ (j : Job) (words f : List ℕ) where
     locate-goes-on e = rw full (sym (given-passed (refusing j f) _ (readTests (j .head .shape) (declaredBy words) f) e))
 
 -- ---- repair
+
+-- cells with which a locate can have left a job of length c
+pub sound-cells : (s : Shape) (D : Declared) (c : ℕ) → declaredSound s D c ≡ true → (declarable s D ≡ true) × (leftReach s D c ≡ true)
+unfolding declaredSound
+sound-cells s D c e = and-eq-true-iff (declarable s D) (leftReach s D c) .0 e
 
 module _ (j : Job) (f : List ℕ) where
   pub repair-empty : isEmpty j ≡ true → refusing j f 21 ≡ step j (repair f)

@@ -1,5 +1,4 @@
 -- What locate and repair return, made of its parts.
-use mathlib.Core.Bool.{true}
 use Prim.Native.Nat.{ℕ}
 use Rattle.columns.specs.declared.Columns.{Columns}
 use Rattle.frame.specs.declared.Shape.{Shape}

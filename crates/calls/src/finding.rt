@@ -29,13 +29,7 @@ fn sum_count(s: Shape) -> usize
 }
 
 // The register of the first sequences, `all` symbols one sequence after the other; its taps go to the buffer.
-fn shortest(
-    rows: usize,
-    lengths: [u16; 8],
-    all: usize,
-    symbols: &[u16],
-    taps: &mut [u16],
-) -> Found
+fn shortest(rows: usize, lengths: [u16; 8], all: usize, symbols: &[u16], taps: &mut [u16]) -> Found
     requires { ⌜ Findable rows lengths all (now symbols) (now taps) ⌝ }
     ensures { λ r. ⌜ Finds 257 (take rows lengths) (take all (now (symbols .entry))) (now (taps .entry)) (now (taps .exit)) r ⌝ }
 {

@@ -1,7 +1,9 @@
-// Locating: the frame is tested and read with its declared cells, its check sums are taken, and the columns are located from these.
+// Locating: the frame is tested, its check sums are taken, and the columns are located from these. Where nothing is declared, as it is most often, the frame is
+// looked at as it stands; else it is read with 0 in the declared cells.
 use crate::from_sums::locate_from;
 use crate::sound::counts_as_empty;
 use crate::states::refuse;
+use codec::sums::frame_sums;
 use erasures::cells::nothing;
 use erasures::reading::check_read;
 use erasures::reading::sums_read;
@@ -10,10 +12,64 @@ use job::Head;
 use job::Reply;
 use refusal::Checked;
 use refusal::Refusal;
-ghost use mathlib.Core.Path.{_≡_};
-ghost use Rattle.job.specs.Answers.{answeredOutcome};
-ghost use Rattle.job.specs.Calls.{locate, step};
-ghost use Rattle.job.specs.Job.{Arrays, beside, withFound};
+use shapes::symbols::check_frame;
+ghost use Rattle.calls.specs.Whole.{LocateDoes, LocatedRead, LocatedWhole};
+
+// A frame of which nothing is declared.
+fn locate_whole(
+    j: Head,
+    sums: &mut [u16; 512],
+    taps: &mut [u16; 65],
+    held: &mut [u64; 32],
+    declared: &[u64; 32],
+    frame: &[u16],
+) -> Answered
+    requires { ⌜ LocatedWhole j (now declared) ⌝ }
+    ensures { λ r. ⌜ LocateDoes j (now (sums .entry)) (now (taps .entry)) (now (held .entry)) (now (declared .entry)) (now (frame .entry)) r
+        (now (sums .exit)) (now (taps .exit)) (now (held .exit)) ⌝ }
+{
+    let checked = check_frame(j.shape, frame);
+    if let Checked::Refuse(r) = checked {
+        return refuse(j, r);
+    }
+    let summed = frame_sums(j.shape, frame);
+    let answer = locate_from(j.shape, true, declared, &summed, taps);
+    let reply = answer.reply;
+    if let Reply::Refused(_) = reply {
+        return answer;
+    }
+    *sums = summed;
+    *held = *declared;
+    answer
+}
+
+// A frame with declared cells.
+fn locate_read(
+    j: Head,
+    sums: &mut [u16; 512],
+    taps: &mut [u16; 65],
+    held: &mut [u64; 32],
+    declared: &[u64; 32],
+    frame: &[u16],
+) -> Answered
+    requires { ⌜ LocatedRead j (now declared) ⌝ }
+    ensures { λ r. ⌜ LocateDoes j (now (sums .entry)) (now (taps .entry)) (now (held .entry)) (now (declared .entry)) (now (frame .entry)) r
+        (now (sums .exit)) (now (taps .exit)) (now (held .exit)) ⌝ }
+{
+    let checked = check_read(j.shape, declared, frame);
+    if let Checked::Refuse(r) = checked {
+        return refuse(j, r);
+    }
+    let summed = sums_read(j.shape, declared, frame);
+    let answer = locate_from(j.shape, false, declared, &summed, taps);
+    let reply = answer.reply;
+    if let Reply::Refused(_) = reply {
+        return answer;
+    }
+    *sums = summed;
+    *held = *declared;
+    answer
+}
 
 // The arrays are written where nothing is refused.
 pub fn locate(
@@ -24,24 +80,14 @@ pub fn locate(
     declared: &[u64; 32],
     frame: &[u16],
 ) -> Answered
-    ensures { λ r. ⌜ ((a : Arrays) → answeredOutcome r (withFound a (now (sums .exit)) (now (taps .exit)) (now (held .exit))) (now (frame .entry))
-        ≡ step (beside j (withFound a (now (sums .entry)) (now (taps .entry)) (now (held .entry)))) (locate (now (declared .entry)) (now (frame .entry)))) ⌝ }
+    ensures { λ r. ⌜ LocateDoes j (now (sums .entry)) (now (taps .entry)) (now (held .entry)) (now (declared .entry)) (now (frame .entry)) r
+        (now (sums .exit)) (now (taps .exit)) (now (held .exit)) ⌝ }
 {
     if counts_as_empty(j) {
         return refuse(j, Refusal::Empty);
     }
-    let none = nothing(declared);
-    let checked = check_read(j.shape, none, declared, frame);
-    if let Checked::Refuse(r) = checked {
-        return refuse(j, r);
+    if nothing(declared) {
+        return locate_whole(j, sums, taps, held, declared, frame);
     }
-    let summed = sums_read(j.shape, none, declared, frame);
-    let answer = locate_from(j.shape, none, declared, &summed, taps);
-    let reply = answer.reply;
-    if let Reply::Refused(_) = reply {
-        return answer;
-    }
-    *sums = summed;
-    *held = *declared;
-    answer
+    locate_read(j, sums, taps, held, declared, frame)
 }

@@ -1,9 +1,11 @@
-// Repair: the rows of a frame completed at their marked and declared columns.
+// Repair: the rows of a frame completed at their marked and declared columns. Where the job holds no declared cells the frame is looked at as it stands.
 use crate::sound::counts_as_empty;
 use crate::states::is_located;
 use crate::states::length_of;
 use crate::states::mended;
 use crate::states::refuse;
+use codec::sums::frame_sums;
+use completion::mend::mend;
 use erasures::cells::is_declarable;
 use erasures::cells::left_reach;
 use erasures::cells::nothing;
@@ -15,12 +17,14 @@ use job::Answered;
 use job::Head;
 use refusal::Checked;
 use refusal::Refusal;
+use shapes::symbols::check_frame;
 ghost use mathlib.Core.Path.{_≡_};
-ghost use Rattle.calls.specs.Repairing.{Held};
+ghost use mathlib.Core.Bool.{true};
+ghost use Rattle.calls.specs.Whole.{RepairDoes, Repairable, RepairedWhole};
 ghost use Rattle.frame.specs.DeclaredCells.{declaredBy};
-ghost use Rattle.job.specs.Answers.{answeredOutcome};
-ghost use Rattle.job.specs.Calls.{repair, sameSums, step};
-ghost use Rattle.job.specs.Job.{Arrays, beside, declaredSound, withRead};
+ghost use Rattle.frame.specs.Shape.{isShape};
+ghost use Rattle.job.specs.Calls.{sameSums};
+ghost use Rattle.job.specs.Job.{declaredSound};
 
 // All sums are read, with no way out between, so that several are compared at once.
 fn same_sums(a: &[u16; 512], b: &[u16; 512]) -> bool
@@ -37,24 +41,62 @@ fn same_sums(a: &[u16; 512], b: &[u16; 512]) -> bool
     same
 }
 
-// With the cells that a job of length c holds a locate can have left it. Where these are none, its head being sound says so.
-fn cells_sound(s: Shape, none: bool, held: &[u64; 32], c: usize) -> bool
-    requires { ⌜ Held s none (now held) c ⌝ }
+// With the cells that a job of length c holds a locate can have left it.
+fn cells_sound(s: Shape, held: &[u64; 32], c: usize) -> bool
+    requires { ⌜ isShape s ≡ true ⌝ }
     ensures { λ r. ⌜ r ≡ declaredSound s (declaredBy (now (held .entry))) c ⌝ }
 {
-    if none {
-        return true;
-    }
     if !is_declarable(s, held) {
         return false;
     }
     left_reach(s, held, c)
 }
 
+// A frame of which nothing is declared. That a locate can have left the job, its head being sound says.
+fn repair_whole(j: Head, sums: &[u16; 512], held: &[u64; 32], frame: &mut [u16]) -> Answered
+    requires { ⌜ RepairedWhole j (now held) ⌝ }
+    ensures { λ r. ⌜ RepairDoes j (now (sums .entry)) (now (held .entry)) (now (frame .entry)) r (now (frame .exit)) ⌝ }
+{
+    let checked = check_frame(j.shape, frame);
+    if let Checked::Refuse(r) = checked {
+        return refuse(j, r);
+    }
+    let summed = frame_sums(j.shape, frame);
+    if !same_sums(&summed, sums) {
+        return refuse(j, Refusal::SumsDiffer);
+    }
+    let set = j.columns;
+    mend(j.shape, set, &summed, frame);
+    let phase = j.phase;
+    mended(j.shape, length_of(phase), set)
+}
+
+// A frame with declared cells.
+fn repair_read(j: Head, sums: &[u16; 512], held: &[u64; 32], frame: &mut [u16]) -> Answered
+    requires { ⌜ Repairable j ⌝ }
+    ensures { λ r. ⌜ RepairDoes j (now (sums .entry)) (now (held .entry)) (now (frame .entry)) r (now (frame .exit)) ⌝ }
+{
+    let phase = j.phase;
+    let c = length_of(phase);
+    if !cells_sound(j.shape, held, c) {
+        return refuse(j, Refusal::NotLocated);
+    }
+    let checked = check_read(j.shape, held, frame);
+    if let Checked::Refuse(r) = checked {
+        return refuse(j, r);
+    }
+    let summed = sums_read(j.shape, held, frame);
+    if !same_sums(&summed, sums) {
+        return refuse(j, Refusal::SumsDiffer);
+    }
+    let set = j.columns;
+    fill(j.shape, held, set, &summed, frame);
+    mended(j.shape, c, set)
+}
+
 // The sums and the declared cells are read, and the taps play no part: whatever they hold is left as it was.
 pub fn repair(j: Head, sums: &[u16; 512], held: &[u64; 32], frame: &mut [u16]) -> Answered
-    ensures { λ r. ⌜ ((a : Arrays) → answeredOutcome r (withRead a (now (sums .entry)) (now (held .entry))) (now (frame .exit))
-        ≡ step (beside j (withRead a (now (sums .entry)) (now (held .entry)))) (repair (now (frame .entry)))) ⌝ }
+    ensures { λ r. ⌜ RepairDoes j (now (sums .entry)) (now (held .entry)) (now (frame .entry)) r (now (frame .exit)) ⌝ }
 {
     if counts_as_empty(j) {
         return refuse(j, Refusal::Empty);
@@ -63,19 +105,8 @@ pub fn repair(j: Head, sums: &[u16; 512], held: &[u64; 32], frame: &mut [u16]) -
     if !is_located(phase) {
         return refuse(j, Refusal::NotLocated);
     }
-    let none = nothing(held);
-    if !cells_sound(j.shape, none, held, length_of(phase)) {
-        return refuse(j, Refusal::NotLocated);
+    if nothing(held) {
+        return repair_whole(j, sums, held, frame);
     }
-    let checked = check_read(j.shape, none, held, frame);
-    if let Checked::Refuse(r) = checked {
-        return refuse(j, r);
-    }
-    let summed = sums_read(j.shape, none, held, frame);
-    if !same_sums(&summed, sums) {
-        return refuse(j, Refusal::SumsDiffer);
-    }
-    let set = j.columns;
-    fill(j.shape, none, held, set, &summed, frame);
-    mended(j.shape, length_of(phase), set)
+    repair_read(j, sums, held, frame)
 }

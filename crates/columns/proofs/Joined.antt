@@ -1,7 +1,7 @@
 -- The columns of either of two sets: its marks, its four words, and its size by inclusion and exclusion; two sets are apart where the sizes add up.
 use mathlib.Core.Path.{_≡_, refl, sym, ap, ap₂, _∙_, subst⁻¹}
 use mathlib.Core.Bool.{Bool, true, false, _&&_, _||_, or-true, or-false, false≢true}
-use mathlib.Core.List.{List, [], _∷_}
+use mathlib.Core.List.{[], _∷_}
 use mathlib.Core.Logic.{_⊎_, inl, inr}
 use Prim.Native.Nat.{ℕ, zero, suc, _+_, _/_, _%_, _^_, _≤_, _<_, zero-le}
 use native.Mathlib.Decide.{decLt}
@@ -11,7 +11,7 @@ use lib.Dec.{lit<}
 use lib.ListN.{length, getD, List·getD-eq-default}
 use Rattle.columns.specs.declared.Columns.{Columns}
 use Rattle.columns.specs.Listed.{count}
-use Rattle.columns.specs.Columns.{bit, has, columnsOf, members, either, Sound}
+use Rattle.columns.specs.Columns.{bit, has, members, either, Sound}
 use Rattle.columns.proofs.Bits.{bit-or}
 use Rattle.columns.proofs.Listing.{by-test, count-zero, count-pass, count-fail, count-skip, count-lt, length-listed}
 use Rattle.columns.proofs.Marks.{has-columnsOf, has-past, columnsOf-sound, columnsOf-ext, columnsOf-has, members-columnsOf}

@@ -1,25 +1,20 @@
 -- A frame that can be filled: as read it is filled row by row, which leaves what filling the frame itself leaves.
-use mathlib.Core.Path.{_≡_, sym, ap, subst, _∙_}
-use mathlib.Core.Bool.{Bool, true, false, _||_}
+use mathlib.Core.Path.{_≡_, sym, ap, _∙_}
+use mathlib.Core.Bool.{Bool, _||_}
 use mathlib.Core.List.{List}
-use Prim.Native.Nat.{ℕ, _≤_, _<_}
-use native.Mathlib.Omega.{arith}
+use Prim.Native.Nat.{ℕ, _<_}
 use lib.Dec.{ltb}
 use lib.ListN.{length, getD}
-use borrow.Author.Tests.{ltb-true, leb-true}
-use Rattle.columns.specs.Columns.{has, members}
+use borrow.Author.Tests.{ltb-true}
 use Rattle.columns.specs.declared.Columns.{Columns}
-use Rattle.completion.specs.Mendable.{MendableFrame}
-use Rattle.decoding.specs.Remaining.{leftReach, mended}
+use Rattle.decoding.specs.Remaining.{mended}
 use Rattle.decoding.proofs.MendedFrame.{Read, read-facts}
 use Rattle.decoding.proofs.SameRead.{mended-read}
 use Rattle.erasures.specs.Fillable.{Fillable, FillableRows}
-use Rattle.frame.specs.DeclaredCells.{Declared, asRead, checksLeft, declaredBy, nothingDeclared, undeclaredBelow}
-use Rattle.frame.specs.Frame.{cell, heldSums}
-use Rattle.frame.specs.Shape.{checksOf}
+use Rattle.frame.specs.DeclaredCells.{Declared, asRead, declaredBy, undeclaredBelow}
+use Rattle.frame.specs.Frame.{cell}
 use Rattle.frame.specs.declared.Shape.{Shape}
 use Rattle.frame.proofs.Declarable.{good-cells}
-use Rattle.frame.proofs.NothingDeclared.{read-as-it-stands}
 use Rattle.frame.proofs.ReadFrames.{length-read}
 use Rattle.frame.proofs.ReadTests.{symbols-read}
 use Rattle.lists.proofs.Tabulated.{every-at}

@@ -1,4 +1,5 @@
--- A copy of a frame with its declared cells cleared: its first part, as it is lent, is the frame as read, and its cells tell whether every undeclared cell holds a symbol.
+-- A copy of a frame with its declared cells cleared: its first part, as it is lent, is the frame as read, and its cells tell whether every undeclared
+-- cell holds a symbol.
 use mathlib.Core.Path.{_≡_, sym, ap, _∙_}
 use mathlib.Core.Bool.{Bool}
 use mathlib.Core.List.{List}

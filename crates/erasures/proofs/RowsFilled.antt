@@ -1,5 +1,5 @@
--- The rows of a frame as read completed one after the other, each at its marked and declared columns: the sums of the next row begin where those of the rows before end,
--- and each row can be mended.
+-- The rows of a frame as read completed one after the other, each at its marked and declared columns: the sums of the next row begin where those of
+-- the rows before end, and each row can be mended.
 use mathlib.Core.Path.{_≡_, sym, ap, ap₂, subst⁻¹, _∙_}
 use mathlib.Core.Bool.{true}
 use mathlib.Core.List.{List}
@@ -8,7 +8,6 @@ use Prim.Native.Nat.{ℕ, _+_, _-_, _*_, _≤_, _<_}
 use native.Mathlib.Decide.{decLt}
 use native.Mathlib.Numerals.{add-one}
 use native.Mathlib.Omega.{arith}
-use lib.Dec.{leb}
 use lib.ListN.{length, getD, take, drop}
 use borrow.Author.Tests.{leb-true}
 use borrow.Rule.Slice.PartMut.{midOf, putMid}
@@ -19,8 +18,8 @@ use Rattle.completion.specs.Mendable.{MendableRow}
 use Rattle.decoding.specs.Remaining.{leftReach, mended}
 use Rattle.erasures.specs.Fillable.{FillableRows}
 use Rattle.frame.specs.Completion.{completed}
-use Rattle.frame.specs.DeclaredCells.{Declared, checksLeft, declarable, declaredBy}
-use Rattle.frame.specs.Frame.{row, checkSums, rowSums, heldSums, sumsBefore}
+use Rattle.frame.specs.DeclaredCells.{Declared, checksLeft, declaredBy}
+use Rattle.frame.specs.Frame.{row, checkSums, rowSums, sumsBefore}
 use Rattle.frame.specs.Shape.{checksOf}
 use Rattle.frame.specs.declared.Shape.{Shape}
 use Rattle.frame.proofs.CompletionLaws.{length-completed}

@@ -1,5 +1,5 @@
--- What filling a frame at its marked and declared columns asks: that the cells could be declared, that the marked columns are in the frame and no more than any row
--- has checks left, and that the check sums are those of the frame as read (SPECIFICATION.md, "Declared cells").
+-- What filling a frame at its marked and declared columns asks: that the cells could be declared, that the marked columns are in the frame and no more
+-- than any row has checks left, and that the check sums are those of the frame as read (SPECIFICATION.md, "Declared cells").
 use mathlib.Core.Path.{_≡_}
 use mathlib.Core.Bool.{true}
 use mathlib.Core.List.{List}

@@ -8,6 +8,6 @@ use Rattle.frame.specs.Shape.{isShape}
 use Rattle.frame.specs.declared.Shape.{Shape}
 
 -- a frame is read: it is as long as its shape says
-pub record Readable (s : Shape) (frame : List ℕ) : Type 0 where
+pub record ReadableFrame (s : Shape) (frame : List ℕ) : Type 0 where
   pub shape : isShape s ≡ true
   pub whole : length frame ≡ s .rows * s .columns

@@ -34,15 +34,9 @@ fn fill_rows(s: Shape, declared: &[u64; 32], marked: Columns, sums: &[u16], fram
     }
 }
 
-// Each row completed at its marked and declared columns, given the check sums that are held of the frame as read. Mending adds to what a cell holds what it reads
-// off the sums, so the declared cells are cleared first.
-pub fn fill(
-    s: Shape,
-    declared: &[u64; 32],
-    marked: Columns,
-    sums: &[u16; 512],
-    frame: &mut [u16],
-)
+// Each row completed at its marked and declared columns, given the check sums that are held of the frame as read. Mending adds what it reads off the
+// sums to what a cell holds, so the declared cells are cleared first.
+pub fn fill(s: Shape, declared: &[u64; 32], marked: Columns, sums: &[u16; 512], frame: &mut [u16])
     requires { ⌜ Fillable s (now declared) marked (now sums) (now frame) ⌝ }
     ensures { λ r. ⌜ now (frame .exit) ≡ mended s (declaredBy (now (declared .entry))) marked (now (frame .entry)) ⌝ }
 {

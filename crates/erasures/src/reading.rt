@@ -12,7 +12,7 @@ ghost use mathlib.Core.Path.{_≡_};
 ghost use mathlib.Core.Bool.{true};
 ghost use Prim.Native.Nat.{_≤_};
 ghost use lib.ListN.{length, take};
-ghost use Rattle.erasures.specs.Readable.{Readable};
+ghost use Rattle.erasures.specs.Readable.{ReadableFrame};
 ghost use Rattle.frame.specs.Completion.{cleared};
 ghost use Rattle.frame.specs.DeclaredCells.{asRead, declaredBy, readTests};
 ghost use Rattle.frame.specs.Frame.{heldSums};
@@ -33,7 +33,7 @@ fn clear(set: Columns, row: &mut [u16])
 
 // 0 in the declared cells. Each row is lent on as its own part of the frame.
 pub fn clear_rows(s: Shape, declared: &[u64; 32], frame: &mut [u16])
-    requires { ⌜ Readable s (now frame) ⌝ }
+    requires { ⌜ ReadableFrame s (now frame) ⌝ }
     ensures { λ r. ⌜ now (frame .exit) ≡ asRead s (declaredBy (now (declared .entry))) (now (frame .entry)) ⌝ }
 {
     let rows = s.rows;
@@ -63,7 +63,7 @@ fn copied(frame: &[u16]) -> [u16; 2048]
 
 // A copy of the frame with 0 in the declared cells.
 fn as_read(s: Shape, declared: &[u64; 32], frame: &[u16]) -> [u16; 2048]
-    requires { ⌜ Readable s (now frame) ⌝ }
+    requires { ⌜ ReadableFrame s (now frame) ⌝ }
     ensures { λ r. ⌜ take (length (now (frame .entry))) r ≡ asRead s (declaredBy (now (declared .entry))) (now (frame .entry)) ⌝ }
 {
     let n = frame.len();
@@ -93,7 +93,7 @@ pub fn check_read(s: Shape, declared: &[u64; 32], frame: &[u16]) -> Checked
 
 // The check sums of the frame as read, row after row, and zeros after them.
 pub fn sums_read(s: Shape, declared: &[u64; 32], frame: &[u16]) -> [u16; 512]
-    requires { ⌜ Readable s (now frame) ⌝ }
+    requires { ⌜ ReadableFrame s (now frame) ⌝ }
     ensures { λ r. ⌜ r ≡ heldSums s (asRead s (declaredBy (now (declared .entry))) (now (frame .entry))) ⌝ }
 {
     let n = frame.len();

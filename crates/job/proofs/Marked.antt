@@ -13,7 +13,7 @@ use Rattle.columns.proofs.Marks.{has-past}
 use Rattle.decoding.specs.Locating.{rowsReach}
 use Rattle.frame.specs.Shape.{checksOf, isShape}
 use Rattle.frame.specs.declared.Shape.{Shape}
-use Rattle.job.specs.Job.{findingsSound, countsEmpty, isEmptyPhase, isLocatedPhase, phaseSound, headSound}
+use Rattle.job.specs.Job.{findingsSound, countsEmpty, isEmptyPhase, isLocatedPhase, lengthOf, phaseSound, headSound}
 use Rattle.job.specs.declared.Head.{Head}
 use Rattle.job.specs.declared.Phase.{Phase}
 use Rattle.job.specs.declared.Phase.the-variants.{Empty, Shaped, Located}
@@ -54,3 +54,26 @@ located-marked j full located four = of-phase (j .phase) full located
     of-phase Shaped e l = absurd (false≢true l)
     of-phase (Located c a) e l =
         findings-marked (j .shape) (j .columns) four c a (and-eq-true-iff (isShape (j .shape)) (findingsSound (j .shape) (j .columns) c a) .0 (no-fail _ e) .1)
+
+-- its length is that of its marks, and every row has as many checks
+located-findings : (j : Head) → countsEmpty j ≡ false → isLocatedPhase (j .phase) ≡ true
+    → (length (members (j .columns)) ≡ lengthOf (j .phase)) × (rowsReach (j .shape) (lengthOf (j .phase)) ≡ true)
+unfolding countsEmpty headSound phaseSound findingsSound
+located-findings j full located = of-phase (j .phase) full located
+  where
+    of-phase : (p : Phase) → (isEmptyPhase p || not (phaseSound p (j .shape) (j .columns))) ≡ false → isLocatedPhase p ≡ true
+        → (length (members (j .columns)) ≡ lengthOf p) × (rowsReach (j .shape) (lengthOf p) ≡ true)
+    of-phase Empty e l = absurd (false≢true l)
+    of-phase Shaped e l = absurd (false≢true l)
+    of-phase (Located c a) e l =
+        let (shape, findings) = and-eq-true-iff (isShape (j .shape)) (findingsSound (j .shape) (j .columns) c a) .0 (no-fail _ e) in
+        let (alone, rest) = and-eq-true-iff a _ .0 findings in
+        let (within, more) = and-eq-true-iff (every 256 (λ i. not (has (j .columns) i) || ltb i (j .shape .columns))) _ .0 rest in
+        let (count, reach) = and-eq-true-iff (eqb (length (members (j .columns))) c) _ .0 more in
+        (eqb-true _ c count, reach)
+
+pub located-size : (j : Head) → countsEmpty j ≡ false → isLocatedPhase (j .phase) ≡ true → length (members (j .columns)) ≡ lengthOf (j .phase)
+located-size j full located = located-findings j full located .0
+
+pub located-reach : (j : Head) → countsEmpty j ≡ false → isLocatedPhase (j .phase) ≡ true → rowsReach (j .shape) (lengthOf (j .phase)) ≡ true
+located-reach j full located = located-findings j full located .1

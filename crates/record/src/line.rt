@@ -43,14 +43,7 @@ fn frame_line(out: &mut [u8], at: usize, n: u16, checks: &[u16], symbols: &[u16]
     let mut taps = [0u16; 65];
     let mut held = [0u64; 32];
     let none = [0u64; 32];
-    let located = locate(
-        shaped.head,
-        &mut sums,
-        &mut taps,
-        &mut held,
-        &none,
-        symbols,
-    );
+    let located = locate(shaped.head, &mut sums, &mut taps, &mut held, &none, symbols);
     let reply = located.reply;
     reply_line(out, at, reply, located.columns)
 }

@@ -1,7 +1,8 @@
-//! Frames by their definition: check sums from powers of 3, legal frames, distance by counting, and
-//! the legal frames that differ in given columns by solving for the symbols there.
+//! Frames by their definition: check sums from powers of 3, legal frames, frames as they are read,
+//! distance by counting, and the legal frames that differ in given columns by solving for the symbols
+//! there.
 
-use common::interface::Marks;
+use common::interface::{Declared, Marks, NOTHING};
 
 use super::elimination::System;
 
@@ -21,6 +22,15 @@ impl Shape {
         self.checks.iter().copied().min().map_or(0, usize::from)
     }
 
+    /// The smallest number of checks of a row less its declared cells.
+    pub fn least_left(&self, declared: &Declared) -> usize {
+        let left = |(h, &checks): (usize, &u16)| {
+            usize::from(checks).saturating_sub(cells_of(declared, h).len())
+        };
+        let rows = self.checks.iter().enumerate();
+        rows.map(left).min().unwrap_or(0)
+    }
+
     fn rows<'a>(&'a self, frame: &'a [u16]) -> impl Iterator<Item = (&'a [u16], usize)> {
         frame
             .chunks(self.columns)
@@ -29,7 +39,7 @@ impl Shape {
 }
 
 /// The powers 3^(i·j) modulo 257 of the columns i below n.
-fn weights(n: usize, j: usize) -> Vec<u64> {
+pub fn weights(n: usize, j: usize) -> Vec<u64> {
     let times = |base: u64, count: usize| (0..count).fold(1, |value, _| value * base % 257);
     let step = times(3, j);
     std::iter::successors(Some(1), |weight| Some(weight * step % 257))
@@ -54,17 +64,21 @@ pub fn check_sums(shape: &Shape, frame: &[u16]) -> Vec<u16> {
         .collect()
 }
 
-pub fn is_well_formed(shape: &Shape, frame: &[u16]) -> bool {
-    frame.len() == shape.size() && frame.iter().all(|&symbol| symbol < 257)
-}
-
 pub fn is_legal(shape: &Shape, frame: &[u16]) -> bool {
-    is_well_formed(shape, frame) && check_sums(shape, frame).iter().all(|&sum| sum == 0)
+    frame.len() == shape.size()
+        && frame.iter().all(|&symbol| symbol < 257)
+        && check_sums(shape, frame).iter().all(|&sum| sum == 0)
 }
 
-/// The columns in which any row differs.
-pub fn differing(shape: &Shape, f: &[u16], g: &[u16]) -> Vec<usize> {
-    let differs = |i: &usize| (*i..f.len()).step_by(shape.columns).any(|k| f[k] != g[k]);
+/// The columns in which any row differs in a cell that is not declared.
+pub fn differing(shape: &Shape, declared: &Declared, f: &[u16], g: &[u16]) -> Vec<usize> {
+    let cells: Vec<_> = (0..8).map(|h| cells_of(declared, h)).collect();
+    let differs = |i: &usize| {
+        (0..shape.checks.len()).any(|h| {
+            let k = h * shape.columns + i;
+            !cells[h].contains(i) && f[k] != g[k]
+        })
+    };
     (0..shape.columns).filter(differs).collect()
 }
 
@@ -80,6 +94,41 @@ pub fn columns_of(marks: &Marks) -> Vec<usize> {
     (0..256)
         .filter(|i| marks[i / 64] >> (i % 64) & 1 == 1)
         .collect()
+}
+
+/// The declared columns of the row at place h.
+pub fn cells_of(declared: &Declared, h: usize) -> Vec<usize> {
+    columns_of(declared[4 * h..].first_chunk().expect("one of eight rows"))
+}
+
+/// The words that declare the columns of each row.
+pub fn declaring(rows: &[Vec<usize>]) -> Declared {
+    let mut declared = NOTHING;
+    for (words, columns) in declared.chunks_mut(4).zip(rows) {
+        words.copy_from_slice(&marks_of(columns));
+    }
+    declared
+}
+
+/// The frame as it is read: 0 in the declared cells.
+pub fn as_read(shape: &Shape, declared: &Declared, frame: &[u16]) -> Vec<u16> {
+    let mut read = frame.to_vec();
+    for (h, row) in read.chunks_mut(shape.columns).enumerate() {
+        for i in cells_of(declared, h) {
+            if let Some(cell) = row.get_mut(i) {
+                *cell = 0;
+            }
+        }
+    }
+    read
+}
+
+/// The marked and the declared columns of the row at place h.
+pub fn open_columns(declared: &Declared, h: usize, columns: &[usize]) -> Vec<usize> {
+    let mut open = [columns, &cells_of(declared, h)].concat();
+    open.sort();
+    open.dedup();
+    open
 }
 
 /// The row that agrees with the given one outside the columns and whose check sums 1 .. count are
@@ -106,18 +155,29 @@ pub fn completed(row: &[u16], columns: &[usize], count: usize) -> Option<Vec<u16
     Some(completed)
 }
 
-/// The legal frame that agrees with the given one outside the columns, if there is one. No row has
-/// fewer checks than there are columns.
-fn legal_at_columns(shape: &Shape, frame: &[u16], columns: &[usize]) -> Option<Vec<u16>> {
+/// The legal frame that agrees with the given one outside the columns and the declared cells, if
+/// there is one. No row has fewer checks left than there are columns.
+pub fn legal_at_columns(
+    shape: &Shape,
+    declared: &Declared,
+    frame: &[u16],
+    columns: &[usize],
+) -> Option<Vec<u16>> {
     let rows: Option<Vec<_>> = shape
         .rows(frame)
-        .map(|(row, checks)| completed(row, columns, checks))
+        .enumerate()
+        .map(|(h, (row, checks))| completed(row, &open_columns(declared, h, columns), checks))
         .collect();
     Some(rows?.concat())
 }
 
-/// All legal frames at the distance, by trying every set of columns. No row has fewer checks.
-pub fn legal_at(shape: &Shape, frame: &[u16], distance: usize) -> Vec<Vec<u16>> {
+/// All legal frames at the distance, by trying every set of columns. No row has fewer checks left.
+pub fn legal_at(
+    shape: &Shape,
+    declared: &Declared,
+    frame: &[u16],
+    distance: usize,
+) -> Vec<Vec<u16>> {
     let sets = (0..1u32 << shape.columns).filter(|set| set.count_ones() as usize == distance);
     let columns = sets.map(|set| {
         (0..shape.columns)
@@ -125,7 +185,7 @@ pub fn legal_at(shape: &Shape, frame: &[u16], distance: usize) -> Vec<Vec<u16>> 
             .collect::<Vec<_>>()
     });
     columns
-        .filter_map(|columns| legal_at_columns(shape, frame, &columns))
-        .filter(|legal| differing(shape, legal, frame).len() == distance)
+        .filter_map(|columns| legal_at_columns(shape, declared, frame, &columns))
+        .filter(|legal| differing(shape, declared, legal, frame).len() == distance)
         .collect()
 }

@@ -3,14 +3,15 @@
 //! which are defined by Algorithm 4.
 
 mod elimination;
+pub mod enumeration;
 pub mod frames;
 pub mod registers;
 
 use std::sync::LazyLock;
 
-use common::interface::{Answer, Calls, Head, Job, LOCATED, Register, SHAPED};
+use common::interface::{Answer, Calls, Declared, Head, Job, LOCATED, Register, SHAPED};
 
-use frames::{Shape, columns_of, marks_of};
+use frames::{Shape, as_read, cells_of, columns_of, marks_of, open_columns};
 
 pub struct Independent;
 
@@ -95,16 +96,49 @@ fn held_sums(shape: &Shape, frame: &[u16]) -> [u16; 512] {
     held
 }
 
-/// Each row completed at the columns, which as many check sums determine.
-fn mended(shape: &Shape, frame: &[u16], columns: &[usize]) -> Vec<u16> {
-    let complete =
-        |row| frames::completed(row, columns, columns.len()).expect("as many sums as columns");
-    frame.chunks(shape.columns).flat_map(complete).collect()
+/// Each row completed at its marked and declared columns, which as many check sums determine.
+fn mended(shape: &Shape, declared: &Declared, frame: &[u16], columns: &[usize]) -> Vec<u16> {
+    let complete = |(h, row)| {
+        let open = open_columns(declared, h, columns);
+        frames::completed(row, &open, open.len()).expect("as many sums as columns")
+    };
+    let rows = frame.chunks(shape.columns).enumerate();
+    rows.flat_map(complete).collect()
 }
 
-/// The register of a frame's check sums, if it is alone.
-pub fn register_of(shape: &Shape, frame: &[u16]) -> Option<Vec<u64>> {
-    let sequences = registers::split(&shape.checks, &frames::check_sums(shape, frame));
+/// γ_0·S_(j+ε) + .. + γ_ε·S_j for each j from 1, γ_0 .. γ_ε being the coefficients of the product
+/// of (1 − 3^i·x) over the columns i.
+fn remaining(sums: &[u64], columns: &[usize]) -> Vec<u64> {
+    let gamma = columns.iter().fold(vec![1], |product, &i| {
+        let factor = (0..i).fold(256, |power, _| power * 3 % 257);
+        let moved = std::iter::once(&0).chain(&product);
+        let kept = product.iter().chain(&[0]);
+        moved
+            .zip(kept)
+            .map(|(low, high)| (high + factor * low) % 257)
+            .collect::<Vec<u64>>()
+    });
+    let product = |window: &[u64]| {
+        gamma
+            .iter()
+            .zip(window.iter().rev())
+            .map(|(g, s)| g * s)
+            .sum::<u64>()
+    };
+    sums.windows(gamma.len())
+        .map(|window| product(window) % 257)
+        .collect()
+}
+
+/// The register of what remains of a frame's check sums, if it is alone.
+pub fn register_of(shape: &Shape, declared: &Declared, frame: &[u16]) -> Option<Vec<u64>> {
+    let sums = frames::check_sums(shape, &as_read(shape, declared, frame));
+    let rows = registers::split(&shape.checks, &sums)
+        .into_iter()
+        .enumerate();
+    let sequences: Vec<_> = rows
+        .map(|(h, sums)| remaining(&sums, &cells_of(declared, h)))
+        .collect();
     registers::shortest(257, &sequences).1
 }
 
@@ -124,10 +158,29 @@ fn named(columns: usize, taps: &[u64]) -> Vec<usize> {
         .collect()
 }
 
-fn frame_refusal(shape: &Shape, frame: &[u16]) -> u32 {
+/// More declared cells than checks in a row, or a mark past the last column or row.
+fn are_bad_cells(shape: &Shape, declared: &Declared) -> bool {
+    (0..8).any(|h| {
+        let cells = cells_of(declared, h);
+        match shape.checks.get(h) {
+            Some(&checks) => {
+                cells.len() > usize::from(checks) || cells.iter().any(|&i| i >= shape.columns)
+            }
+            None => !cells.is_empty(),
+        }
+    })
+}
+
+/// That of a frame with the cells that are declared of it: where it is 0, the frame is well-formed.
+pub fn frame_refusal(shape: &Shape, declared: &Declared, frame: &[u16]) -> u32 {
     first(&[
         (7, &|| frame.len() != shape.size()),
-        (4, &|| frame.iter().any(|&symbol| symbol >= 257)),
+        (31, &|| are_bad_cells(shape, declared)),
+        (4, &|| {
+            as_read(shape, declared, frame)
+                .iter()
+                .any(|&symbol| symbol >= 257)
+        }),
     ])
 }
 
@@ -184,44 +237,35 @@ impl Calls for Independent {
         0
     }
 
-    fn locate(&self, job: &mut Job, frame: &[u16]) -> Answer {
+    fn locate(&self, job: &mut Job, declared: &Declared, frame: &[u16]) -> Answer {
         let Some(shape) = shape_of(&job.head) else {
             return Answer::refused(21);
         };
-        let refusal = frame_refusal(&shape, frame);
+        let refusal = frame_refusal(&shape, declared, frame);
         if refusal != 0 {
             return Answer::refused(refusal);
         }
         job.head = job.head.reshaped();
-        let Some(taps) = register_of(&shape, frame) else {
+        let Some(taps) = register_of(&shape, declared, frame) else {
             return Answer::refused(24);
         };
         let c = taps.len() - 1;
-        if c > shape.least_checks() {
+        if c > shape.least_left(declared) {
             return Answer::refused(25);
         }
         let columns = named(shape.columns, &taps);
-        if columns.len() != c || !frames::is_legal(&shape, &mended(&shape, frame, &columns)) {
+        if columns.len() != c
+            || frames::legal_at_columns(&shape, declared, frame, &columns).is_none()
+        {
             return Answer::refused(26);
         }
-        let marks = marks_of(&columns);
-        job.head = Head {
-            phase: LOCATED,
-            alone: 1,
-            length: c as u64,
-            marks,
-            ..job.head
-        };
-        job.sums = held_sums(&shape, frame);
+        job.declared = *declared;
+        job.sums = held_sums(&shape, &as_read(&shape, declared, frame));
         job.taps = [0; 65];
         for (entry, tap) in job.taps.iter_mut().zip(taps) {
             *entry = tap as u16;
         }
-        Answer {
-            refusal: 0,
-            count: c as u64,
-            marks,
-        }
+        job.head.located(c, marks_of(&columns))
     }
 
     fn repair(&self, job: &mut Job, frame: &mut [u16]) -> Answer {
@@ -234,17 +278,20 @@ impl Calls for Independent {
         let Some(shape) = shape_of(&job.head) else {
             return Answer::refused(21);
         };
-        if phase != LOCATED {
+        let declared = &job.declared;
+        let holds_cells =
+            || !are_bad_cells(&shape, declared) && shape.least_left(declared) as u64 >= length;
+        if phase != LOCATED || !holds_cells() {
             return Answer::refused(22);
         }
-        let refusal = frame_refusal(&shape, frame);
+        let refusal = frame_refusal(&shape, declared, frame);
         if refusal != 0 {
             return Answer::refused(refusal);
         }
-        if held_sums(&shape, frame) != job.sums {
+        if held_sums(&shape, &as_read(&shape, declared, frame)) != job.sums {
             return Answer::refused(23);
         }
-        frame.copy_from_slice(&mended(&shape, frame, &columns_of(&marks)));
+        frame.copy_from_slice(&mended(&shape, declared, frame, &columns_of(&marks)));
         job.head = job.head.reshaped();
         Answer {
             refusal: 0,

@@ -1,6 +1,6 @@
 //! The marked examples (SPECIFICATION.md, "Examples"), with the answers that stand there.
 
-use common::interface::Marks;
+use common::interface::{Marks, NOTHING};
 
 use crate::judge::Judge;
 
@@ -99,7 +99,7 @@ pub fn run(judge: &mut Judge) {
         }
         let mut job = judge.empty();
         judge.shape(&mut job, example.columns, example.checks);
-        let answer = judge.locate(&mut job, &frame);
+        let answer = judge.locate(&mut job, &NOTHING, &frame);
         match example.located {
             Err(number) => judge.compare(
                 "the refusal of an example",

@@ -1,7 +1,7 @@
 //! Encode, locate and repair of frames of every size, and the refusals of malformed ones. At small
 //! sizes every set of columns is tried for legal frames.
 
-use common::interface::{Answer, Job};
+use common::interface::{Answer, Declared, Job, NOTHING};
 use common::random::Random;
 
 use crate::independent::frames::{Shape, differing, is_legal, legal_at};
@@ -48,7 +48,7 @@ fn frames(judge: &mut Judge, random: &mut Random, shape: &Shape) {
     let most = shape.columns.min(shape.least_checks() + 1);
     for count in [0, 1, shape.least_checks() / 2, random.below(most + 1)] {
         let received = damaged(random, shape, &sent, count);
-        let (answer, mended) = mend(judge, &job, shape, &received);
+        let (answer, mended) = mend(judge, &job, shape, &NOTHING, &received);
         if 2 * count <= shape.least_checks() {
             judge.compare(
                 "the sent frame comes back",
@@ -58,7 +58,7 @@ fn frames(judge: &mut Judge, random: &mut Random, shape: &Shape) {
             );
         }
     }
-    mend(judge, &job, shape, &data);
+    mend(judge, &job, shape, &NOTHING, &data);
     refusals(judge, random, &job, shape, &sent);
 }
 
@@ -72,12 +72,18 @@ fn junk_checks(random: &mut Random, shape: &Shape, data: &[u16]) -> Vec<u16> {
 }
 
 /// Locates and repairs a well-formed frame, and holds what comes to the definitions.
-fn mend(judge: &mut Judge, shaped: &Job, shape: &Shape, received: &[u16]) -> (Answer, Vec<u16>) {
+pub fn mend(
+    judge: &mut Judge,
+    shaped: &Job,
+    shape: &Shape,
+    declared: &Declared,
+    received: &[u16],
+) -> (Answer, Vec<u16>) {
     let mut job = *shaped;
-    let located = judge.locate(&mut job, received);
+    let located = judge.locate(&mut job, declared, received);
     let (answer, mended) = judge.repair(&mut job, received);
     if shape.columns <= 7 {
-        exhaustive(judge, shape, received, &located, &mended);
+        exhaustive(judge, shape, declared, received, &located, &mended);
     }
     (answer, mended)
 }
@@ -86,19 +92,20 @@ fn mend(judge: &mut Judge, shaped: &Job, shape: &Shape, received: &[u16]) -> (An
 pub fn exhaustive(
     judge: &mut Judge,
     shape: &Shape,
+    declared: &Declared,
     received: &[u16],
     located: &Answer,
     mended: &[u16],
 ) {
-    let Some(taps) = register_of(shape, received) else {
+    let Some(taps) = register_of(shape, declared, received) else {
         return;
     };
     let c = taps.len() - 1;
-    if c > shape.least_checks() {
+    if c > shape.least_left(declared) {
         return;
     }
-    let nearest = legal_at(shape, received, c);
-    let inputs = (shape, received);
+    let nearest = legal_at(shape, declared, received, c);
+    let inputs = (shape, declared, received);
     judge.compare(
         "refused exactly without a legal frame",
         &inputs,
@@ -109,7 +116,7 @@ pub fn exhaustive(
         return;
     }
     let nearer: usize = (0..c)
-        .map(|distance| legal_at(shape, received, distance).len())
+        .map(|distance| legal_at(shape, declared, received, distance).len())
         .sum();
     judge.compare("legal frames that are nearer", &inputs, 0, nearer);
     judge.compare(
@@ -122,18 +129,18 @@ pub fn exhaustive(
         "the number of columns",
         &inputs,
         c,
-        differing(shape, received, mended).len(),
+        differing(shape, declared, received, mended).len(),
     );
 }
 
 fn refusals(judge: &mut Judge, random: &mut Random, shaped: &Job, shape: &Shape, sent: &[u16]) {
     let mut located = *shaped;
-    judge.locate(&mut located, sent);
+    judge.locate(&mut located, &NOTHING, sent);
     for _ in 0..4 {
         let bad = malformed(random, shape, sent);
         for job in [FILLED, *shaped, located] {
             judge.encode(&job, &bad);
-            judge.locate(&mut { job }, &bad);
+            judge.locate(&mut { job }, &NOTHING, &bad);
             judge.repair(&mut { job }, &bad);
         }
     }
@@ -150,7 +157,7 @@ fn every_column(judge: &mut Judge, random: &mut Random) {
         let mut received = sent.clone();
         random.damage(&mut received, 256, &[i]);
         let mut job = shaped(&shape);
-        judge.locate(&mut job, &received);
+        judge.locate(&mut job, &NOTHING, &received);
         let (_, mended) = judge.repair(&mut job, &received);
         judge.compare("the sent frame comes back", &i, &sent, &mended);
     }

@@ -26,7 +26,7 @@ unsafe extern "C" {
     static tomkhadi_layout: [usize; RUST.len()];
 }
 
-const RUST: [usize; 32] = [
+const RUST: [usize; 33] = [
     size_of::<Register>(),
     align_of::<Register>(),
     offset_of!(Register, refusal),
@@ -44,6 +44,7 @@ const RUST: [usize; 32] = [
     size_of::<Job>(),
     align_of::<Job>(),
     offset_of!(Job, head),
+    offset_of!(Job, declared),
     offset_of!(Job, sums),
     offset_of!(Job, taps),
     size_of::<Answer>(),

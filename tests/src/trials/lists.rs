@@ -1,16 +1,22 @@
 //! Demand 3 on random lists of calls, each on the job that the call before it left. What is
 //! promised is checked from the calls alone; nothing here reads a job.
 
-use common::interface::Job;
+use common::interface::{Declared, Job};
 use common::random::Random;
 
-use crate::independent::frames::{Shape, differing, is_legal, is_well_formed, marks_of};
+use crate::independent::frame_refusal;
+use crate::independent::frames::{
+    Shape, as_read, cells_of, completed, differing, is_legal, marks_of,
+};
 use crate::judge::Judge;
-use crate::trials::{damaged, frames, malformed, some_legal_frame, some_shape};
+use crate::trials::{
+    bad_cells, damaged, frames, malformed, refilled, some_cells, some_legal_frame, some_shape,
+};
 
-/// A located frame that nothing but encodes and refused calls followed, and the frame that was
-/// sent where so few columns were damaged that it must come back.
+/// A located frame that nothing but encodes and refused calls followed, its declared cells, and the
+/// frame that was sent where so few columns were damaged that it must come back.
 struct Pending {
+    declared: Declared,
     received: Vec<u16>,
     sent: Option<Vec<u16>>,
 }
@@ -92,19 +98,24 @@ impl List<'_, '_> {
     fn locate(&mut self) {
         let shape = self.shape_in_force();
         let sent = some_legal_frame(self.random, &shape);
-        let most = shape.columns.min(shape.least_checks() + 1);
-        let count = self.random.below(most + 1);
+        let mut declared = some_cells(self.random, &shape);
+        let left = shape.least_left(&declared);
+        let count = self.random.below(shape.columns.min(left + 1) + 1);
         let mut received = damaged(self.random, &shape, &sent, count);
+        received = refilled(self.random, &shape, &declared, &received);
         if self.random.once_in(5) {
             received = malformed(self.random, &shape, &received);
         }
-        let answer = self.judge.locate(&mut self.job, &received);
-        let within = is_well_formed(&shape, &received)
-            && 2 * differing(&shape, &sent, &received).len() <= shape.least_checks();
+        if self.random.once_in(10) {
+            declared = bad_cells(self.random, &shape);
+        }
+        let answer = self.judge.locate(&mut self.job, &declared, &received);
+        let within = frame_refusal(&shape, &declared, &received) == 0
+            && 2 * differing(&shape, &declared, &sent, &received).len() <= left;
         if self.shape.is_some() && within {
             self.judge.compare(
-                "damage within half the checks is located",
-                &(&shape, &received),
+                "damage within half the checks left is located",
+                &(&shape, &declared, &received),
                 0,
                 answer.refusal,
             );
@@ -112,6 +123,7 @@ impl List<'_, '_> {
         match answer.refusal {
             0 => {
                 self.pending = Some(Pending {
+                    declared,
                     received,
                     sent: within.then_some(sent),
                 })
@@ -121,15 +133,42 @@ impl List<'_, '_> {
         }
     }
 
-    /// The located frame; another with the same sums; one with others; one that is malformed.
+    /// A legal frame with 0 in the declared cells: some other cells of each row, as many as it has
+    /// checks, are made to fit the rest. Where there are no more such cells all is 0.
+    fn legal_beside(&mut self, shape: &Shape, declared: &Declared) -> Vec<u16> {
+        let mut frame = self.random.symbols(257, shape.size());
+        frame = as_read(shape, declared, &frame);
+        for (h, row) in frame.chunks_mut(shape.columns).enumerate() {
+            let cells = cells_of(declared, h);
+            let others: Vec<usize> = (0..row.len()).filter(|i| !cells.contains(i)).collect();
+            let checks = usize::from(shape.checks[h]);
+            if others.len() <= checks {
+                row.fill(0);
+                continue;
+            }
+            let places = self.random.subset(others.len(), checks);
+            let places: Vec<usize> = places.iter().map(|&place| others[place]).collect();
+            row.copy_from_slice(&completed(row, &places, checks).expect("as many sums as columns"));
+        }
+        frame
+    }
+
+    /// The located frame, with anything in its declared cells; another with the same sums; one with
+    /// others; one that is malformed.
     fn repair(&mut self) {
         let shape = self.shape_in_force();
-        let Some(Pending { received, sent }) = &self.pending else {
+        let Some(Pending {
+            declared,
+            received,
+            sent,
+        }) = &self.pending
+        else {
             let frame = some_legal_frame(self.random, &shape);
             self.mend(&shape, &frame, None);
             return;
         };
-        let (received, sent) = (received.clone(), sent.clone());
+        let (declared, sent) = (*declared, sent.clone());
+        let received = refilled(self.random, &shape, &declared, received);
         let add = |frame: &[u16], other: &[u16]| {
             frame
                 .iter()
@@ -140,15 +179,14 @@ impl List<'_, '_> {
         match self.random.below(4) {
             0 => self.mend(&shape, &received, sent),
             1 => {
-                let other = some_legal_frame(self.random, &shape);
-                self.mend(
-                    &shape,
-                    &add(&received, &other),
-                    sent.map(|sent| add(&sent, &other)),
-                );
+                let other = self.legal_beside(&shape, &declared);
+                let frame = add(&as_read(&shape, &declared, &received), &other);
+                let frame = refilled(self.random, &shape, &declared, &frame);
+                self.mend(&shape, &frame, sent.map(|sent| add(&sent, &other)));
             }
             2 => {
-                let altered = damaged(self.random, &shape, &received, 1);
+                let read = as_read(&shape, &declared, &received);
+                let altered = damaged(self.random, &shape, &read, 1);
                 self.mend(&shape, &altered, None);
             }
             _ => {
@@ -178,7 +216,13 @@ impl List<'_, '_> {
             &inputs,
             is_legal(shape, &left),
         );
-        let columns = differing(shape, frame, &left);
+        let pending = self.pending.take();
+        let Some(Pending { declared, .. }) = pending else {
+            self.judge
+                .expect("a repair goes back to a locate", &inputs, false);
+            return;
+        };
+        let columns = differing(shape, &declared, frame, &left);
         self.judge.compare(
             "the count is the distance",
             &inputs,
@@ -192,8 +236,7 @@ impl List<'_, '_> {
             answer.marks,
         );
         if shape.columns <= 7 {
-            frames::exhaustive(self.judge, shape, frame, &answer, &left);
+            frames::exhaustive(self.judge, shape, &declared, frame, &answer, &left);
         }
-        self.pending = None;
     }
 }

@@ -1,5 +1,6 @@
 //! The inputs that the calls are tried on, and what they have in common.
 
+pub mod declared;
 pub mod examples;
 pub mod finder;
 pub mod forged;
@@ -11,11 +12,11 @@ pub mod prototypes;
 pub mod shapes;
 pub mod vectors;
 
-use common::interface::{Calls, Job};
+use common::interface::{Calls, Declared, Job};
 use common::random::Random;
 
 use crate::independent::Independent;
-use crate::independent::frames::Shape;
+use crate::independent::frames::{Shape, cells_of, declaring};
 use crate::judge::FILLED;
 
 /// A shape of at most so many columns, with the same number of checks in all rows half of the time.
@@ -71,6 +72,46 @@ fn malformed(random: &mut Random, shape: &Shape, frame: &[u16]) -> Vec<u16> {
     if !frame.is_empty() && random.once_in(2) {
         let place = random.below(frame.len());
         frame[place] = random.pick(&[256, 257, 258, 65535]);
+    }
+    frame
+}
+
+/// Cells that can be declared: nothing; few of each row; up to as many as a row has checks.
+fn some_cells(random: &mut Random, shape: &Shape) -> Declared {
+    let most = random.pick(&[0, 1, 2, 64, 64]);
+    let cells = |&checks: &u16| {
+        let count = random.below(most.min(usize::from(checks)) + 1);
+        random.subset(shape.columns, count)
+    };
+    declaring(&shape.checks.iter().map(cells).collect::<Vec<_>>())
+}
+
+/// Cells that cannot be declared: one more than a row has checks, or a mark past the last column or
+/// row, where there is room for one.
+fn bad_cells(random: &mut Random, shape: &Shape) -> Declared {
+    let rows = shape.checks.len();
+    let mut declared = some_cells(random, shape);
+    let mut declare = |h: usize, i: usize| declared[4 * h + i / 64] |= 1 << (i % 64);
+    match random.below(3) {
+        0 if rows < 8 => declare(random.from_to(rows, 7), random.below(256)),
+        1 if shape.columns < 256 => declare(random.below(rows), random.from_to(shape.columns, 255)),
+        _ => {
+            let h = random.below(rows);
+            let cells = random.subset(shape.columns, usize::from(shape.checks[h]) + 1);
+            cells.iter().for_each(|&i| declare(h, i));
+        }
+    }
+    declared
+}
+
+/// The frame with anything in its declared cells.
+fn refilled(random: &mut Random, shape: &Shape, declared: &Declared, frame: &[u16]) -> Vec<u16> {
+    let mut frame = frame.to_vec();
+    for (h, row) in frame.chunks_mut(shape.columns).enumerate() {
+        for i in cells_of(declared, h) {
+            let any = random.bits() as u16;
+            row[i] = random.pick(&[any, 0, 256, 257, 65535]);
+        }
     }
     frame
 }

@@ -53,6 +53,7 @@ fn c_type(of: &str) -> &str {
     match of {
         "u16" => "uint16_t",
         "u32" => "uint32_t",
+        "u64" => "uint64_t",
         "usize" => "size_t",
         "CRegister" => "tomkhadi_register",
         "CHead" => "tomkhadi_head",

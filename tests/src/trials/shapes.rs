@@ -1,6 +1,6 @@
 //! Shapes: the edges of every refusal, alone and among others, on jobs of each phase.
 
-use common::interface::Job;
+use common::interface::{Job, NOTHING};
 use common::random::Random;
 
 use crate::judge::Judge;
@@ -28,7 +28,7 @@ fn jobs(judge: &mut Judge, random: &mut Random) -> [Job; 3] {
     let shape = some_shape(random, 20);
     let frame = some_legal_frame(random, &shape);
     let mut located = shaped(&shape);
-    judge.locate(&mut located, &frame);
+    judge.locate(&mut located, &NOTHING, &frame);
     [judge.empty(), shaped(&shape), located]
 }
 

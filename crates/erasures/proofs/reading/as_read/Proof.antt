@@ -16,7 +16,8 @@ returns : tie.Need-returns
 returns c =
     let copied = c .before .before .before in
     let start = copied .before .before in
-    copy-read _ _ _ (start .pre .whole) (copied .copied .result) _ (omega (arith, frame-small _ (start .pre .shape), start .pre .whole)) (copied .copied .ensures)
+    let asked = start .pre in
+    copy-read _ _ _ (asked .whole) (copied .copied .result) _ (omega (arith, frame-small _ (asked .shape), asked .whole)) (copied .copied .ensures)
     (c .before .clear-rows .ensures)
 
 pub as-read-spec : {M : Type 1} → statement M

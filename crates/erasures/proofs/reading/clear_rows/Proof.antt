@@ -6,7 +6,6 @@ use Rattle.frame.specs.DeclaredCells.{asRead, declaredBy}
 use Rattle.frame.proofs.RowPlace.{RowPlace, row-place}
 use Rattle.frame.proofs.RowsChanged.{changed-none, changed-all, length-part}
 use Rattle.frame.proofs.RowsCleared.{RowsCleared, cleared-more}
-use borrow.Author.Needs.{needs}
 use Rattle.erasures.proofs.reading.clear_rows.Statement.{statement}
 use Rattle.erasures.proofs.reading.clear_rows.Tie as tie
 

@@ -1,0 +1,99 @@
+-- `calls::locate::locate_read` meets its contract.
+use mathlib.Core.Path.{_≡_, refl, sym, ap, subst⁻¹, _∙_}
+use mathlib.Core.Bool.{true}
+use mathlib.Core.List.{List}
+use Prim.Native.Nat.{_<_}
+use lib.ListN.{getD}
+use denote.Ref.{now}
+use Rattle.frame.specs.DeclaredCells.{declaredBy, readTests}
+use Rattle.frame.specs.Shape.{isShape}
+use Rattle.frame.proofs.Declarable.{well-formed-declarable}
+use Rattle.frame.proofs.HeldSums.{held-below}
+use Rattle.job.proofs.Forms.{has-shape}
+use Rattle.refusal.specs.Outcome.{outcome, outcomeOf, passed}
+use Rattle.calls.proofs.Locating.{arrays-kept, arrays-written}
+use Rattle.calls.proofs.Steps.{refusal-outcome, passed-read, locate-refused, locate-goes-on}
+use borrow.Author.Needs.{needs}
+use Rattle.calls.proofs.locate.locate_read.Statement.{statement}
+use Rattle.calls.proofs.locate.locate_read.Tie as tie
+
+-- ---- the ways back
+
+abbrev start-of : tie.After-check-read → tie.Start
+start-of c = c .before .before
+
+abbrev tested : tie.After-enum-told → tie.After-check-read
+tested c = c .before .before
+
+abbrev well-formed : tie.After-locate-from → tie.After-enum-told
+well-formed c = c .before .before .before .before
+
+-- ---- the tests
+
+shape : (c : tie.Start) → isShape (c .args .j .shape) ≡ true
+shape c = has-shape _ (c .pre .full)
+
+check-read-requires : tie.Need-check-read-requires
+check-read-requires c κs = shape (c .before)
+
+returns : tie.Need-returns
+returns c =
+    let checked = c .before .before in
+    λ a. refusal-outcome _ _ _ (c .refuse .ensures) refl
+    ∙ locate-refused _ _ _ (start-of (checked .before .before) .pre .full) _
+    (sym (checked .before .before .check-read .ensures) ∙ ap outcomeOf (checked .checked .given .1))
+
+-- the frame is well-formed
+passes : (c : tie.After-enum-told) →
+    let args = start-of (tested c) .args in
+    outcome (readTests (args .j .shape) (declaredBy (now (args .declared))) (now (args .frame))) ≡ passed
+passes c = sym (tested c .check-read .ensures) ∙ ap outcomeOf (c .enum-told .given .1)
+
+-- ---- locating from its sums
+
+sums-read-requires : tie.Need-sums-read-requires
+sums-read-requires c κs = record { shape = shape (start-of (tested c)); whole = passed-read _ _ _ (passes c) .size }
+
+locate-from-requires : tie.Need-locate-from-requires
+locate-from-requires c κs =
+    let summed = c .before .before in
+    let told = summed .before in
+    let start = start-of (tested told) in
+    record {
+      shape = shape start;
+      flag = sym (start .pre .some);
+      declarable = well-formed-declarable _ _ _ (passed-read _ _ _ (passes told));
+      small = λ k. subst⁻¹ (λ (l : List _). getD l k 0 < 257) (summed .sums-read .ensures) (held-below _ _ k);
+    }
+
+returns-2 : tie.Need-returns-2
+returns-2 c =
+    let located = c .before .before in
+    let told = well-formed located in
+    λ a. arrays-kept _ _ _ _ _ _ _ _ _ (located .locate-from .ensures) (located .before .before .before .sums-read .ensures) a _ (c .enum-told2 .given .1)
+    ∙ locate-goes-on _ _ _ (start-of (tested told) .pre .full) (passes told)
+
+returns-3 : tie.Need-returns-3
+returns-3 c =
+    let written = c .before in
+    let located = written .before .before in
+    let told = well-formed located in
+    λ a. arrays-written _ _ _ _ _ _ _ _ _ (located .locate-from .ensures) (located .before .before .before .sums-read .ensures) a _
+    (written .enum-told3 .given .1)
+    ∙ locate-goes-on _ _ _ (start-of (tested told) .pre .full) (passes told)
+
+pub locate-read-spec : {M : Type 1} → statement M
+locate-read-spec =
+    tie.close
+    (tie.spec
+    check-read-requires
+    (λ c. search needs)
+    (λ c κs. search needs)
+    returns
+    (λ c. search needs)
+    sums-read-requires
+    locate-from-requires
+    (λ c. search needs)
+    returns-2
+    (λ c. search needs)
+    returns-3)

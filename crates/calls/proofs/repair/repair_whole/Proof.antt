@@ -1,0 +1,146 @@
+-- `calls::repair::repair_whole` meets its contract.
+use mathlib.Core.Path.{_≡_, refl, sym, ap, ap₂, _∙_}
+use mathlib.Core.Bool.{true, _&&_}
+use mathlib.Core.List.{List}
+use Prim.Native.Nat.{ℕ}
+use denote.Ref.{now}
+use borrow.Author.Tests.{not-true, not-false}
+use Rattle.columns.specs.Columns.{Sound}
+use Rattle.columns.proofs.Marks.{sound}
+use Rattle.frame.specs.DeclaredCells.{declaredBy, asRead, readTests}
+use Rattle.frame.specs.Frame.{heldSums}
+use Rattle.frame.specs.Shape.{isShape}
+use Rattle.frame.proofs.NothingDeclared.{nothing-declarable}
+use Rattle.job.specs.Calls.{sameSums}
+use Rattle.job.specs.Job.{Arrays, beside, isLocated, withRead}
+use Rattle.job.proofs.Forms.{has-shape}
+use Rattle.job.proofs.Marked.{located-marked, located-reach}
+use Rattle.refusal.specs.Outcome.{outcome, outcomeOf, passed}
+use Rattle.calls.proofs.Steps.{refusal-outcome, mended-outcome, passed-read, passed-symbols, repair-refused, repair-differs, repair-mends}
+use Rattle.calls.proofs.Undeclared.{whole-tests, whole-sums, whole-sound, whole-mended}
+use borrow.Author.Needs.{needs}
+use Rattle.calls.proofs.repair.repair_whole.Statement.{statement}
+use Rattle.calls.proofs.repair.repair_whole.Tie as tie
+
+-- ---- the ways back
+
+abbrev start-of : tie.After-check-frame → tie.Start
+start-of c = c .before .before .before
+
+abbrev told-by : tie.After-enum-told → tie.After-check-frame
+told-by c = c .before .before
+
+abbrev told-before : tie.After-same-sums → tie.After-enum-told
+told-before c = c .before .before .before .before
+
+abbrev alike-before : tie.After-mend → tie.Else1
+alike-before c = c .before .before .before .before
+
+-- from where the sums are compared, the start
+abbrev begun : tie.After-same-sums → tie.Start
+begun c = start-of (told-by (told-before c))
+
+-- ---- what is known of the job
+
+shape : (c : tie.Start) → isShape (c .args .j .shape) ≡ true
+shape c = has-shape _ (c .pre .repairable .full)
+
+located : (c : tie.Start) (a : Arrays) → isLocated (beside (c .args .j) (withRead a (now (c .args .sums)) (now (c .args .held)))) ≡ true
+located c a =
+    let known = c .pre .repairable in
+    ap₂ _&&_ (known .located) (whole-sound _ (shape c) _ (c .pre .nothing) _ (located-reach _ (known .full) (known .located)))
+
+-- ---- the tests
+
+check-frame-requires : tie.Need-check-frame-requires
+check-frame-requires c κs = shape (c .before .before)
+
+returns : tie.Need-returns
+returns c =
+    let checked = c .before .before in
+    let start = start-of (checked .before .before) in
+    λ a. refusal-outcome _ _ _ (c .refuse .ensures) refl
+    ∙ repair-refused _ _ (start .pre .repairable .full) (located start a) (nothing-declarable _ (shape start) _ (start .pre .nothing)) _
+    (sym (whole-tests _ (shape start) _ (start .pre .nothing) _) ∙ sym (checked .before .before .check-frame .ensures) ∙ ap outcomeOf (checked .checked .given .1))
+
+-- the frame is well-formed
+passes : (c : tie.After-enum-told) →
+    let args = start-of (told-by c) .args in
+    outcome (readTests (args .j .shape) (declaredBy (now (args .held))) (now (args .frame))) ≡ passed
+passes c =
+    let start = start-of (told-by c) in
+    sym (whole-tests _ (shape start) _ (start .pre .nothing) _) ∙ sym (told-by c .check-frame .ensures) ∙ ap outcomeOf (c .enum-told .given .1)
+
+frame-sums-requires : tie.Need-frame-sums-requires
+frame-sums-requires c κs = (shape (start-of (told-by (c .before))), passed-read _ _ _ (passes (c .before)) .size)
+
+-- the sums are compared
+compared : (c : tie.After-same-sums) →
+    let args = begun c .args in
+    sameSums (heldSums (args .j .shape) (asRead (args .j .shape) (declaredBy (now (args .held))) (now (args .frame)))) (args .sums .now) ≡ c .same-sums .result
+compared c =
+    let start = begun c in
+    sym (c .same-sums .ensures
+    ∙ ap (λ (l : List ℕ). sameSums l (start .args .sums .now)) (c .before .before .frame-sums .ensures
+    ∙ whole-sums _ (shape start) _ (start .pre .nothing) _ (passed-read _ _ _ (passes (told-before c)) .size)))
+
+returns-2 : tie.Need-returns-2
+returns-2 c =
+    let same = c .before .before in
+    let start = begun same in
+    λ a. refusal-outcome _ _ _ (c .refuse2 .ensures) refl
+    ∙ repair-differs _ _ (start .pre .repairable .full) (located start a) (nothing-declarable _ (shape start) _ (start .pre .nothing)) (passes (told-before same))
+    (compared same ∙ not-true _ (c .before .if1 .taken))
+
+-- ---- the frame
+
+words : (c : tie.Start) → Sound (c .args .j .columns)
+words c = sound _ (search needs) (λ w. search needs)
+
+mend-requires : tie.Need-mend-requires
+mend-requires c κs =
+    let same = c .before .before .before .before in
+    let told = told-before same in
+    let start = begun same in
+    let marked = located-marked _ (start .pre .repairable .full) (start .pre .repairable .located) (words start) in
+    record {
+      shape = shape start;
+      whole = passed-read _ _ _ (passes told) .size;
+      small = passed-symbols _ _ (sym (told-by told .check-frame .ensures) ∙ ap outcomeOf (told .enum-told .given .1));
+      held = same .before .before .frame-sums .ensures;
+      below = marked .inside;
+      reach = marked .reach;
+    }
+
+returns-3 : tie.Need-returns-3
+returns-3 c =
+    let mend = c .before .before .before .before in
+    let alike = alike-before mend in
+    let same = alike .before in
+    let start = begun same in
+    λ a. mended-outcome (start .args .j) _ _ (c .mended .ensures) (c .before .length-of .ensures)
+    (mend .mend .ensures ∙ whole-mended _ (shape start) _ (start .pre .nothing) _ _ (words start))
+    ∙ repair-mends _ _ (start .pre .repairable .full) (located start a) (nothing-declarable _ (shape start) _ (start .pre .nothing)) (passes (told-before same))
+    (compared same ∙ not-false _ (alike .if1 .left))
+
+pub repair-whole-spec : {M : Type 1} → statement M
+repair-whole-spec =
+    tie.close
+    (tie.spec
+    check-frame-requires
+    (λ c. search needs)
+    (λ c κs. search needs)
+    (λ c. search needs)
+    returns
+    (λ c. search needs)
+    frame-sums-requires
+    (λ c κs. search needs)
+    (λ c κs. search needs)
+    (λ c. search needs)
+    returns-2
+    (λ c. search needs)
+    mend-requires
+    (λ c κs. search needs)
+    (λ c κs. search needs)
+    (λ c. search needs)
+    returns-3)
