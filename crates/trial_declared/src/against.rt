@@ -1,11 +1,7 @@
-// Each call on a job against the model: the answer, the frame and the job that it leaves.
+// Locate and repair against the model: the answer, the frame and the job that they leave.
 use crate::model;
 use crate::model::LOCATED;
 use crate::model::Model;
-use crate::tallies::ENCODED;
-use crate::tallies::FOUND;
-use crate::tallies::MENDED;
-use crate::tallies::SHAPED;
 use columns::Columns;
 use job::Phase;
 use plain::answers::columns_of;
@@ -14,9 +10,7 @@ use plain::answers::of_reply;
 use plain::compare::differ_in;
 use plain::compare::same;
 use plain::compare::same_columns;
-use plain::compare::same_data;
 use plain::frames::legal;
-use plain::tally::count;
 use plain::values::copy;
 use plain::values::part;
 use whole_job::Answered;
@@ -30,12 +24,26 @@ pub(crate) struct Pair {
     pub(crate) model: Model,
 }
 
-pub(crate) fn start(planted: u16) -> Pair {
+pub(crate) fn empty(planted: u16) -> Pair {
     let job = whole_job::empty();
     let model = model::empty(planted);
     Pair {
         agree: true,
         number: 0,
+        job,
+        model,
+    }
+}
+
+// The job with another shape, and a frame that it encodes. Declared cells play no part in either: `trial_calls` compares them.
+pub(crate) fn shape(pair: Pair, columns: u16, checks: &[u16], frame: &mut [u16]) -> Pair {
+    let held = pair.model;
+    let model = model::shaped(held.planted, model::SHAPED, columns, checks);
+    let job = whole_job::shape(pair.job, columns as usize, checks).job;
+    let number = of_checked(whole_job::encode(job, frame));
+    Pair {
+        agree: number == 0,
+        number,
         job,
         model,
     }
@@ -78,23 +86,16 @@ fn same_found(c: usize, columns: Columns, found: Model) -> bool {
     same_columns(columns, &named)
 }
 
+fn same_sums(job: Job, model: Model) -> bool {
+    let sums = job.sums;
+    let held = model.sums;
+    same(&held, &sums, 0)
+}
+
 fn same_cells(job: Job, model: Model) -> bool {
     let declared = job.declared;
     let words = model.words;
     same_words(&declared, &words)
-}
-
-fn same_findings(c: usize, job: Job, model: Model) -> bool {
-    let sums = job.sums;
-    let held = model.sums;
-    if !same(&held, &sums, 0) {
-        return false;
-    }
-    if !same_cells(job, model) {
-        return false;
-    }
-    let head = job.head;
-    same_found(c, head.columns, model)
 }
 
 // The phase is that of the model and, of a located job, what it holds.
@@ -107,78 +108,22 @@ fn same_state(job: Job, model: Model) -> bool {
     if model.phase != LOCATED {
         return true;
     }
-    same_findings(found_length(phase), job, model)
-}
-
-// Counts the call under its refusal, or under `kind` where it is taken.
-fn tally(number: u32, kind: usize, counts: &mut [u64]) {
-    if number == 0 {
-        count(counts, kind, true);
-        return;
-    }
-    count(counts, number as usize, true);
-}
-
-// A shape that is taken.
-pub(crate) fn shape(pair: Pair, columns: u16, checks: &[u16], counts: &mut [u64]) -> Pair {
-    let held = pair.model;
-    let model = model::shaped(held.planted, model::SHAPED, columns, checks);
-    let answer = whole_job::shape(pair.job, columns as usize, checks);
-    let checked = answer.checked;
-    let number = of_checked(checked);
-    tally(number, SHAPED, counts);
-    let job = answer.job;
-    Pair {
-        agree: number == 0 && same_state(job, model),
-        number,
-        job,
-        model,
-    }
-}
-
-// Encoding leaves the data and makes the frame legal.
-fn encoded(model: Model, before: &[u16], after: &[u16]) -> bool {
-    let room = model.checks;
-    let checks = part(&room, 0, model.rows as usize);
-    if !same_data(model.columns, checks, before, after) {
+    if !same_sums(job, model) {
         return false;
     }
-    legal(model.columns, checks, after)
-}
-
-// A refused encode leaves the frame.
-fn left_by_encode(model: Model, number: u32, before: &[u16], after: &[u16]) -> bool {
-    if number != 0 {
-        return same(before, after, 0);
+    if !same_cells(job, model) {
+        return false;
     }
-    encoded(model, before, after)
+    same_found(found_length(phase), head.columns, model)
 }
 
-pub(crate) fn encode(pair: Pair, frame: &mut [u16], counts: &mut [u64]) -> Pair {
-    let model = pair.model;
-    let job = pair.job;
-    let due = model::encode_reason(model, frame);
-    let mut room = [0u16; 2048];
-    copy(frame, &mut room, 0);
-    let number = of_checked(whole_job::encode(job, frame));
-    tally(number, ENCODED, counts);
-    let left = left_by_encode(model, number, part(&room, 0, frame.len()), frame);
-    Pair {
-        agree: left && number == due,
-        number,
-        job,
-        model,
-    }
-}
-
-// What locate and repair return is that of the model; where they do not refuse, the columns are those that `found` holds.
+// What is returned is that of the model; where it is no refusal, the columns are those that `found` holds.
 fn answers(answer: Answered, number: u32, model: Model, found: Model) -> bool {
     let reply = answer.reply;
-    let job = answer.job;
     if of_reply(reply) != number {
         return false;
     }
-    if !same_state(job, model) {
+    if !same_state(answer.job, model) {
         return false;
     }
     if number != 0 {
@@ -187,13 +132,11 @@ fn answers(answer: Answered, number: u32, model: Model, found: Model) -> bool {
     same_found(columns_of(reply), answer.columns, found)
 }
 
-pub(crate) fn locate(pair: Pair, words: &[u64; 32], frame: &[u16], counts: &mut [u64]) -> Pair {
+pub(crate) fn locate(pair: Pair, words: &[u64; 32], frame: &[u16]) -> Pair {
     let due = model::located(pair.model, words, frame);
     let model = due.model;
     let answer = whole_job::locate(pair.job, words, frame);
-    let reply = answer.reply;
     let job = answer.job;
-    tally(of_reply(reply), FOUND, counts);
     Pair {
         agree: answers(answer, due.number, model, model),
         number: due.number,
@@ -202,7 +145,7 @@ pub(crate) fn locate(pair: Pair, words: &[u64; 32], frame: &[u16], counts: &mut 
     }
 }
 
-// Read with 0 in the declared cells, the frame differs in just the named columns.
+// Read with 0 in the declared cells, the frames differ in just the named columns.
 fn changed(model: Model, before: &[u16], after: &[u16]) -> bool {
     let words = model.words;
     let mut old = [0u16; 2048];
@@ -213,8 +156,11 @@ fn changed(model: Model, before: &[u16], after: &[u16]) -> bool {
     differ_in(model.columns, model.rows as usize, &old, &new, &named)
 }
 
-// Repair leaves a legal frame.
-fn mended(model: Model, before: &[u16], after: &[u16]) -> bool {
+// Repair leaves a legal frame. A refused one leaves the frame.
+fn mended(model: Model, number: u32, before: &[u16], after: &[u16]) -> bool {
+    if number != 0 {
+        return same(before, after, 0);
+    }
     let room = model.checks;
     if !legal(model.columns, part(&room, 0, model.rows as usize), after) {
         return false;
@@ -222,25 +168,12 @@ fn mended(model: Model, before: &[u16], after: &[u16]) -> bool {
     changed(model, before, after)
 }
 
-// A refused repair leaves the frame.
-fn left_by_repair(model: Model, number: u32, before: &[u16], after: &[u16]) -> bool {
-    if number != 0 {
-        return same(before, after, 0);
-    }
-    mended(model, before, after)
-}
-
-pub(crate) fn repair(pair: Pair, frame: &mut [u16], counts: &mut [u64]) -> Pair {
-    let held = pair.model;
-    let due = model::repaired(held, frame);
+// What repair answers and leaves of the frame before it is that of the model.
+fn repaired(held: Model, answer: Answered, before: &[u16], after: &[u16]) -> Pair {
+    let due = model::repaired(held, before);
     let model = due.model;
-    let mut room = [0u16; 2048];
-    copy(frame, &mut room, 0);
-    let answer = whole_job::repair(pair.job, frame);
-    let reply = answer.reply;
-    tally(of_reply(reply), MENDED, counts);
     let right = answers(answer, due.number, model, held);
-    let left = left_by_repair(held, due.number, part(&room, 0, frame.len()), frame);
+    let left = mended(held, due.number, before, after);
     let job = answer.job;
     Pair {
         agree: right && left,
@@ -248,4 +181,11 @@ pub(crate) fn repair(pair: Pair, frame: &mut [u16], counts: &mut [u64]) -> Pair 
         job,
         model,
     }
+}
+
+pub(crate) fn repair(pair: Pair, frame: &mut [u16]) -> Pair {
+    let mut room = [0u16; 2048];
+    copy(frame, &mut room, 0);
+    let answer = whole_job::repair(pair.job, frame);
+    repaired(pair.model, answer, part(&room, 0, frame.len()), frame)
 }

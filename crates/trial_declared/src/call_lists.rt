@@ -7,11 +7,16 @@ use crate::disagreement::show_unless;
 use crate::model::EMPTY;
 use crate::model::Model;
 use crate::model::size;
+use crate::shapes::Size;
+use crate::shapes::draw_frame;
+use crate::tallies::FOUND;
 use crate::tallies::LISTS;
+use crate::tallies::MENDED;
+use crate::tallies::RENEWED;
+use crate::tallies::tally;
 use plain::damage::damage;
 use plain::random::draw;
 use plain::random::draw_from;
-use plain::random::fill_from;
 use plain::tally::count;
 use plain::values::copy;
 use plain::values::first;
@@ -20,9 +25,9 @@ use plain::values::part;
 use plain::values::put;
 use plain::values::remainder;
 
+// A new shape with a frame that is encoded, a locate, or a repair.
 enum Call {
-    Shape,
-    Encode,
+    Renew,
     Locate,
     Repair,
 }
@@ -30,74 +35,29 @@ enum Call {
 fn draw_call(state: &mut u64, phase: u16) -> Call {
     let k = draw(state, 16);
     if k < 1 {
-        return Call::Shape;
+        return Call::Renew;
     }
-    if k < 3 {
-        return Call::Encode;
-    }
-    if k < 10 {
+    if k < 9 {
         return Call::Locate;
     }
     if phase == EMPTY {
-        return Call::Shape;
+        return Call::Renew;
     }
     Call::Repair
 }
 
-// Mostly few columns.
-fn draw_columns(state: &mut u64) -> u16 {
-    match draw(state, 8) {
-        0 => draw_from(state, 60, 80),
-        _ => draw_from(state, 3, 8),
+fn kind_of(call: Call) -> usize {
+    match call {
+        Call::Renew => RENEWED,
+        Call::Locate => FOUND,
+        Call::Repair => MENDED,
     }
-}
-
-fn call_shape(state: &mut u64, pair: Pair, counts: &mut [u64]) -> Pair {
-    let columns = draw_columns(state);
-    let rows = draw_from(state, 1, 4);
-    let mut checks = [0u16; 8];
-    let spread = remainder(std::num::wrapping_sub_u16(columns, 1) as u64, 12);
-    fill_from(state, 1, spread, &mut checks, rows as usize);
-    against::shape(pair, columns, part(&checks, 0, rows as usize), counts)
 }
 
 // Damages up to `most` columns of the frame.
 fn strike(state: &mut u64, model: Model, most: u16, room: &mut [u16]) {
     let w = draw(state, std::num::wrapping_add_u16(most, 1));
     damage(state, model.columns, model.rows as usize, w, room);
-}
-
-// Before a frame is encoded it is filled anew, before it is searched often damaged, and before it is mended seldom.
-fn prepare(state: &mut u64, call: Call, model: Model, room: &mut [u16]) {
-    let k = draw(state, 6);
-    match call {
-        Call::Shape => {}
-        Call::Encode => fill_from(state, 0, 257, room, size(model)),
-        Call::Locate => {
-            if k < 4 {
-                strike(state, model, 2, room);
-            }
-        }
-        Call::Repair => {
-            if k < 1 {
-                strike(state, model, 1, room);
-            }
-        }
-    }
-}
-
-// The cells that a locate declares; for a repair, those that the job holds.
-fn draw_words(state: &mut u64, call: Call, model: Model) -> [u64; 32] {
-    match call {
-        Call::Locate => {
-            let checks = model.checks;
-            let lent = part(&checks, 0, model.rows as usize);
-            let mut words = [0u64; 32];
-            cells::draw_cells(state, model.columns, lent, &mut words);
-            words
-        }
-        _ => model.words,
-    }
 }
 
 // How many symbols are lent: mostly those of the shape. A job without one is lent eight.
@@ -112,45 +72,53 @@ fn draw_size(state: &mut u64, n: usize) -> usize {
     }
 }
 
-// Seldom a symbol is put above 256.
-fn raise(state: &mut u64, lent: &mut [u16], n: usize) {
+// The declared cells hold anything; seldom another symbol is put above 256.
+fn spoil(state: &mut u64, model: Model, words: &[u64; 32], lent: &mut [u16]) {
+    cells::spoil(state, words, model.columns, model.rows, lent);
     if draw(state, 10) == 0 {
-        let i = draw(state, remainder(n as u64, 65535));
+        let i = draw(state, remainder(size(model) as u64, 65535));
         put(lent, i as usize, draw_from(state, 257, 3));
     }
 }
 
-fn call_on(
-    call: Call,
-    pair: Pair,
-    words: &[u64; 32],
-    frame: &mut [u16],
-    counts: &mut [u64],
-) -> Pair {
-    match call {
-        Call::Shape => pair,
-        Call::Encode => against::encode(pair, frame, counts),
-        Call::Locate => against::locate(pair, words, frame, counts),
-        Call::Repair => against::repair(pair, frame, counts),
+// Seldom a frame has further damage before it is repaired.
+fn strike_seldom(state: &mut u64, model: Model, room: &mut [u16]) {
+    if draw(state, 6) == 0 {
+        strike(state, model, 1, room);
     }
 }
 
-// A call on a copy of the frame. What it leaves stands in the room if it is not refused.
-fn call_lent(
-    state: &mut u64,
-    call: Call,
-    pair: Pair,
-    room: &mut [u16],
-    counts: &mut [u64],
-) -> Pair {
+fn prepare(state: &mut u64, call: Call, model: Model, room: &mut [u16]) {
+    match call {
+        Call::Renew => {}
+        Call::Locate => strike(state, model, 2, room),
+        Call::Repair => strike_seldom(state, model, room),
+    }
+}
+
+// A locate with cells that are drawn.
+fn locate(state: &mut u64, pair: Pair, room: &[u16]) -> Pair {
     let model = pair.model;
-    let words = draw_words(state, call, model);
-    let n = draw_size(state, size(model));
+    let checks = model.checks;
+    let words = cells::draw_cells(state, model.columns, part(&checks, 0, model.rows as usize));
     let mut lent = [0u16; 2048];
     copy(room, &mut lent, 0);
-    cells::spoil(state, &words, model.columns, model.rows, &mut lent);
-    raise(state, &mut lent, n);
-    let next = call_on(call, pair, &words, first(&mut lent, n), counts);
+    spoil(state, model, &words, &mut lent);
+    let frame = part(&lent, 0, draw_size(state, size(model)));
+    let next = against::locate(pair, &words, frame);
+    show_unless(next.agree, model, &words, frame);
+    next
+}
+
+// A repair with the cells that the job holds. What it leaves stands in the room if it is not refused.
+fn repair(state: &mut u64, pair: Pair, room: &mut [u16]) -> Pair {
+    let model = pair.model;
+    let words = model.words;
+    let mut lent = [0u16; 2048];
+    copy(room, &mut lent, 0);
+    spoil(state, model, &words, &mut lent);
+    let n = draw_size(state, size(model));
+    let next = against::repair(pair, first(&mut lent, n));
     show_unless(next.agree, model, &words, part(&lent, 0, n));
     if next.number == 0 {
         copy(&lent, room, 0);
@@ -158,23 +126,28 @@ fn call_lent(
     next
 }
 
+fn call_on(state: &mut u64, call: Call, pair: Pair, room: &mut [u16]) -> Pair {
+    match call {
+        Call::Renew => draw_frame(state, pair, Size::Middle, room),
+        Call::Locate => locate(state, pair, room),
+        Call::Repair => repair(state, pair, room),
+    }
+}
+
 fn next(state: &mut u64, pair: Pair, room: &mut [u16], counts: &mut [u64]) -> Pair {
     let model = pair.model;
     let call = draw_call(state, model.phase);
-    match call {
-        Call::Shape => call_shape(state, pair, counts),
-        _ => {
-            prepare(state, call, model, room);
-            call_lent(state, call, pair, room, counts)
-        }
-    }
+    prepare(state, call, model, room);
+    let next = call_on(state, call, pair, room);
+    tally(next.number, kind_of(call), counts);
+    next
 }
 
 // A list of n calls from an empty job.
 fn list(state: &mut u64, planted: u16, n: u16, counts: &mut [u64]) -> bool {
     let mut frame = [0u16; 2048];
     let room: &mut [u16] = &mut frame;
-    let mut pair = against::start(planted);
+    let mut pair = against::empty(planted);
     for _ in 0..n {
         pair = next(state, pair, room, counts);
         if !pair.agree {

@@ -1,4 +1,4 @@
-// Declared cells, as they are lent to locate: which are listed, which can be declared, and how they are drawn.
+// Declared cells, as they are lent to locate: which can be declared, which columns of a row are lost by them, and how they are drawn.
 use plain::cells::mark;
 use plain::random::draw;
 use plain::random::draw_from;
@@ -97,12 +97,17 @@ pub(crate) fn declare(words: &mut [u64; 32], k: usize) {
 
 // How many cells of a row with n checks are declared: mostly none or a few, at times all that can be, seldom one more.
 fn draw_count(state: &mut u64, n: u16) -> u16 {
-    match draw(state, 32) {
-        0 => std::num::wrapping_add_u16(n, 1),
-        1 | 2 | 3 => n,
-        4 | 5 | 6 | 7 | 8 | 9 | 10 | 11 | 12 | 13 | 14 | 15 => 0,
-        _ => draw(state, std::num::wrapping_add_u16(n / 2, 2)),
+    let k = draw(state, 32);
+    if k < 1 {
+        return std::num::wrapping_add_u16(n, 1);
     }
+    if k < 4 {
+        return n;
+    }
+    if k < 16 {
+        return 0;
+    }
+    draw(state, std::num::wrapping_add_u16(n / 2, 2))
 }
 
 // Declares n cells of row h, each `stride` columns after the one before.
@@ -118,7 +123,6 @@ fn declare_row(words: &mut [u64; 32], columns: u16, h: usize, first: u16, stride
     }
 }
 
-// Draws declared cells for each row.
 fn draw_rows(state: &mut u64, columns: u16, checks: &[u16], words: &mut [u64; 32]) {
     for h in 0..checks.len() {
         let n = draw_count(state, get(checks, h));
@@ -129,11 +133,13 @@ fn draw_rows(state: &mut u64, columns: u16, checks: &[u16], words: &mut [u64; 32
 }
 
 // Cells of a frame with these checks; seldom one that lies anywhere.
-pub(crate) fn draw_cells(state: &mut u64, columns: u16, checks: &[u16], words: &mut [u64; 32]) {
-    draw_rows(state, columns, checks, words);
+pub(crate) fn draw_cells(state: &mut u64, columns: u16, checks: &[u16]) -> [u64; 32] {
+    let mut words = [0u64; 32];
+    draw_rows(state, columns, checks, &mut words);
     if draw(state, 24) == 0 {
-        declare(words, draw(state, 2048) as usize);
+        declare(&mut words, draw(state, 2048) as usize);
     }
+    words
 }
 
 // What a lost cell holds: any number, and at times 257 or the largest.

@@ -1,4 +1,4 @@
-// Runs the calls on a job with declared cells: at the edges of what is taken, on random frames against all legal frames, all sets of columns and elimination,
+// Runs locate and repair with declared cells: at the edges of what is taken, on random frames against all legal frames, all sets of columns and elimination,
 // and in random lists against a simple model of the job. Prints how often each answer occurred, and the first call that disagrees. Then the calls are held to
 // two planted models that are wrong, and must disagree with each.
 mod against;
@@ -9,13 +9,14 @@ mod edges;
 mod frames;
 mod model;
 mod search;
+mod shapes;
 mod small;
 mod tallies;
 
-use frames::Size;
 use plain::tally::print;
 use plain::tally::print_end;
 use plain::values::get;
+use shapes::Size;
 
 // Runs everything up to the first disagreement.
 fn run(state: &mut u64, counts: &mut [u64]) -> bool {
@@ -25,19 +26,19 @@ fn run(state: &mut u64, counts: &mut [u64]) -> bool {
     if !frames::random(state, Size::Tiny, 100, counts) {
         return false;
     }
-    if !frames::random(state, Size::Small, 1000, counts) {
+    if !frames::random(state, Size::Small, 2000, counts) {
         return false;
     }
-    if !frames::random(state, Size::Large, 20, counts) {
+    if !frames::random(state, Size::Large, 40, counts) {
         return false;
     }
-    if !frames::random(state, Size::Full, 10, counts) {
+    if !frames::random(state, Size::Full, 20, counts) {
         return false;
     }
-    call_lists::random(state, model::RIGHT, 300, counts)
+    call_lists::random(state, model::RIGHT, 500, counts)
 }
 
-// How often each refusal of the calls on a job that is shaped well occurred.
+// How often each refusal of locate and repair occurred.
 fn report_refusals(counts: &[u64]) {
     let numbers: [u16; 9] = [21, 22, 23, 7, 31, 4, 24, 25, 26];
     for k in 0..9 {
@@ -53,17 +54,16 @@ fn report(counts: &[u64]) {
     print(b"\nframes: damage in reach ", counts, tallies::IN_REACH);
     print(b", past it ", counts, tallies::PAST_REACH);
     print(b"\nlists of calls ", counts, tallies::LISTS);
-    print(b"\nshaped ", counts, tallies::SHAPED);
-    print(b", encoded ", counts, tallies::ENCODED);
-    print(b", located ", counts, tallies::FOUND);
-    print(b", repaired ", counts, tallies::MENDED);
+    print(b", shapes in them ", counts, tallies::RENEWED);
+    print(b"\nlocated ", counts, tallies::FOUND);
+    print(b", repaired in lists ", counts, tallies::MENDED);
     report_refusals(counts);
     io::write_all(1, b"\n");
 }
 
 fn main() {
     let mut state = 1u64;
-    let mut counts = [0u64; 40];
+    let mut counts = [0u64; 39];
     let agreed = run(&mut state, &mut counts);
     report(&counts);
     print_end(agreed);

@@ -1,14 +1,12 @@
-// A simple model of a job that is shaped well: what each call must answer, and the state that it leaves. It shares no code with the library.
+// A simple model of a job that is shaped well: what locate and repair must answer, and the state that they leave. It shares no code with the library.
 use crate::cells::declarable;
 use crate::search::all_completable;
 use crate::search::named_by;
 use brute::locator::Expected;
 use plain::cells::clear;
 use plain::frames::check_sums;
-use plain::frames::row;
 use plain::values::copy;
 use plain::values::get;
-use plain::values::minus;
 use plain::values::part;
 use plain::values::product;
 
@@ -84,39 +82,13 @@ fn above(a: &[u16]) -> bool {
     false
 }
 
-// A symbol of a data cell is above 256.
-fn data_above(columns: u16, checks: &[u16], frame: &[u16]) -> bool {
-    for h in 0..checks.len() {
-        let n = get(checks, h) as usize;
-        if above(part(row(frame, columns, h), n, minus(columns as usize, n))) {
-            return true;
-        }
-    }
-    false
-}
-
-// The number by which encode refuses, or 0. It leaves the job.
-pub(crate) fn encode_reason(model: Model, frame: &[u16]) -> u32 {
-    if model.phase == EMPTY {
-        return 21;
-    }
-    if frame.len() != size(model) {
-        return 7;
-    }
-    let checks = model.checks;
-    if data_above(model.columns, part(&checks, 0, model.rows as usize), frame) {
-        return 4;
-    }
-    0
-}
-
 // The frame with 0 in its declared cells.
 pub(crate) fn read(words: &[u64; 32], columns: u16, frame: &[u16], room: &mut [u16]) {
     copy(frame, room, 0);
     clear(words, columns, room);
 }
 
-// The register of a frame as read and, where it names all columns, whether each row can be completed.
+// The register of a frame as read and, where it names as many columns as it is long, whether each row can be completed.
 pub(crate) fn search(model: Model, words: &[u64; 32], sums: &[u16], marks: &mut [u16]) -> Expected {
     let room = model.checks;
     let checks = part(&room, 0, model.rows as usize);
@@ -147,7 +119,7 @@ fn held(model: Model, words: [u64; 32]) -> [u64; 32] {
     model.words
 }
 
-// What a frame that is not refused by 21, 7, 31 or 4 makes of a job: located, or shaped by the refusals 24, 25 and 26.
+// What a frame, as read, that is not refused by 21, 7, 31 or 4 makes of a job: located, or shaped by the refusals 24, 25 and 26.
 fn settle(model: Model, words: &[u64; 32], frame: &[u16]) -> Step {
     let room = model.checks;
     let checks = part(&room, 0, model.rows as usize);
@@ -175,7 +147,7 @@ fn settle(model: Model, words: &[u64; 32], frame: &[u16]) -> Step {
     }
 }
 
-// The reasons of a frame of the right size: 31 and 4.
+// The reasons of a frame of the right size, as read: 31 and 4.
 fn cells_reason(model: Model, words: &[u64; 32], frame: &[u16]) -> u32 {
     let checks = model.checks;
     if !declarable(words, model.columns, part(&checks, 0, model.rows as usize)) {

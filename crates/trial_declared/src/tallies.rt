@@ -1,16 +1,25 @@
-// What is counted: a refusal under its number, calls that are not refused by their kind; edges and lists; frames with damage in reach and out of it.
-pub(crate) const SHAPED: usize = 32;
+// What is counted: a refusal under its number, calls that are taken by their kind; edges, lists, and new shapes in them; frames with damage in reach and past it.
+use plain::tally::count;
 
-pub(crate) const ENCODED: usize = 33;
+pub(crate) const FOUND: usize = 32;
 
-pub(crate) const FOUND: usize = 34;
+pub(crate) const MENDED: usize = 33;
 
-pub(crate) const MENDED: usize = 35;
+pub(crate) const RENEWED: usize = 34;
 
-pub(crate) const EDGES: usize = 36;
+pub(crate) const EDGES: usize = 35;
 
-pub(crate) const LISTS: usize = 37;
+pub(crate) const LISTS: usize = 36;
 
-pub(crate) const IN_REACH: usize = 38;
+pub(crate) const IN_REACH: usize = 37;
 
-pub(crate) const PAST_REACH: usize = 39;
+pub(crate) const PAST_REACH: usize = 38;
+
+// Counts a call under its refusal, or under `kind` where it is taken.
+pub(crate) fn tally(number: u32, kind: usize, counts: &mut [u64]) {
+    if number == 0 {
+        count(counts, kind, true);
+        return;
+    }
+    count(counts, number as usize, true);
+}
