@@ -1,7 +1,9 @@
 pub mod AllSequences
 pub mod BackSubstitution
 pub mod Cancelling
+pub mod Completing
 pub mod Crossing
+pub mod Erased
 pub mod Gathering
 pub mod InRange
 pub mod Locating

@@ -1,4 +1,5 @@
 pub mod Equations
+pub mod Erasures
 pub mod Locating
 pub mod Prime
 pub mod Registers

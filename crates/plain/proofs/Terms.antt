@@ -1,4 +1,4 @@
--- Sums with the same terms or terms of the same remainder, with one term set apart, and with none but the first.
+-- Sums with the same terms or terms of the same remainder, with one term set apart, with the first apart, and with none but the first.
 use mathlib.Core.Path.{_≡_, sym, ap, ap₂, _∙_}
 use Prim.Native.Nat.{ℕ, zero, suc, _+_, _≤_, _<_}
 use native.Mathlib.Nat.{le-step, lt-suc-self}
@@ -39,6 +39,13 @@ sum-apart (suc n) m f less = pick (ℕ-discrete m n) (λ q. sum-apart n m f q)
               let l = same n (omega arith) (omega arith) in omega arith,
         )
 
+-- the first term, and the terms after it
+pub sum-head : (n : ℕ) (f : ℕ → ℕ) → sum (suc n) f ≡ f 0 + sum n (λ k. f (suc k))
+sum-head zero f = let s = sum-suc 0 f in let z = sum-zero f in let e = sum-zero (λ k. f (suc k)) in omega arith
+sum-head (suc n) f =
+    let s = sum-suc (suc n) f in let q = sum-head n f in let t = sum-suc n (λ k. f (suc k)) in omega arith
+
+-- none but the first
 pub sum-first : (n : ℕ) (f : ℕ → ℕ) → 0 < n → ((j : ℕ) → 1 ≤ j → j < n → f j ≡ 0) → sum n f ≡ f 0
 sum-first zero f some zeros = absurd (let z : ⊥ = omega arith in z)
 sum-first (suc zero) f some zeros = let s = sum-suc 0 f in let z = sum-zero f in omega arith

@@ -1,4 +1,5 @@
 pub mod Answers
+pub mod Cells
 pub mod Counting
 pub mod Drawn
 pub mod Frames

@@ -176,7 +176,8 @@ fn answers(answer: Answered, number: u32, model: Model, found: Model) -> bool {
 pub(crate) fn locate(pair: Pair, frame: &[u16], counts: &mut [u64]) -> Pair {
     let due = model::located(pair.model, frame);
     let model = due.model;
-    let answer = whole_job::locate(pair.job, frame);
+    let none = [0u64; 32];
+    let answer = whole_job::locate(pair.job, &none, frame);
     let reply = answer.reply;
     let job = answer.job;
     tally(of_reply(reply), FOUND, counts);

@@ -59,7 +59,8 @@ fn shaped() -> Job {
 fn locate(job: Job, n: usize, v: u16, k: usize) -> Job {
     let mut room = [0u16; 16];
     set(&mut room, k, v);
-    whole_job::locate(job, part(&room, 0, n)).job
+    let none = [0u64; 32];
+    whole_job::locate(job, &none, part(&room, 0, n)).job
 }
 
 fn located() -> Job {
@@ -75,7 +76,8 @@ fn mend(job: Job, n: usize, v: u16, k: usize) -> Job {
 fn locates(job: Job, n: usize, v: u16, k: usize) -> u32 {
     let mut room = [0u16; 16];
     set(&mut room, k, v);
-    let answer = whole_job::locate(job, part(&room, 0, n));
+    let none = [0u64; 32];
+    let answer = whole_job::locate(job, &none, part(&room, 0, n));
     let reply = answer.reply;
     of_reply(reply)
 }

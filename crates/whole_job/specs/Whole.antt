@@ -8,7 +8,7 @@ use Rattle.whole_job.specs.declared.Job.{Job}
 use Rattle.whole_job.specs.declared.Reshaped.{Reshaped}
 
 abbrev pub arraysOf : Job → Arrays
-arraysOf j = record { sums = j .sums; taps = j .taps }
+arraysOf j = record { sums = j .sums; taps = j .taps; declared = j .declared }
 
 abbrev pub jobOf : Job → Model.Job
 jobOf j = beside (j .head) (arraysOf j)

@@ -15,6 +15,7 @@ pub struct Job {
     pub head: Head,
     pub sums: [u16; 512],
     pub taps: [u16; 65],
+    pub declared: [u64; 32],
 }
 
 // What shape answers, and the job as it leaves it.
@@ -32,12 +33,18 @@ pub struct Answered {
 
 // An empty job with arrays of zeros.
 pub fn empty() -> Job
-    ensures { λ r. ⌜ r ≡ record { head = emptyHead; sums = replicate 512 0; taps = replicate 65 0 } ⌝ }
+    ensures { λ r. ⌜ r ≡ record { head = emptyHead; sums = replicate 512 0; taps = replicate 65 0; declared = replicate 32 0 } ⌝ }
 {
     let head = calls::states::empty();
     let sums = [0u16; 512];
     let taps = [0u16; 65];
-    Job { head, sums, taps }
+    let declared = [0u64; 32];
+    Job {
+        head,
+        sums,
+        taps,
+        declared,
+    }
 }
 
 pub fn shape(j: Job, columns: usize, checks: &[u16]) -> Reshaped
@@ -48,7 +55,13 @@ pub fn shape(j: Job, columns: usize, checks: &[u16]) -> Reshaped
     let head = answer.head;
     let sums = j.sums;
     let taps = j.taps;
-    let job = Job { head, sums, taps };
+    let declared = j.declared;
+    let job = Job {
+        head,
+        sums,
+        taps,
+        declared,
+    };
     Reshaped { checked, job }
 }
 
@@ -59,16 +72,24 @@ pub fn encode(j: Job, frame: &mut [u16]) -> Checked
     calls::encode::encode(j.head, frame)
 }
 
-pub fn locate(j: Job, frame: &[u16]) -> Answered
-    ensures { λ r. ⌜ answeredOutcome (answeredOf r) (arraysOf (r .job)) (now (frame .entry)) ≡ step (jobOf j) (locate (now (frame .entry))) ⌝ }
+pub fn locate(j: Job, declared: &[u64; 32], frame: &[u16]) -> Answered
+    ensures { λ r. ⌜
+        answeredOutcome (answeredOf r) (arraysOf (r .job)) (now (frame .entry)) ≡ step (jobOf j) (locate (now (declared .entry)) (now (frame .entry)))
+        ⌝ }
 {
     let mut sums = j.sums;
     let mut taps = j.taps;
-    let answer = calls::locate::locate(j.head, &mut sums, &mut taps, frame);
+    let mut held = j.declared;
+    let answer = calls::locate::locate(j.head, &mut sums, &mut taps, &mut held, declared, frame);
     let reply = answer.reply;
     let columns = answer.columns;
     let head = answer.head;
-    let job = Job { head, sums, taps };
+    let job = Job {
+        head,
+        sums,
+        taps,
+        declared: held,
+    };
     Answered {
         reply,
         columns,
@@ -81,11 +102,17 @@ pub fn repair(j: Job, frame: &mut [u16]) -> Answered
 {
     let sums = j.sums;
     let taps = j.taps;
-    let answer = calls::repair::repair(j.head, &sums, frame);
+    let declared = j.declared;
+    let answer = calls::repair::repair(j.head, &sums, &declared, frame);
     let reply = answer.reply;
     let columns = answer.columns;
     let head = answer.head;
-    let job = Job { head, sums, taps };
+    let job = Job {
+        head,
+        sums,
+        taps,
+        declared,
+    };
     Answered {
         reply,
         columns,

@@ -10,7 +10,7 @@ empty-requires : tie.Need-empty-requires
 empty-requires c κs = search needs
 
 returns : tie.Need-returns
-returns c = ap (λ (h : Head). record { head = h; sums = replicate 512 0; taps = replicate 65 0 }) (c .empty .ensures)
+returns c = ap (λ (h : Head). record { head = h; sums = replicate 512 0; taps = replicate 65 0; declared = replicate 32 0 }) (c .empty .ensures)
 
 pub empty-spec : {M : Type 1} → statement M
 empty-spec = tie.close (tie.spec empty-requires returns)

@@ -4,6 +4,12 @@ use borrow.Author.Needs.{needs}
 use Rattle.whole_job.proofs.repair.Statement.{statement}
 use Rattle.whole_job.proofs.repair.Tie as tie
 
+abbrev lent-of : tie.After-repair → tie.After-taps
+lent-of c = c .before .before .before .before .before
+
+abbrev start-of : tie.After-taps → tie.Start
+start-of c = c .before .before .before
+
 repair-requires : tie.Need-repair-requires
 repair-requires c κs = search needs
 
@@ -13,7 +19,7 @@ same-length c = search needs
 returns : tie.Need-returns
 returns c =
     let repaired = c .before .before .before .before in
-    repaired .repair .ensures (arraysOf (repaired .before .before .before .before .before .before .args .j))
+    repaired .repair .ensures (arraysOf (start-of (lent-of repaired) .args .j))
 
 pub repair-spec : {M : Type 1} → statement M
 repair-spec = tie.close (tie.spec repair-requires same-length returns)

@@ -8,7 +8,9 @@ shape-requires : tie.Need-shape-requires
 shape-requires c κs = search needs
 
 returns : tie.Need-returns
-returns c = c .before .before .before .shape .ensures (arraysOf (c .before .before .before .before .before .args .j))
+returns c =
+    let shaped = c .before .before .before .before in
+    shaped .shape .ensures (arraysOf (shaped .before .before .args .j))
 
 pub shape-spec : {M : Type 1} → statement M
 shape-spec = tie.close (tie.spec shape-requires returns)

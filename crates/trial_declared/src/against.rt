@@ -1,0 +1,191 @@
+// Locate and repair against the model: the answer, the frame and the job that they leave.
+use crate::model;
+use crate::model::LOCATED;
+use crate::model::Model;
+use columns::Columns;
+use job::Phase;
+use plain::answers::columns_of;
+use plain::answers::of_checked;
+use plain::answers::of_reply;
+use plain::compare::differ_in;
+use plain::compare::same;
+use plain::compare::same_columns;
+use plain::frames::legal;
+use plain::values::copy;
+use plain::values::part;
+use whole_job::Answered;
+use whole_job::Job;
+
+// A job and its model. They agree until a call answers or leaves what the model does not; the number by which the last call is refused, or 0.
+pub(crate) struct Pair {
+    pub(crate) agree: bool,
+    pub(crate) number: u32,
+    pub(crate) job: Job,
+    pub(crate) model: Model,
+}
+
+pub(crate) fn empty(planted: u16) -> Pair {
+    let job = whole_job::empty();
+    let model = model::empty(planted);
+    Pair {
+        agree: true,
+        number: 0,
+        job,
+        model,
+    }
+}
+
+// The job with another shape, and a frame that it encodes. Declared cells play no part in either: `trial_calls` compares them.
+pub(crate) fn shape(pair: Pair, columns: u16, checks: &[u16], frame: &mut [u16]) -> Pair {
+    let held = pair.model;
+    let model = model::shaped(held.planted, model::SHAPED, columns, checks);
+    let job = whole_job::shape(pair.job, columns as usize, checks).job;
+    let number = of_checked(whole_job::encode(job, frame));
+    Pair {
+        agree: number == 0,
+        number,
+        job,
+        model,
+    }
+}
+
+fn phase_number(phase: Phase) -> u16 {
+    match phase {
+        Phase::Empty => 0,
+        Phase::Shaped => 1,
+        Phase::Located {
+            length: _,
+            alone: _,
+        } => 2,
+    }
+}
+
+fn found_length(phase: Phase) -> usize {
+    match phase {
+        Phase::Empty => 0,
+        Phase::Shaped => 0,
+        Phase::Located { length, alone: _ } => length,
+    }
+}
+
+fn same_words(a: &[u64; 32], b: &[u64; 32]) -> bool {
+    for k in 0..32 {
+        if a[k] != b[k] {
+            return false;
+        }
+    }
+    true
+}
+
+// These are c columns, those that the model holds.
+fn same_found(c: usize, columns: Columns, found: Model) -> bool {
+    let named = found.named;
+    if c != found.length {
+        return false;
+    }
+    same_columns(columns, &named)
+}
+
+fn same_sums(job: Job, model: Model) -> bool {
+    let sums = job.sums;
+    let held = model.sums;
+    same(&held, &sums, 0)
+}
+
+fn same_cells(job: Job, model: Model) -> bool {
+    let declared = job.declared;
+    let words = model.words;
+    same_words(&declared, &words)
+}
+
+// The phase is that of the model and, of a located job, what it holds.
+fn same_state(job: Job, model: Model) -> bool {
+    let head = job.head;
+    let phase = head.phase;
+    if phase_number(phase) != model.phase {
+        return false;
+    }
+    if model.phase != LOCATED {
+        return true;
+    }
+    if !same_sums(job, model) {
+        return false;
+    }
+    if !same_cells(job, model) {
+        return false;
+    }
+    same_found(found_length(phase), head.columns, model)
+}
+
+// What is returned is that of the model; where it is no refusal, the columns are those that `found` holds.
+fn answers(answer: Answered, number: u32, model: Model, found: Model) -> bool {
+    let reply = answer.reply;
+    if of_reply(reply) != number {
+        return false;
+    }
+    if !same_state(answer.job, model) {
+        return false;
+    }
+    if number != 0 {
+        return true;
+    }
+    same_found(columns_of(reply), answer.columns, found)
+}
+
+pub(crate) fn locate(pair: Pair, words: &[u64; 32], frame: &[u16]) -> Pair {
+    let due = model::located(pair.model, words, frame);
+    let model = due.model;
+    let answer = whole_job::locate(pair.job, words, frame);
+    let job = answer.job;
+    Pair {
+        agree: answers(answer, due.number, model, model),
+        number: due.number,
+        job,
+        model,
+    }
+}
+
+// Read with 0 in the declared cells, the frames differ in just the named columns.
+fn changed(model: Model, before: &[u16], after: &[u16]) -> bool {
+    let words = model.words;
+    let mut old = [0u16; 2048];
+    model::read(&words, model.columns, before, &mut old);
+    let mut new = [0u16; 2048];
+    model::read(&words, model.columns, after, &mut new);
+    let named = model.named;
+    differ_in(model.columns, model.rows as usize, &old, &new, &named)
+}
+
+// Repair leaves a legal frame. A refused one leaves the frame.
+fn mended(model: Model, number: u32, before: &[u16], after: &[u16]) -> bool {
+    if number != 0 {
+        return same(before, after, 0);
+    }
+    let room = model.checks;
+    if !legal(model.columns, part(&room, 0, model.rows as usize), after) {
+        return false;
+    }
+    changed(model, before, after)
+}
+
+// What repair answers and leaves of the frame before it is that of the model.
+fn repaired(held: Model, answer: Answered, before: &[u16], after: &[u16]) -> Pair {
+    let due = model::repaired(held, before);
+    let model = due.model;
+    let right = answers(answer, due.number, model, held);
+    let left = mended(held, due.number, before, after);
+    let job = answer.job;
+    Pair {
+        agree: right && left,
+        number: due.number,
+        job,
+        model,
+    }
+}
+
+pub(crate) fn repair(pair: Pair, frame: &mut [u16]) -> Pair {
+    let mut room = [0u16; 2048];
+    copy(frame, &mut room, 0);
+    let answer = whole_job::repair(pair.job, frame);
+    repaired(pair.model, answer, part(&room, 0, frame.len()), frame)
+}

@@ -1,0 +1,558 @@
+// Calls with declared cells at the edges (SPECIFICATION.md, "Declared cells"): what is just taken and what is just refused, which of two reasons comes first,
+// and the state that is left. The shape has four columns and the checks 3 and 2; the frame of zeros is legal. The cell of column i in row h has mark
+// 256·h + i.
+use crate::cells::declare;
+use crate::tallies::EDGES;
+use plain::answers::columns_of;
+use plain::answers::of_checked;
+use plain::answers::of_reply;
+use plain::compare::same;
+use plain::tally::count;
+use plain::tally::print_list;
+use plain::values::first;
+use plain::values::get;
+use plain::values::part;
+use plain::values::set;
+use whole_job::Answered;
+use whole_job::Job;
+
+fn declare_from(words: &mut [u64; 32], k: usize, n: usize) {
+    for i in 0..n {
+        declare(words, std::num::wrapping_add_usize(k, i));
+    }
+}
+
+// The n marks from 0 on, and the m marks from k on. An edge has n, k and m at its places 1 to 3.
+fn cells(edge: &[u16]) -> [u64; 32] {
+    let mut words = [0u64; 32];
+    declare_from(&mut words, 0, get(edge, 1) as usize);
+    declare_from(&mut words, get(edge, 2) as usize, get(edge, 3) as usize);
+    words
+}
+
+// Locates, with these cells, a frame whose size, the value of its first symbols and how many these are stand at places 4 to 6.
+fn locate(job: Job, edge: &[u16]) -> Answered {
+    let words = cells(edge);
+    let mut room = [0u16; 16];
+    set(&mut room, get(edge, 6) as usize, get(edge, 5));
+    whole_job::locate(job, &words, part(&room, 0, get(edge, 4) as usize))
+}
+
+fn shaped() -> Job {
+    let checks = [3u16, 2];
+    whole_job::shape(whole_job::empty(), 4, &checks).job
+}
+
+// An empty job; a shaped one; one located with a declared cell and damage in the column after it; one located with as many declared cells as checks.
+fn job_of(kind: u16) -> Job {
+    let one = [0u16, 1, 0, 0, 8, 5, 2];
+    let full = [0u16, 3, 256, 2, 8, 0, 0];
+    match kind {
+        0 => whole_job::empty(),
+        1 => shaped(),
+        2 => locate(shaped(), &one).job,
+        _ => locate(shaped(), &full).job,
+    }
+}
+
+// The number of the refusal, or 100 more than the number of columns.
+fn number_of(answer: Answered) -> u16 {
+    let reply = answer.reply;
+    let number = of_reply(reply);
+    if number != 0 {
+        return (number % 65536) as u16;
+    }
+    100 + (columns_of(reply) % 256) as u16
+}
+
+// Of each edge the job, the cells, the frame, and what locate answers.
+fn locate_edge(i: usize) -> bool {
+    let edges: [u16; 152] = [
+        0,
+        0,
+        2047,
+        1,
+        7,
+        257,
+        8,
+        21, //
+        1,
+        0,
+        2047,
+        1,
+        7,
+        257,
+        8,
+        7, //
+        1,
+        0,
+        2047,
+        1,
+        8,
+        257,
+        8,
+        31, //
+        1,
+        0,
+        4,
+        1,
+        8,
+        0,
+        0,
+        31, //
+        1,
+        0,
+        255,
+        1,
+        8,
+        0,
+        0,
+        31, //
+        1,
+        0,
+        259,
+        1,
+        8,
+        0,
+        0,
+        100, //
+        1,
+        0,
+        260,
+        1,
+        8,
+        0,
+        0,
+        31, //
+        1,
+        0,
+        512,
+        1,
+        8,
+        0,
+        0,
+        31, //
+        1,
+        3,
+        256,
+        2,
+        8,
+        0,
+        0,
+        100, //
+        1,
+        4,
+        256,
+        2,
+        8,
+        0,
+        0,
+        31, //
+        1,
+        3,
+        256,
+        3,
+        8,
+        0,
+        0,
+        31, //
+        1,
+        3,
+        0,
+        0,
+        8,
+        257,
+        3,
+        100, //
+        1,
+        3,
+        0,
+        0,
+        8,
+        65535,
+        3,
+        100, //
+        1,
+        3,
+        0,
+        0,
+        8,
+        257,
+        4,
+        4, //
+        1,
+        2,
+        0,
+        0,
+        8,
+        257,
+        3,
+        4, //
+        1,
+        1,
+        0,
+        0,
+        8,
+        5,
+        2,
+        101, //
+        1,
+        2,
+        0,
+        0,
+        8,
+        5,
+        3,
+        24, //
+        1,
+        3,
+        0,
+        0,
+        8,
+        5,
+        5,
+        25, //
+        1,
+        0,
+        0,
+        0,
+        8,
+        5,
+        1,
+        101,
+    ];
+    let edge = part(&edges, (i % 256) * 8, 8);
+    number_of(locate(job_of(get(edge, 0)), edge)) == get(edge, 7)
+}
+
+// The job with other cells than those of its locate.
+fn forged(job: Job, words: [u64; 32]) -> Job {
+    let mut other = job;
+    other.declared = words;
+    other
+}
+
+// What comes before a repair: nothing, another locate, or other cells in the job.
+fn changed(job: Job, edge: &[u16]) -> Job {
+    match get(edge, 0) {
+        0 => job,
+        1 => locate(job, edge).job,
+        _ => forged(job, cells(edge)),
+    }
+}
+
+// What the first symbols must be after a repair.
+fn left(number: u32, v: u16) -> u16 {
+    if number == 0 {
+        return 0;
+    }
+    v
+}
+
+// What repair answers of a frame that is told at places 7 to 9. A refused call must leave the frame, and a frame that is mended must be all 0, or the
+// answer is 100.
+fn repairs(job: Job, edge: &[u16]) -> u16 {
+    let v = get(edge, 8);
+    let k = get(edge, 9) as usize;
+    let mut room = [0u16; 16];
+    set(&mut room, k, v);
+    let reply = whole_job::repair(job, first(&mut room, get(edge, 7) as usize)).reply;
+    let number = of_reply(reply);
+    let mut due = [0u16; 16];
+    set(&mut due, k, left(number, v));
+    if !same(&due, &room, 0) {
+        return 100;
+    }
+    (number % 65536) as u16
+}
+
+// Of each edge the job, what comes before the repair with its cells and frame, the frame that is repaired, and what is answered. A job with forged cells
+// with which no locate leaves it (past the shape, more than the checks, or with fewer checks left than columns named) counts as shaped.
+fn repair_edge(i: usize) -> bool {
+    let edges: [u16; 204] = [
+        2,
+        0,
+        0,
+        0,
+        0,
+        0,
+        0,
+        0,
+        8,
+        5,
+        2,
+        0, //
+        2,
+        0,
+        0,
+        0,
+        0,
+        0,
+        0,
+        0,
+        7,
+        5,
+        2,
+        7, //
+        2,
+        0,
+        0,
+        0,
+        0,
+        0,
+        0,
+        0,
+        8,
+        257,
+        2,
+        4, //
+        2,
+        0,
+        0,
+        0,
+        0,
+        0,
+        0,
+        0,
+        8,
+        6,
+        2,
+        23, //
+        3,
+        0,
+        0,
+        0,
+        0,
+        0,
+        0,
+        0,
+        8,
+        65535,
+        3,
+        0, //
+        3,
+        0,
+        0,
+        0,
+        0,
+        0,
+        0,
+        0,
+        8,
+        5,
+        4,
+        23, //
+        2,
+        1,
+        2,
+        0,
+        0,
+        8,
+        5,
+        2,
+        8,
+        65535,
+        2,
+        0, //
+        2,
+        1,
+        2,
+        0,
+        0,
+        8,
+        5,
+        2,
+        8,
+        5,
+        3,
+        23, //
+        2,
+        1,
+        0,
+        0,
+        0,
+        8,
+        5,
+        1,
+        8,
+        5,
+        1,
+        0, //
+        2,
+        1,
+        0,
+        512,
+        1,
+        8,
+        5,
+        2,
+        8,
+        5,
+        2,
+        0, //
+        2,
+        1,
+        2,
+        0,
+        0,
+        8,
+        5,
+        3,
+        8,
+        5,
+        2,
+        22, //
+        2,
+        2,
+        0,
+        4,
+        1,
+        0,
+        0,
+        0,
+        8,
+        5,
+        2,
+        22, //
+        2,
+        2,
+        0,
+        2047,
+        1,
+        0,
+        0,
+        0,
+        7,
+        257,
+        8,
+        22, //
+        3,
+        2,
+        4,
+        256,
+        2,
+        0,
+        0,
+        0,
+        8,
+        65535,
+        3,
+        22, //
+        2,
+        2,
+        3,
+        0,
+        0,
+        0,
+        0,
+        0,
+        8,
+        5,
+        2,
+        22, //
+        2,
+        2,
+        2,
+        0,
+        0,
+        0,
+        0,
+        0,
+        8,
+        5,
+        2,
+        23, //
+        1,
+        2,
+        0,
+        512,
+        1,
+        0,
+        0,
+        0,
+        8,
+        5,
+        2,
+        22,
+    ];
+    let edge = part(&edges, (i % 256) * 12, 12);
+    let rest = part(edge, 1, 11);
+    repairs(changed(job_of(get(edge, 0)), rest), rest) == get(rest, 10)
+}
+
+// A job with forged cells past the shape.
+fn past() -> Job {
+    let edge = [0u16, 0, 512, 1];
+    forged(job_of(2), cells(&edge))
+}
+
+// It still encodes.
+fn still_encodes() -> bool {
+    let mut room = [0u16; 8];
+    of_checked(whole_job::encode(past(), &mut room)) == 0
+}
+
+// It still locates.
+fn still_locates() -> bool {
+    let edge = [0u16, 0, 0, 0, 8, 5, 1];
+    number_of(locate(past(), &edge)) == 101
+}
+
+// The smallest frame whose register names as many columns as it is long, while no legal frame lies so near: the column that is named is declared in the second
+// row, where another one is damaged.
+fn smallest_refused() -> bool {
+    let checks = [2u16, 2];
+    let job = whole_job::shape(whole_job::empty(), 3, &checks).job;
+    let edge = [0u16, 0, 256, 1];
+    let words = cells(&edge);
+    let frame = [1u16, 0, 0, 65535, 1, 0];
+    number_of(whole_job::locate(job, &words, &frame)) == 26
+}
+
+fn other_edge(i: usize) -> bool {
+    match i {
+        0 => still_encodes(),
+        1 => still_locates(),
+        _ => smallest_refused(),
+    }
+}
+
+fn edge(kind: u16, i: u16) -> bool {
+    let k = i as usize;
+    match kind {
+        0 => locate_edge(k),
+        1 => repair_edge(k),
+        _ => other_edge(k),
+    }
+}
+
+// How many edges of a kind there are.
+fn edges_of(kind: u16) -> u16 {
+    match kind {
+        0 => 19,
+        1 => 17,
+        _ => 3,
+    }
+}
+
+fn try_kind(kind: u16, counts: &mut [u64]) -> bool {
+    for i in 0..edges_of(kind) {
+        count(counts, EDGES, true);
+        if !edge(kind, i) {
+            let place = [kind, i];
+            print_list(b"edges disagree: kind and number", &place);
+            io::write_all(1, b"\n");
+            return false;
+        }
+    }
+    true
+}
+
+pub(crate) fn try_all(counts: &mut [u64]) -> bool {
+    for kind in 0..3u16 {
+        if !try_kind(kind, counts) {
+            return false;
+        }
+    }
+    true
+}

@@ -1,0 +1,222 @@
+// A simple model of a job that is shaped well: what locate and repair must answer, and the state that they leave. It shares no code with the library.
+use crate::cells::declarable;
+use crate::search::all_completable;
+use crate::search::named_by;
+use brute::locator::Expected;
+use plain::cells::clear;
+use plain::frames::check_sums;
+use plain::values::copy;
+use plain::values::get;
+use plain::values::part;
+use plain::values::product;
+
+pub(crate) const EMPTY: u16 = 0;
+
+pub(crate) const SHAPED: u16 = 1;
+
+pub(crate) const LOCATED: u16 = 2;
+
+// What a planted model does wrong: it does not ask whether rows can be completed, or it keeps the cells of the locate before.
+pub(crate) const RIGHT: u16 = 0;
+
+pub(crate) const NOT_COMPLETED: u16 = 1;
+
+pub(crate) const CELLS_KEPT: u16 = 2;
+
+// The phase, the shape and, of a located job, the check sums of the frame as read, the declared cells, the length of the register and a mark for each column
+// that it names.
+pub(crate) struct Model {
+    pub(crate) planted: u16,
+    pub(crate) phase: u16,
+    pub(crate) columns: u16,
+    pub(crate) rows: u16,
+    pub(crate) checks: [u16; 8],
+    pub(crate) sums: [u16; 512],
+    pub(crate) words: [u64; 32],
+    pub(crate) length: usize,
+    pub(crate) named: [u16; 256],
+}
+
+// The number of the refusal, or 0, and the model as the call leaves it.
+pub(crate) struct Step {
+    pub(crate) number: u32,
+    pub(crate) model: Model,
+}
+
+pub(crate) fn shaped(planted: u16, phase: u16, columns: u16, list: &[u16]) -> Model {
+    let mut checks = [0u16; 8];
+    copy(list, &mut checks, 0);
+    let sums = [0u16; 512];
+    let words = [0u64; 32];
+    let named = [0u16; 256];
+    Model {
+        planted,
+        phase,
+        columns,
+        rows: (list.len() % 65536) as u16,
+        checks,
+        sums,
+        words,
+        length: 0,
+        named,
+    }
+}
+
+pub(crate) fn empty(planted: u16) -> Model {
+    let none = [0u16; 0];
+    shaped(planted, EMPTY, 0, &none)
+}
+
+// How many symbols a frame has.
+pub(crate) fn size(model: Model) -> usize {
+    product(model.rows, model.columns) as usize
+}
+
+// A symbol is above 256.
+fn above(a: &[u16]) -> bool {
+    for i in 0..a.len() {
+        if get(a, i) > 256 {
+            return true;
+        }
+    }
+    false
+}
+
+// The frame with 0 in its declared cells.
+pub(crate) fn read(words: &[u64; 32], columns: u16, frame: &[u16], room: &mut [u16]) {
+    copy(frame, room, 0);
+    clear(words, columns, room);
+}
+
+// The register of a frame as read and, where it names as many columns as it is long, whether each row can be completed.
+pub(crate) fn search(model: Model, words: &[u64; 32], sums: &[u16], marks: &mut [u16]) -> Expected {
+    let room = model.checks;
+    let checks = part(&room, 0, model.rows as usize);
+    let found = named_by(words, model.columns, checks, sums, marks);
+    if found.number != 0 {
+        return found;
+    }
+    if model.planted == NOT_COMPLETED {
+        return found;
+    }
+    if all_completable(words, checks, sums, marks) {
+        return found;
+    }
+    Expected {
+        number: 26,
+        length: found.length,
+    }
+}
+
+// The cells that a located model holds.
+fn held(model: Model, words: [u64; 32]) -> [u64; 32] {
+    if model.planted != CELLS_KEPT {
+        return words;
+    }
+    if model.phase != LOCATED {
+        return words;
+    }
+    model.words
+}
+
+// What a frame, as read, that is not refused by 21, 7, 31 or 4 makes of a job: located, or shaped by the refusals 24, 25 and 26.
+fn settle(model: Model, words: &[u64; 32], frame: &[u16]) -> Step {
+    let room = model.checks;
+    let checks = part(&room, 0, model.rows as usize);
+    let mut sums = [0u16; 512];
+    check_sums(model.columns, checks, frame, &mut sums);
+    let mut named = [0u16; 256];
+    let expected = search(model, words, &sums, &mut named);
+    let number = expected.number;
+    if number != 0 {
+        let refused = shaped(model.planted, SHAPED, model.columns, checks);
+        return Step {
+            number,
+            model: refused,
+        };
+    }
+    let mut next = shaped(model.planted, LOCATED, model.columns, checks);
+    next.sums = sums;
+    let cells = held(model, *words);
+    next.words = cells;
+    next.length = expected.length;
+    next.named = named;
+    Step {
+        number,
+        model: next,
+    }
+}
+
+// The reasons of a frame of the right size, as read: 31 and 4.
+fn cells_reason(model: Model, words: &[u64; 32], frame: &[u16]) -> u32 {
+    let checks = model.checks;
+    if !declarable(words, model.columns, part(&checks, 0, model.rows as usize)) {
+        return 31;
+    }
+    if above(frame) {
+        return 4;
+    }
+    0
+}
+
+pub(crate) fn located(model: Model, words: &[u64; 32], frame: &[u16]) -> Step {
+    if model.phase == EMPTY {
+        return Step { number: 21, model };
+    }
+    if frame.len() != size(model) {
+        return Step { number: 7, model };
+    }
+    let mut room = [0u16; 2048];
+    read(words, model.columns, frame, &mut room);
+    let number = cells_reason(model, words, &room);
+    if number != 0 {
+        return Step { number, model };
+    }
+    settle(model, words, &room)
+}
+
+// The check sums of the frame as read are not those located.
+fn sums_differ(model: Model, frame: &[u16]) -> bool {
+    let checks = model.checks;
+    let held = model.sums;
+    let mut sums = [0u16; 512];
+    let lent = part(&checks, 0, model.rows as usize);
+    check_sums(model.columns, lent, frame, &mut sums);
+    !plain::compare::same(&held, &sums, 0)
+}
+
+fn repair_reason(model: Model, frame: &[u16]) -> u32 {
+    if model.phase == EMPTY {
+        return 21;
+    }
+    if model.phase != LOCATED {
+        return 22;
+    }
+    if frame.len() != size(model) {
+        return 7;
+    }
+    let words = model.words;
+    let mut room = [0u16; 2048];
+    read(&words, model.columns, frame, &mut room);
+    if above(&room) {
+        return 4;
+    }
+    if sums_differ(model, &room) {
+        return 23;
+    }
+    0
+}
+
+pub(crate) fn repaired(model: Model, frame: &[u16]) -> Step {
+    let number = repair_reason(model, frame);
+    if number != 0 {
+        return Step { number, model };
+    }
+    let checks = model.checks;
+    let lent = part(&checks, 0, model.rows as usize);
+    let next = shaped(model.planted, SHAPED, model.columns, lent);
+    Step {
+        number,
+        model: next,
+    }
+}
