@@ -256,7 +256,7 @@ def declared(path, text):
 # Whoever calls these need know nothing: they answer for every input.
 ENTRY_POINTS = [
     "finder::find::find",
-    "calls::states::empty",
+    "heads::states::empty",
     "calls::shape::shape",
     "calls::encode::encode",
     "calls::locate::locate",

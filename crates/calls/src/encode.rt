@@ -1,6 +1,6 @@
 // Encoding: the job is read for its shape, and kept. Its arrays play no part.
-use crate::sound::counts_as_empty;
 use encoder::encode::encode_frame;
+use heads::sound::counts_as_empty;
 use job::Head;
 use refusal::Checked;
 use refusal::Refusal;

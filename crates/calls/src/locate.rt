@@ -1,15 +1,15 @@
 // Locating: the frame is tested, its check sums are taken, and the columns are located from these. Where nothing is declared, as it is most often, the frame is
 // looked at as it stands; else it is read with 0 in the declared cells.
-use crate::from_sums::locate_from;
-use crate::sound::counts_as_empty;
-use crate::states::refuse;
 use codec::sums::frame_sums;
 use erasures::cells::nothing;
 use erasures::reading::check_read;
 use erasures::reading::sums_read;
+use heads::sound::counts_as_empty;
+use heads::states::refuse;
 use job::Answered;
 use job::Head;
 use job::Reply;
+use locating::from_sums::locate_from;
 use refusal::Checked;
 use refusal::Refusal;
 use shapes::symbols::check_frame;
@@ -60,13 +60,13 @@ fn locate_read(
     if let Checked::Refuse(r) = checked {
         return refuse(j, r);
     }
-    let summed = sums_read(j.shape, declared, frame);
-    let answer = locate_from(j.shape, false, declared, &summed, taps);
+    let read = sums_read(j.shape, declared, frame);
+    let answer = locate_from(j.shape, false, declared, &read, taps);
     let reply = answer.reply;
     if let Reply::Refused(_) = reply {
         return answer;
     }
-    *sums = summed;
+    *sums = read;
     *held = *declared;
     answer
 }

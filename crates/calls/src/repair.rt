@@ -1,9 +1,4 @@
 // Repair: the rows of a frame completed at their marked and declared columns. Where the job holds no declared cells the frame is looked at as it stands.
-use crate::sound::counts_as_empty;
-use crate::states::is_located;
-use crate::states::length_of;
-use crate::states::mended;
-use crate::states::refuse;
 use codec::sums::frame_sums;
 use completion::mend::mend;
 use erasures::cells::is_declarable;
@@ -13,6 +8,11 @@ use erasures::fill::fill;
 use erasures::reading::check_read;
 use erasures::reading::sums_read;
 use frame::Shape;
+use heads::sound::counts_as_empty;
+use heads::states::is_located;
+use heads::states::length_of;
+use heads::states::mended;
+use heads::states::refuse;
 use job::Answered;
 use job::Head;
 use refusal::Checked;

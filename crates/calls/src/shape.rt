@@ -1,5 +1,5 @@
 // Giving a job its shape. Its arrays are neither read nor written.
-use crate::states::shaped;
+use heads::states::shaped;
 use job::Head;
 use job::Reshaped;
 use refusal::Checked;

@@ -9,7 +9,7 @@ use calls::encode::encode;
 use calls::locate::locate;
 use calls::repair::repair;
 use calls::shape::shape;
-use calls::states::empty;
+use heads::states::empty;
 use job::Answered;
 use job::Reply;
 use refusal::Checked;

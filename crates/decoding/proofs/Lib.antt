@@ -2,6 +2,7 @@ pub mod ColumnRoots
 pub mod CompletedRows
 pub mod DamageSums
 pub mod FrameSums
+pub mod LeftLengths
 pub mod LeftSequences
 pub mod MendedFrame
 pub mod NamedColumns

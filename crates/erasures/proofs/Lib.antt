@@ -1,4 +1,3 @@
 pub mod FilledFrame
-pub mod ReadCopy
 pub mod RowsDeclarable
 pub mod RowsFilled

@@ -1,16 +1,27 @@
 -- What is owed of shapes, frames and the encoder.
-use Prim.Native.Nat.{_*_}
+use mathlib.Core.Path.{_≡_, sym, _∙_}
+use mathlib.Core.Logic.{_⊎_, inl, inr}
+use mathlib.Core.Bool.{true, false}
+use mathlib.Core.List.{List}
+use Prim.Native.Nat.{ℕ, _*_, _<_}
 use native.Mathlib.Decide.{decLt, ℕ-discrete}
 use native.Mathlib.Omega.{arith}
 use lib.ListN.{length}
+use Rattle.columns.specs.Columns.{has}
+use Rattle.columns.proofs.Listing.{by-test}
 use Rattle.refusal.proofs.Orders.{outcome-refused, outcome-passed}
+use Rattle.frame.proofs.Declarable.{read-says}
+use Rattle.frame.proofs.Distances.{agree, row-of-difference}
 use Rattle.frame.proofs.Encoding.{encoder}
+use Rattle.frame.proofs.ReadFrames.{length-read, read-declared, read-kept}
 use Rattle.frame.proofs.Reasons.{shape-says, encode-says, frame-says}
 use Rattle.frame.proofs.Shapes.{shape-ranges}
+use Rattle.frame.specs.DeclaredCells.{Declared, asRead, readTests, readReasons, differsRead, DiffersAt, Reading}
 use Rattle.frame.specs.Demands.{Demand1, Demand2, shapeReasons, encodeReasons, frameReasons}
 use Rattle.frame.specs.Encode.{encodeTests}
 use Rattle.frame.specs.Frame.{cell, frameTests}
 use Rattle.frame.specs.Shape.{shapeTests}
+use Rattle.frame.specs.declared.Shape.{Shape}
 
 pub demand-1 : Demand1
 demand-1 = record {
@@ -25,3 +36,41 @@ demand-2 s f shape pass =
     encoder s f (shape-ranges s shape)
     (elim (ℕ-discrete (length f) (s .rows * s .columns)) [ yes e ↦ e | no n ↦ absurd (size n) ])
     (λ h i r d c. elim (decLt (cell (s .columns) f h i) 257) [ yes l ↦ l | no n ↦ absurd (symbol (h, i, r, d, c, omega arith)) ])
+
+-- a column of the frames as read differs exactly where an undeclared cell of it does
+module _ (s : Shape) (D : Declared) (f g : List ℕ) (whole : length f ≡ s .rows * s .columns) (sized : length g ≡ s .rows * s .columns) (i : ℕ)
+    (inside : i < s .columns) where
+  shown : differsRead s D f g i ≡ true → DiffersAt s D f g i
+  shown differ =
+      let (h, below, apart) = row-of-difference s (asRead s D f) (asRead s D g) i differ in (
+        h,
+        below,
+        pick h below apart (by-test (has (D h) i)),
+        λ same. apart (by-cell h below same (by-test (has (D h) i))),
+      )
+    where
+      by-cell : (h : ℕ) → h < s .rows → cell (s .columns) f h i ≡ cell (s .columns) g h i → (has (D h) i ≡ true) ⊎ (has (D h) i ≡ false)
+          → cell (s .columns) (asRead s D f) h i ≡ cell (s .columns) (asRead s D g) h i
+      by-cell h below same (inl mem) = read-declared s D f whole h i below inside mem ∙ sym (read-declared s D g sized h i below inside mem)
+      by-cell h below same (inr out) = read-kept s D f whole h i below inside out ∙ same ∙ sym (read-kept s D g sized h i below inside out)
+
+      pick : (h : ℕ) → h < s .rows → (cell (s .columns) (asRead s D f) h i ≡ cell (s .columns) (asRead s D g) h i → ⊥)
+          → (has (D h) i ≡ true) ⊎ (has (D h) i ≡ false) → has (D h) i ≡ false
+      pick h below apart (inl mem) = absurd (apart (read-declared s D f whole h i below inside mem ∙ sym (read-declared s D g sized h i below inside mem)))
+      pick h below apart (inr out) = out
+
+  counts : DiffersAt s D f g i → differsRead s D f g i ≡ true
+  counts (h, below, out, apart) = pick (by-test (differsRead s D f g i))
+    where
+      pick : (differsRead s D f g i ≡ true) ⊎ (differsRead s D f g i ≡ false) → differsRead s D f g i ≡ true
+      pick (inl e) = e
+      pick (inr e) =
+          absurd (apart (sym (read-kept s D f whole h i below inside out) ∙ agree s (asRead s D f) (asRead s D g) i e h below
+          ∙ read-kept s D g sized h i below inside out))
+
+pub reading : Reading
+reading = record {
+  as-read = λ s D f whole. record { size = length-read s D f whole; declared = read-declared s D f whole; kept = read-kept s D f whole };
+  counted = λ s D f g whole sized i inside. (shown s D f g whole sized i inside, counts s D f g whole sized i inside);
+  refused = λ s D f. outcome-refused (readTests s D f) (readReasons s D f) (read-says s D f);
+}

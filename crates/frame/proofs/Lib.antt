@@ -17,6 +17,7 @@ pub mod HeldSequences
 pub mod HeldSums
 pub mod NothingDeclared
 pub mod Others
+pub mod ReadCopy
 pub mod ReadFrames
 pub mod ReadTests
 pub mod Reasons

@@ -3,14 +3,15 @@
 use mathlib.Core.Path.{_≡_}
 use mathlib.Core.Bool.{Bool, true, false, not, _&&_, _||_}
 use mathlib.Core.List.{List, [], _∷_}
-use mathlib.Core.Logic.{_⊎_}
+use mathlib.Core.Logic.{_⊎_, _↔_}
 use Prim.Native.Nat.{ℕ, _-_, _*_, _≤_, _<_}
 use lib.Dec.{leb, ltb, eqb}
 use lib.ListN.{length, getD, take, drop}
 use Rattle.columns.specs.Columns.{has, members}
 use Rattle.columns.specs.declared.Columns.{Columns}
 use Rattle.lists.specs.Tabulate.{every}
-use Rattle.refusal.specs.Order.{Reason, Test}
+use Rattle.refusal.specs.Order.{Reason, First, Test}
+use Rattle.refusal.specs.Outcome.{outcome, refused}
 use Rattle.frame.specs.Completion.{cleared}
 use Rattle.frame.specs.Demands.{sizeReason}
 use Rattle.frame.specs.Encode.{eachRow}
@@ -117,3 +118,25 @@ distanceRead s D f g = distance s (asRead s D f) (asRead s D g)
 
 abbrev pub differingRead : Shape → Declared → (f g : List ℕ) → Columns
 differingRead s D f g = differing s (asRead s D f) (asRead s D g)
+
+-- ---- what is owed
+
+-- the frame g is f as it is read
+pub record IsRead (s : Shape) (D : Declared) (f g : List ℕ) : Type 0 where
+  pub size : length g ≡ s .rows * s .columns
+  pub declared : (h i : ℕ) → h < s .rows → i < s .columns → has (D h) i ≡ true → cell (s .columns) g h i ≡ 0
+  pub kept : (h i : ℕ) → h < s .rows → i < s .columns → has (D h) i ≡ false → cell (s .columns) g h i ≡ cell (s .columns) f h i
+
+-- some cell of column i that is not declared differs
+abbrev pub DiffersAt : Shape → Declared → (f g : List ℕ) (i : ℕ) → Type 0
+DiffersAt s D f g i =
+    (h : ℕ) × (h < s .rows) × (has (D h) i ≡ false) × (cell (s .columns) f h i ≡ cell (s .columns) g h i → ⊥)
+
+-- Declared cells are read as 0, whatever they hold, and all others as they stand; distance counts the columns that differ in undeclared cells; and each of the
+-- numbers 7, 31, 4 is given exactly where its reason is the first that holds. Proved in proofs/Demands.antt.
+pub record Reading : Type 0 where
+  pub as-read : (s : Shape) (D : Declared) (f : List ℕ) → length f ≡ s .rows * s .columns → IsRead s D f (asRead s D f)
+  pub counted :
+      (s : Shape) (D : Declared) (f g : List ℕ) → length f ≡ s .rows * s .columns → length g ≡ s .rows * s .columns → (i : ℕ) →
+      i < s .columns → (differsRead s D f g i ≡ true) ↔ DiffersAt s D f g i
+  pub refused : (s : Shape) (D : Declared) (f : List ℕ) (k : ℕ) → (outcome (readTests s D f) ≡ refused k) ↔ First k (readReasons s D f)

@@ -16,3 +16,4 @@ pub mod Reasons
 pub mod Refusals
 pub mod Repairing
 pub mod Soundness
+pub mod Undeclared

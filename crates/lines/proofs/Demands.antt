@@ -242,8 +242,8 @@ module _ (r : List ℕ) (one : OfOneRecord r) where
   abbrev afterBad : List Reason
   afterBad =
       shapeReasons (fieldOf r 3) (checkCountsOf r) ++
-      (frameReasons (shapeOf (fieldOf r 3) (checkCountsOf r)) (frameSymbols r) ++
-      registerReasons (shapeOf (fieldOf r 3) (checkCountsOf r)) (frameSymbols r))
+      (readReasons (shapeOf (fieldOf r 3) (checkCountsOf r)) (declaredBy noWords) (frameSymbols r) ++
+      registerReasons (shapeOf (fieldOf r 3) (checkCountsOf r)) (declaredBy noWords) (frameSymbols r))
 
   frames-either : kindOf r ≡ 2 → Told r
       → Either (frameReasonsOf r) (lineOf r) (ShowsColumns (fieldOf r 3) (checkCountsOf r) (frameSymbols r) (lineOf r))
@@ -256,8 +256,10 @@ module _ (r : List ℕ) (one : OfOneRecord r) where
 
   frames : kindOf r ≡ 2 → Line (frameReasonsOf r) (lineOf r) (ShowsColumns (fieldOf r 3) (checkCountsOf r) (frameSymbols r) (lineOf r))
   frames kind =
-      line-owed (frameReasonsOf r) (lineOf r) _
-      (omega arith, (omega arith, (omega arith, (omega arith, (omega arith, (omega arith, (omega arith, (omega arith, (omega arith, tt)))))))))
+      line-owed (frameReasonsOf r) (lineOf r) _ (
+        omega arith,
+        (omega arith, (omega arith, (omega arith, (omega arith, (omega arith, (omega arith, (omega arith, (omega arith, (omega arith, tt))))))))),
+      )
       (λ s k e. other-letter 70 _ k (λ d. let z : ⊥ = omega arith in z) (sym (s .written) ∙ e)) (frames-either kind (told r one))
 
   one-line : IsLine (lineOf r)

@@ -35,7 +35,7 @@ pub struct Answered {
 pub fn empty() -> Job
     ensures { λ r. ⌜ r ≡ record { head = emptyHead; sums = replicate 512 0; taps = replicate 65 0; declared = replicate 32 0 } ⌝ }
 {
-    let head = calls::states::empty();
+    let head = heads::states::empty();
     let sums = [0u16; 512];
     let taps = [0u16; 65];
     let declared = [0u64; 32];

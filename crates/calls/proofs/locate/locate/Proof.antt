@@ -2,7 +2,7 @@
 use mathlib.Core.Path.{_≡_, refl, sym, _∙_}
 use mathlib.Core.Bool.{false}
 use Rattle.job.specs.Job.{countsEmpty}
-use Rattle.calls.proofs.Steps.{refusal-outcome, locate-empty}
+use Rattle.locating.proofs.Steps.{refusal-outcome, locate-empty}
 use borrow.Author.Needs.{needs}
 use Rattle.calls.proofs.locate.locate.Statement.{statement}
 use Rattle.calls.proofs.locate.locate.Tie as tie

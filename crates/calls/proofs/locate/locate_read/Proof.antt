@@ -11,8 +11,8 @@ use Rattle.frame.proofs.Declarable.{well-formed-declarable}
 use Rattle.frame.proofs.HeldSums.{held-below}
 use Rattle.job.proofs.Forms.{has-shape}
 use Rattle.refusal.specs.Outcome.{outcome, outcomeOf, passed}
-use Rattle.calls.proofs.Locating.{arrays-kept, arrays-written}
-use Rattle.calls.proofs.Steps.{refusal-outcome, passed-read, locate-refused, locate-goes-on}
+use Rattle.locating.proofs.Locating.{arrays-kept, arrays-written}
+use Rattle.locating.proofs.Steps.{refusal-outcome, passed-read, locate-refused, locate-goes-on}
 use borrow.Author.Needs.{needs}
 use Rattle.calls.proofs.locate.locate_read.Statement.{statement}
 use Rattle.calls.proofs.locate.locate_read.Tie as tie

@@ -11,9 +11,9 @@ use Rattle.frame.proofs.HeldSums.{held-below}
 use Rattle.frame.proofs.NothingDeclared.{nothing-declarable}
 use Rattle.job.proofs.Forms.{has-shape}
 use Rattle.refusal.specs.Outcome.{outcome, outcomeOf, passed}
-use Rattle.calls.proofs.Locating.{arrays-kept, arrays-written}
-use Rattle.calls.proofs.Steps.{refusal-outcome, passed-read, locate-refused, locate-goes-on}
-use Rattle.calls.proofs.Undeclared.{whole-tests, whole-sums}
+use Rattle.locating.proofs.Locating.{arrays-kept, arrays-written}
+use Rattle.locating.proofs.Steps.{refusal-outcome, passed-read, locate-refused, locate-goes-on}
+use Rattle.job.proofs.Undeclared.{whole-tests, whole-sums}
 use borrow.Author.Needs.{needs}
 use Rattle.calls.proofs.locate.locate_whole.Statement.{statement}
 use Rattle.calls.proofs.locate.locate_whole.Tie as tie

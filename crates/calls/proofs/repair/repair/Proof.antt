@@ -5,7 +5,7 @@ use denote.Ref.{now}
 use borrow.Author.Tests.{not-true, not-false}
 use Rattle.frame.specs.DeclaredCells.{declaredBy}
 use Rattle.job.specs.Job.{countsEmpty, declaredSound, isLocatedPhase, lengthOf}
-use Rattle.calls.proofs.Steps.{refusal-outcome, repair-empty, repair-unlocated}
+use Rattle.locating.proofs.Steps.{refusal-outcome, repair-empty, repair-unlocated}
 use borrow.Author.Needs.{needs}
 use Rattle.calls.proofs.repair.repair.Statement.{statement}
 use Rattle.calls.proofs.repair.repair.Tie as tie

@@ -16,8 +16,8 @@ use Rattle.job.specs.Job.{Arrays, beside, isLocated, withRead}
 use Rattle.job.proofs.Forms.{has-shape}
 use Rattle.job.proofs.Marked.{located-marked, located-reach}
 use Rattle.refusal.specs.Outcome.{outcome, outcomeOf, passed}
-use Rattle.calls.proofs.Steps.{refusal-outcome, mended-outcome, passed-read, passed-symbols, repair-refused, repair-differs, repair-mends}
-use Rattle.calls.proofs.Undeclared.{whole-tests, whole-sums, whole-sound, whole-mended}
+use Rattle.locating.proofs.Steps.{refusal-outcome, mended-outcome, passed-read, passed-symbols, repair-refused, repair-differs, repair-mends}
+use Rattle.job.proofs.Undeclared.{whole-tests, whole-sums, whole-sound, whole-mended}
 use borrow.Author.Needs.{needs}
 use Rattle.calls.proofs.repair.repair_whole.Statement.{statement}
 use Rattle.calls.proofs.repair.repair_whole.Tie as tie

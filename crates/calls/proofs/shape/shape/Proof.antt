@@ -2,7 +2,7 @@
 use mathlib.Core.Path.{sym, ap, _∙_}
 use Rattle.job.specs.Job.{shapedHead}
 use Rattle.refusal.specs.Outcome.{outcomeOf}
-use Rattle.calls.proofs.Steps.{passed-rows, shape-refused, shape-given}
+use Rattle.locating.proofs.Steps.{passed-rows, shape-refused, shape-given}
 use borrow.Author.Needs.{needs}
 use Rattle.calls.proofs.shape.shape.Statement.{statement}
 use Rattle.calls.proofs.shape.shape.Tie as tie

@@ -1,7 +1,7 @@
 -- `erasures::reading::as_read` meets its contract.
 use native.Mathlib.Omega.{arith}
 use Rattle.frame.proofs.RowPlace.{frame-small}
-use Rattle.erasures.proofs.ReadCopy.{copy-read}
+use Rattle.frame.proofs.ReadCopy.{copy-read}
 use borrow.Author.Needs.{needs}
 use Rattle.erasures.proofs.reading.as_read.Statement.{statement}
 use Rattle.erasures.proofs.reading.as_read.Tie as tie

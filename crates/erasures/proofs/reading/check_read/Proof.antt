@@ -8,7 +8,7 @@ use Rattle.frame.specs.DeclaredCells.{declaredBy, undeclaredBelow}
 use Rattle.frame.proofs.ReadTests.{by-read-tests}
 use Rattle.frame.proofs.RowPlace.{frame-small}
 use Rattle.refusal.specs.Outcome.{passed, refused}
-use Rattle.erasures.proofs.ReadCopy.{first-lent, symbols-copied}
+use Rattle.frame.proofs.ReadCopy.{first-lent, symbols-copied}
 use borrow.Author.Needs.{needs}
 use Rattle.erasures.proofs.reading.check_read.Statement.{statement}
 use Rattle.erasures.proofs.reading.check_read.Tie as tie

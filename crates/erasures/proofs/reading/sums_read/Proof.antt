@@ -4,7 +4,7 @@ use native.Mathlib.Omega.{arith}
 use lib.ListN.{length}
 use Rattle.frame.specs.Frame.{heldSums}
 use Rattle.frame.proofs.RowPlace.{frame-small}
-use Rattle.erasures.proofs.ReadCopy.{first-lent}
+use Rattle.frame.proofs.ReadCopy.{first-lent}
 use borrow.Author.Needs.{needs}
 use Rattle.erasures.proofs.reading.sums_read.Statement.{statement}
 use Rattle.erasures.proofs.reading.sums_read.Tie as tie

@@ -21,7 +21,7 @@ reply-line-requires c κs =
 returns-2 : tie.Need-returns-2
 returns-2 c =
     let located = c .before .before .before .before in
-    let passed = located .before .before .before in
+    let passed = located .before .before .before .before .before in
     let shaped = passed .before .before in
     let same =
     frame-located _ _ _ _ (shaped .before .empty .ensures) (shaped .shape .result) (shaped .shape .ensures) (located .locate .result) _

@@ -1,0 +1,4 @@
+pub mod Completing
+pub mod Lending
+pub mod Locating
+pub mod Steps

@@ -1,0 +1,3 @@
+pub mod FromSums
+pub mod RegisterOf
+pub mod Search
