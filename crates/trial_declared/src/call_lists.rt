@@ -1,5 +1,5 @@
-// Random lists of calls on one job. A frame stands in a room; each call is lent a copy of it, whose declared cells hold anything, and which may have a wrong size
-// or a symbol above 256.
+// Random lists of calls on one job. A frame stands in a room; each call is lent a copy of it, whose declared cells hold anything, and which may have a wrong
+// size or a symbol above 256.
 use crate::against;
 use crate::against::Pair;
 use crate::cells;

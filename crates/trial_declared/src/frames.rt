@@ -1,5 +1,5 @@
-// Random frames with declared cells: damaged, the declared cells filled with anything, located and repaired. Small ones are confirmed by all sets of columns, the
-// smallest by all legal frames; damage in reach of the checks that are left must be mended.
+// Random frames with declared cells: damaged, the declared cells filled with anything, located and repaired. Small ones are confirmed by all sets of columns,
+// the smallest by all legal frames; damage in reach of the checks that are left must be mended.
 use crate::against;
 use crate::against::Pair;
 use crate::cells;

@@ -1,4 +1,4 @@
-// What is counted: a refusal under its number, calls that are taken by their kind; edges, lists, and new shapes in them; frames with damage in reach and past it.
+// What is counted: a refusal under its number, calls that are taken by their kind; edges, lists, new shapes in them; frames with damage in reach and past it.
 use plain::tally::count;
 
 pub(crate) const FOUND: usize = 32;
