@@ -1,22 +1,21 @@
 -- Rows that can be completed at columns: the equations of the check sums are gathered in a table, one after the other, and a solution is a symbol for each
 -- column.
 use mathlib.Core.Path.{_≡_, refl, sym, ap, ap₂, subst, _∙_}
-use mathlib.Core.Bool.{Bool, true, false}
+use mathlib.Core.Bool.{true}
 use mathlib.Core.List.{List}
-use mathlib.Core.Logic.{_↔_}
 use Prim.Native.Nat.{ℕ, zero, suc, _+_, _*_, _-_, _%_, _^_, _≤_, _<_}
 use native.Mathlib.Decide.{ℕ-discrete}
 use native.Mathlib.Nat.{mod-lt, mul-comm, mul-one}
 use native.Mathlib.Numerals.{add-one}
 use native.Mathlib.Omega.{arith}
-use lib.ListN.{length, getD, set, length-set, replicate, length-replicate}
+use lib.ListN.{length, getD, set, length-set}
 use lib.Seq.{getD-set-same, getD-set-other}
 use Rattle.plain.proofs.Congruences.{equal, same-sum}
 use Rattle.plain.proofs.Powers.{mod-is-rem, power-of-power}
 use Rattle.plain.proofs.Remainders.{rem-mul}
 use Rattle.plain.proofs.Terms.{sum-head, sum-same}
-use Rattle.plain.proofs.Tests.{each-none, each-more, tells-true, tells-false}
-use Rattle.plain.specs.Plain.{Each, Tells, rem, sum}
+use Rattle.plain.proofs.Tests.{each-none, each-more}
+use Rattle.plain.specs.Plain.{Each, rem, sum}
 use Rattle.plain.specs.Written.{Wrote}
 use Rattle.brute.proofs.AllSequences.{next-length}
 use Rattle.brute.proofs.BackSubstitution.{some-solution}

@@ -1,5 +1,5 @@
--- A row that completes another one at a set J of columns, that is, agrees with it outside J and has its first check sums, as many as J has columns, 0: all its check
--- sums are 0 exactly where nothing is left of the other's when J is taken out.
+-- A row that completes another one at a set J of columns, that is, agrees with it outside J and has its first check sums, as many as J has columns, 0: all its
+-- check sums are 0 exactly where nothing is left of the other's when J is taken out.
 use mathlib.Core.Path.{_≡_, refl, sym, ap, _∙_}
 use mathlib.Core.Bool.{true, false}
 use mathlib.Core.List.{List, [], _∷_}

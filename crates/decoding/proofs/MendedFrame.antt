@@ -1,5 +1,6 @@
--- The mended frame: each row completed at the columns of a set M and its declared ones. It is well-formed, keeps the symbols in all other cells, has no check sum but 0
--- exactly where every row can be completed, and is the only legal frame that keeps these symbols where no row has fewer checks than columns to be filled.
+-- The mended frame: each row completed at the columns of a set M and its declared ones. It is well-formed, keeps the symbols in all other cells, has all check
+-- sums 0 exactly where every row can be completed, and is the only legal frame that keeps these symbols where no row has fewer checks than columns to be
+-- filled.
 use mathlib.Core.Path.{_≡_, sym, _∙_}
 use mathlib.Core.Bool.{true, false}
 use mathlib.Core.List.{List, []}
@@ -85,7 +86,8 @@ module _ (s : Shape) (shape : isShape s ≡ true) (D : Declared) (f : List ℕ) 
   unfolding mended
   mended-size = length-completedFrame n (s .rows) (λ h. either M (D h)) f (read .size)
 
-  pub mended-kept : (h i : ℕ) → h < s .rows → i < s .columns → has (either M (D h)) i ≡ false → cell (s .columns) (mended s D M f) h i ≡ cell (s .columns) (asRead s D f) h i
+  pub mended-kept : (h i : ℕ) → h < s .rows → i < s .columns → has (either M (D h)) i ≡ false
+      → cell (s .columns) (mended s D M f) h i ≡ cell (s .columns) (asRead s D f) h i
   unfolding mended
   mended-kept h i below inside out =
       completedFrame-kept n (s .rows) (λ h. either M (D h)) f (read .size) h i below inside out
@@ -115,7 +117,8 @@ module _ (s : Shape) (shape : isShape s ≡ true) (D : Declared) (f : List ℕ) 
   pub completable-says : (completable s D M (sumsRead s D f) ≡ true) ↔ Codeword s (mended s D M f)
   completable-says = (
     λ fits. sums-codeword s E (λ h j below.
-        row-codeword s shape F E h below (either M (D h)) (λ i inside. mended-kept h i below inside) (λ k. mended-zeros h k below) (fits-rows s D M f fits h below) j),
+        row-codeword s shape F E h below (either M (D h)) (λ i inside. mended-kept h i below inside) (λ k. mended-zeros h k below)
+        (fits-rows s D M f fits h below) j),
     λ code. keeps-fits E code mended-kept,
   )
 

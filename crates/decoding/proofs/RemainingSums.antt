@@ -69,7 +69,8 @@ module _ (J : Columns) (x : List ℕ) where
   pub remaining-below : (i : ℕ) → getD (remaining J x) i 0 < 257
   unfolding remaining
   remaining-below =
-      tabulate-each (λ a. a < 257) 0 (lit< tt) (length x - size J) _ (λ j. discrepancy-less 257 (size J) (locatorPolynomial (members J)) x (size J + suc j) (lit< tt))
+      tabulate-each (λ a. a < 257) 0 (lit< tt) (length x - size J) _
+      (λ j. discrepancy-less 257 (size J) (locatorPolynomial (members J)) x (size J + suc j) (lit< tt))
 
   remaining-symbol : (j : ℕ) → 1 ≤ j → j ≤ length x - size J
       → symbol (remaining J x) j ≡ discrepancy 257 (size J) (locatorPolynomial (members J)) x (size J + j)

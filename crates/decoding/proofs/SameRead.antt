@@ -1,5 +1,5 @@
--- What is located with declared cells depends on the check sums of the frame as read only; and mending a frame is mending it as read, so the code may clear the declared
--- cells first.
+-- What is located with declared cells depends on the check sums of the frame as read only; and mending a frame is mending it as read, so that code may clear
+-- the declared cells first.
 use mathlib.Core.Path.{_≡_, sym, ap, _∙_}
 use mathlib.Core.Bool.{true}
 use mathlib.Core.List.{List}

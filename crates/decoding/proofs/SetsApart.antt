@@ -58,7 +58,13 @@ module _ (J K : Columns) (apart : (i : ℕ) → i < 256 → has J i ≡ true →
 
   locs-length : length locs ≡ size (either J K)
   locs-length =
-      omega (arith, length-append (map locatorAt (members J)) (map locatorAt (members K)), length-map (members J) locatorAt, length-map (members K) locatorAt, sizes)
+      omega (
+        arith,
+        length-append (map locatorAt (members J)) (map locatorAt (members K)),
+        length-map (members J) locatorAt,
+        length-map (members K) locatorAt,
+        sizes,
+      )
 
   -- the place of a column's locator among those of its set
   place : (L : Columns) (i : ℕ) → i < 256 → has L i ≡ true → (count i (has L) < size L) × (getD (map locatorAt (members L)) (count i (has L)) 𝟘 ≡ locatorAt i)
@@ -113,7 +119,8 @@ module _ (J K : Columns) (apart : (i : ℕ) → i < 256 → has J i ≡ true →
         remaining-product (either J K) x j one within ∙ product (size (either J K) + j)
         ∙ conv-degree R257 (size J) (setLocator J) _ (size (either J K) + j) (set-locator-degree J) (omega arith)
         ∙ sum-ext R257 (suc (size J)) _ (λ i. setLocator J i ⊗ entries (remaining K x) (size J + j - i)) (λ i few.
-        ap (λ y. setLocator J i ⊗ y) (ap (conv R257 (setLocator K) (entries x)) (let e : size (either J K) + j - i ≡ size K + (size J + j - i) = omega arith in e)
+        ap (λ y. setLocator J i ⊗ y) (ap (conv R257 (setLocator K) (entries x))
+        (let e : size (either J K) + j - i ≡ size K + (size J + j - i) = omega arith in e)
         ∙ sym (remaining-product K x (size J + j - i) (omega arith) (omega arith))))
         ∙ sym (conv-degree R257 (size J) (setLocator J) (entries (remaining K x)) (size J + j) (set-locator-degree J) (omega arith))
         ∙ sym (remaining-product J (remaining K x) j one (omega arith))

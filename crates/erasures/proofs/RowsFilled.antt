@@ -29,7 +29,7 @@ use Rattle.frame.proofs.RowPlace.{RowPlace, row-place}
 use Rattle.frame.proofs.Rows.{row-cell, length-row}
 use Rattle.frame.proofs.RowsAhead.{row-ahead}
 use Rattle.frame.proofs.RowsChanged.{changed-none, changed-all}
-use Rattle.frame.proofs.RowsCompleted.{RowsCompleted, completed-more}
+use Rattle.frame.proofs.RowsAtSets.{RowsAtSets, more-at-sets}
 use Rattle.frame.proofs.Shapes.{shape-ranges}
 use Rattle.lists.proofs.Tabulated.{every-at}
 use Rattle.lists.proofs.Totals.{total-zero, total-suc, total-bound}
@@ -44,7 +44,7 @@ module _ (s : Shape) (declared : List ℕ) (M : Columns) (sums f : List ℕ) whe
   -- h rows are filled, and the sums of row h begin at `at`
   pub record RowsFilled (h at : ℕ) (frame : List ℕ) : Type 0 where
     pub place : at ≡ sumsBefore s h
-    pub rows : RowsCompleted (s .columns) (s .rows) (λ h. either M (declaredBy declared h)) f h frame
+    pub rows : RowsAtSets completed length-completed (s .columns) (s .rows) (λ h. either M (declaredBy declared h)) f h frame
 
   pub filled-none : RowsFilled 0 0 f
   filled-none = record { place = sym (total-zero (checksOf s)); rows = changed-none _ _ _ f }
@@ -133,5 +133,5 @@ module _ (s : Shape) (declared : List ℕ) (M : Columns) (sums f : List ℕ) whe
             → RowsFilled (h + 1) (at + count) (putMid (h * n) (h * n + n - h * n) frame y)
         filled-more y made = record {
           place = ap₂ _+_ (a .place) c ∙ sym (ap (sumsBefore s) (add-one h) ∙ total-suc h (checksOf s));
-          rows = completed-more n (s .rows) _ f h frame (a .rows) (place-of .inside) set y less e made;
+          rows = more-at-sets completed length-completed n (s .rows) _ f h frame (a .rows) (place-of .inside) set y less e made;
         }

@@ -28,8 +28,9 @@ use Rattle.examples.specs.Literals.{marked, refusals, Literals}
 pub examples : Examples
 unfolding table computed lengthOf registers kept doesGenerate residueLists split ordered placed largest discrepancy stepAt start withSaved changed turn
     rounds isAlone found foundAlone tabulate every joined noColumns phaseSound headSound countsEmpty step registerTests shapeOf rowsInRange
-    columnsInRange checksInRange isShape shapeTests weight checkSum checkSums rowSums sequences heldSums heldSequences asRead marksInside declarable undeclaredBelow
-    readTests rereadTests remaining allRemaining leftReach completable mended sameSums findingsSound declaredSound either eachRow encoded
+    columnsInRange checksInRange isShape shapeTests weight checkSum checkSums rowSums sequences heldSums heldSequences asRead marksInside
+    declarable undeclaredBelow readTests rereadTests remaining allRemaining leftReach completable mended sameSums findingsSound declaredSound either
+    eachRow encoded
     dataBelow encodeTests without locatorPolynomial cleared completion completed tests answer tapsLeft total noDivisor isPrime isModulus shifted
     reduced value sizeOf tapsOf aloneOf rowsReach named namedColumns namesAll count listed columnsOf has number
 examples = refl

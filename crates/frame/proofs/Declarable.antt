@@ -1,5 +1,5 @@
--- The tests of a frame with declared cells say their reasons. Where 31 does not fall, the declared columns of each row are below the shape's, no more than the row's
--- checks.
+-- The tests of a frame with declared cells say their reasons. Where 31 does not fall, the declared columns of each row are below the shape's, and no more than
+-- the row's checks.
 use mathlib.Core.Path.{_≡_, refl, sym, ap₂, _∙_}
 use mathlib.Core.Logic.{_⊎_, inl, inr}
 use mathlib.Core.List.{List}
@@ -36,7 +36,8 @@ module _ (s : Shape) (D : Declared) (ok : declarable s D ≡ true) where
   mark-inside : (h i : ℕ) → h < 8 → i < 256 → has (D h) i ≡ true → (ltb h (s .rows) ≡ true) × (ltb i (s .columns) ≡ true)
   unfolding marksInside
   mark-inside h i row low mem =
-      and-eq-true-iff (ltb h (s .rows)) (ltb i (s .columns)) .0 (second (has (D h) i) _ (every-at 256 _ (every-at 8 (marksInside s D) (parts .0) h row) i low) mem)
+      and-eq-true-iff (ltb h (s .rows)) (ltb i (s .columns)) .0
+      (second (has (D h) i) _ (every-at 256 _ (every-at 8 (marksInside s D) (parts .0) h row) i low) mem)
 
   pub declared-few : (h : ℕ) → h < s .rows → erasures D h ≤ checksOf s h
   declared-few h below = leb-true (erasures D h) (checksOf s h) (every-at (s .rows) _ (parts .1) h below)

@@ -27,9 +27,8 @@ pub mod RowData
 pub mod RowPlace
 pub mod Rows
 pub mod RowsAhead
+pub mod RowsAtSets
 pub mod RowsChanged
-pub mod RowsCleared
-pub mod RowsCompleted
 pub mod ShapeTests
 pub mod Shapes
 pub mod SymbolsPut

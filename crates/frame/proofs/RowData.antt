@@ -18,7 +18,7 @@ use Rattle.frame.proofs.CompletionLaws.{length-completed}
 use Rattle.frame.proofs.Rows.{row-cell, eachRow-later}
 use Rattle.lists.proofs.Entries.{getD-part}
 use Rattle.lists.proofs.Tabulated.{every-at}
-use Rattle.frame.proofs.RowsCompleted.{RowsCompleted}
+use Rattle.frame.proofs.RowsAtSets.{RowsAtSets}
 
 module _ (s : Shape) (f : List ℕ) (small : dataBelow s f ≡ true) (h : ℕ) (less : h < s .rows) where
   abbrev n : ℕ
@@ -31,7 +31,7 @@ module _ (s : Shape) (f : List ℕ) (small : dataBelow s f ≡ true) (h : ℕ) (
       (ap (λ (b : Bool). b || ltb (cell n f h i) 257) (sym (le-ltb i (checksOf s h) le))
       ∙ every-at n _ (every-at (s .rows) _ small h less) i l)
 
-  pub row-small : (sets : ℕ → Columns) (frame : List ℕ) → RowsCompleted n (s .rows) sets f h frame → h * n + n ≤ length f
+  pub row-small : (sets : ℕ → Columns) (frame : List ℕ) → RowsAtSets completed length-completed n (s .rows) sets f h frame → h * n + n ≤ length f
       → (i : ℕ) → checksOf s h ≤ i → i < n → getD (midOf (h * n) (h * n + n - h * n) frame) i 0 < 257
   row-small sets frame a inside i le l =
       let same =

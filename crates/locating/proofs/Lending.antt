@@ -171,7 +171,8 @@ module _ {rows : ℕ} {lengths symbols : List ℕ} {ss : List (List ℕ)} (lent 
         accepted = ap₂ (λ (n : ℕ) (l : List ℕ). outcome (tests 257 (take rows lengths) (take n symbols) (length l))) counted zero ∙ lent-passed lent;
       }
 
-  pub lent-answered : (left : List ℕ) (r : Found) → Finds 257 (take rows lengths) (take all symbols) taps left r → answerOf r ≡ register (sizeOf ss) (aloneOf ss)
+  pub lent-answered : (left : List ℕ) (r : Found) → Finds 257 (take rows lengths) (take all symbols) taps left r
+      → answerOf r ≡ register (sizeOf ss) (aloneOf ss)
   lent-answered left r finds =
       finds .answers ∙ ap₂ (λ (n : ℕ) (l : List ℕ). answer 257 (take rows lengths) (take n symbols) (length l)) counted zero ∙ lent-answer lent
 

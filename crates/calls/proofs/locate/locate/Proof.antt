@@ -12,7 +12,9 @@ abbrev start-of : tie.Else1 → tie.Start
 start-of c = c .before .before .before
 
 returns : tie.Need-returns
-returns c = λ a. refusal-outcome _ _ _ (c .refuse .ensures) refl ∙ locate-empty _ _ _ (sym (c .before .before .counts-as-empty .ensures) ∙ c .before .if1 .taken)
+returns c =
+    λ a. refusal-outcome _ _ _ (c .refuse .ensures) refl
+    ∙ locate-empty _ _ _ (sym (c .before .before .counts-as-empty .ensures) ∙ c .before .if1 .taken)
 
 -- the job does not count as empty
 full : (c : tie.Else1) → countsEmpty (start-of c .args .j) ≡ false

@@ -43,7 +43,8 @@ returns c =
     let start = start-of (checked .before .before) in
     λ a. refusal-outcome _ _ _ (c .refuse .ensures) refl
     ∙ locate-refused _ _ _ (start .pre .full) _
-    (sym (whole-tests _ (shape start) _ (start .pre .nothing) _) ∙ sym (checked .before .before .check-frame .ensures) ∙ ap outcomeOf (checked .checked .given .1))
+    (sym (whole-tests _ (shape start) _ (start .pre .nothing) _)
+    ∙ sym (checked .before .before .check-frame .ensures) ∙ ap outcomeOf (checked .checked .given .1))
 
 -- the frame is well-formed
 passes : (c : tie.After-enum-told) →

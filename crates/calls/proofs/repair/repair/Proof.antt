@@ -30,7 +30,8 @@ returns-2 c =
     let args = start-of here .args in
     λ a. refusal-outcome _ _ _ (c .refuse2 .ensures) refl
     ∙ repair-unlocated _ _ (full here)
-    (ap (λ (b : Bool). b && declaredSound (args .j .shape) (declaredBy (now (args .held))) (lengthOf (args .j .phase))) (sym (c .before .before .is-located .ensures) ∙ not-true _ (c .before .if2 .taken)))
+    (ap (λ (b : Bool). b && declaredSound (args .j .shape) (declaredBy (now (args .held))) (lengthOf (args .j .phase)))
+    (sym (c .before .before .is-located .ensures) ∙ not-true _ (c .before .if2 .taken)))
 
 located : (c : tie.Else2) → isLocatedPhase (start-of (full-before c) .args .j .phase) ≡ true
 located c = sym (c .before .is-located .ensures) ∙ not-false _ (c .if2 .left)

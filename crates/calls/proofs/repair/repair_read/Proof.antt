@@ -16,7 +16,8 @@ use Rattle.job.specs.Job.{Arrays, beside, declaredSound, isLocated, lengthOf, w
 use Rattle.job.proofs.Forms.{has-shape}
 use Rattle.job.proofs.Marked.{located-marked, located-size}
 use Rattle.refusal.specs.Outcome.{outcome, outcomeOf, passed}
-use Rattle.locating.proofs.Steps.{refusal-outcome, mended-outcome, passed-read, passed-undeclared, sound-cells, repair-unlocated, repair-refused, repair-differs, repair-mends}
+use Rattle.locating.proofs.Steps.{refusal-outcome, mended-outcome, passed-read, passed-undeclared, sound-cells}
+use Rattle.locating.proofs.Steps.{repair-unlocated, repair-refused, repair-differs, repair-mends}
 use borrow.Author.Needs.{needs}
 use Rattle.calls.proofs.repair.repair_read.Statement.{statement}
 use Rattle.calls.proofs.repair.repair_read.Tie as tie

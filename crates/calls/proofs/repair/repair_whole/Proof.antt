@@ -61,7 +61,8 @@ returns c =
     let start = start-of (checked .before .before) in
     λ a. refusal-outcome _ _ _ (c .refuse .ensures) refl
     ∙ repair-refused _ _ (start .pre .repairable .full) (located start a) (nothing-declarable _ (shape start) _ (start .pre .nothing)) _
-    (sym (whole-tests _ (shape start) _ (start .pre .nothing) _) ∙ sym (checked .before .before .check-frame .ensures) ∙ ap outcomeOf (checked .checked .given .1))
+    (sym (whole-tests _ (shape start) _ (start .pre .nothing) _)
+    ∙ sym (checked .before .before .check-frame .ensures) ∙ ap outcomeOf (checked .checked .given .1))
 
 -- the frame is well-formed
 passes : (c : tie.After-enum-told) →
@@ -89,7 +90,8 @@ returns-2 c =
     let same = c .before .before in
     let start = begun same in
     λ a. refusal-outcome _ _ _ (c .refuse2 .ensures) refl
-    ∙ repair-differs _ _ (start .pre .repairable .full) (located start a) (nothing-declarable _ (shape start) _ (start .pre .nothing)) (passes (told-before same))
+    ∙ repair-differs _ _ (start .pre .repairable .full) (located start a) (nothing-declarable _ (shape start) _ (start .pre .nothing))
+    (passes (told-before same))
     (compared same ∙ not-true _ (c .before .if1 .taken))
 
 -- ---- the frame
@@ -120,7 +122,8 @@ returns-3 c =
     let start = begun same in
     λ a. mended-outcome (start .args .j) _ _ (c .mended .ensures) (c .before .length-of .ensures)
     (mend .mend .ensures ∙ whole-mended _ (shape start) _ (start .pre .nothing) _ _ (words start))
-    ∙ repair-mends _ _ (start .pre .repairable .full) (located start a) (nothing-declarable _ (shape start) _ (start .pre .nothing)) (passes (told-before same))
+    ∙ repair-mends _ _ (start .pre .repairable .full) (located start a) (nothing-declarable _ (shape start) _ (start .pre .nothing))
+    (passes (told-before same))
     (compared same ∙ not-false _ (alike .if1 .left))
 
 pub repair-whole-spec : {M : Type 1} → statement M

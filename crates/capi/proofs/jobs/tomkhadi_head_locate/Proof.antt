@@ -21,7 +21,8 @@ answered-of-requires c κs = search needs
 returns : tie.Need-returns
 returns c = λ b.
     let a = c .before .before .before .before .before .before .before .args in
-    let done = c .before .locate .ensures b ∙ ap (λ (h : Head). step (beside h (withFound b (a .sums .now) (a .taps .now) (a .held .now))) (locate (a .declared .now) (a .frame .now)))
+    let done = c .before .locate .ensures b
+    ∙ ap (λ (h : Head). step (beside h (withFound b (a .sums .now) (a .taps .now) (a .held .now))) (locate (a .declared .now) (a .frame .now)))
     (c .before .before .before .before .before .head-of .ensures) in
     record { answers = c .answered-of .ensures b [] ∙ ap answeredOf done; arrays = ap (λ (o : Outcome). o .job .arrays) done }
 

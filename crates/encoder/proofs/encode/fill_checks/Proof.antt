@@ -11,14 +11,16 @@ use Rattle.frame.proofs.Shapes.{shape-ranges}
 use Rattle.encoder.specs.GeneratorPolynomial.{GeneratorPolynomial}
 use Rattle.frame.proofs.RowData.{row-small}
 use Rattle.frame.proofs.RowsChanged.{changed-none, changed-all, length-part}
-use Rattle.frame.proofs.RowsCompleted.{RowsCompleted, completed-more}
+use Rattle.frame.specs.Completion.{completed}
+use Rattle.frame.proofs.CompletionLaws.{length-completed}
+use Rattle.frame.proofs.RowsAtSets.{RowsAtSets, more-at-sets}
 use borrow.Author.Needs.{needs}
 use Rattle.encoder.proofs.encode.fill_checks.Statement.{statement}
 use Rattle.encoder.proofs.encode.fill_checks.Tie as tie
 
 abbrev Inv-loop : tie.InvT-loop
 Inv-loop frame₀ s rows columns count₀ held₀ h₀ frame count held h =
-    RowsCompleted columns rows (λ i. firstColumns (checksOf s i)) frame₀ h frame × GeneratorPolynomial count held
+    RowsAtSets completed length-completed columns rows (λ i. firstColumns (checksOf s i)) frame₀ h frame × GeneratorPolynomial count held
 
 abbrev μ-loop : tie.MeasureT-loop
 μ-loop frame₀ s rows columns count₀ held₀ h₀ frame count held h = rows - h
@@ -103,7 +105,7 @@ loop-again c =
     let made = with-generator c in
     let inside = in-loop made in
     let at = inside .before in (
-      completed-more _ _ _ _ _ _ (at .loop .inv .0) (place inside .inside) _ _ (inside .loop-test .taken)
+      more-at-sets completed length-completed _ _ _ _ _ _ (at .loop .inv .0) (place inside .inside) _ _ (inside .loop-test .taken)
           (ap firstColumns (made .before .wide2 .ensures .0)) (c .before .before .encode-row .ensures),
       made .generator-for .ensures,
     )

@@ -5,12 +5,14 @@ use lib.ListN.{length}
 use Rattle.frame.specs.DeclaredCells.{asRead, declaredBy}
 use Rattle.frame.proofs.RowPlace.{RowPlace, row-place}
 use Rattle.frame.proofs.RowsChanged.{changed-none, changed-all, length-part}
-use Rattle.frame.proofs.RowsCleared.{RowsCleared, cleared-more}
+use Rattle.frame.specs.Completion.{cleared}
+use Rattle.frame.proofs.ReadFrames.{length-cleared}
+use Rattle.frame.proofs.RowsAtSets.{RowsAtSets, more-at-sets}
 use Rattle.erasures.proofs.reading.clear_rows.Statement.{statement}
 use Rattle.erasures.proofs.reading.clear_rows.Tie as tie
 
 abbrev Inv-loop : tie.InvT-loop
-Inv-loop declared frame₀ rows columns h₀ frame h = RowsCleared columns rows (declaredBy declared) frame₀ h frame
+Inv-loop declared frame₀ rows columns h₀ frame h = RowsAtSets cleared length-cleared columns rows (declaredBy declared) frame₀ h frame
 
 abbrev μ-loop : tie.MeasureT-loop
 μ-loop declared frame₀ rows columns h₀ frame h = rows - h
@@ -66,9 +68,10 @@ loop-again : tie.Need-loop-again Inv-loop μ-loop
 loop-again c =
     let inside = in-loop c in
     let at = inside .before in
-    let cleared = c .before .before in
-    cleared-more _ _ _ _ (at .loop .h) _ (at .loop .inv) (place inside .inside) _ _ (inside .loop-test .taken) (cleared .before .before .cells-of .ensures)
-    (cleared .clear .ensures)
+    let row = c .before .before in
+    more-at-sets cleared length-cleared _ _ _ _ (at .loop .h) _ (at .loop .inv) (place inside .inside) _ _ (inside .loop-test .taken)
+    (row .before .before .cells-of .ensures)
+    (row .clear .ensures)
 
 same-length : tie.Need-same-length Inv-loop μ-loop
 same-length c = c .before .loop .inv .size

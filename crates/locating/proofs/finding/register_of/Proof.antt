@@ -62,7 +62,8 @@ all-remaining-requires c κs =
 lent-left-of : (c : tie.After-all-remaining) →
     let args = start-left c .args in
     let left = c .all-remaining .result in
-    Lent (args .s .rows) (left .lengths) (left .symbols) (allRemaining (args .s) (declaredBy (now (args .declared))) (heldSequences (args .s) (now (args .sums))))
+    Lent (args .s .rows) (left .lengths) (left .symbols)
+    (allRemaining (args .s) (declaredBy (now (args .declared))) (heldSequences (args .s) (now (args .sums))))
 lent-left-of c =
     let start = start-left c in
     left-lent (start .args .s) (start .pre .shape) (declaredBy (now (start .args .declared))) (now (start .args .sums)) (c .all-remaining .result)
