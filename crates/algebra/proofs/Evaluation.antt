@@ -22,7 +22,7 @@ module _ (R : CRing) where
   unfolding eval
   eval-sum l f x = refl
 
-  pow-inverse : (x y : car) → x ⊗ y ≡ 𝟙 → (n : ℕ) → pow R x n ⊗ pow R y n ≡ 𝟙
+  pub pow-inverse : (x y : car) → x ⊗ y ≡ 𝟙 → (n : ℕ) → pow R x n ⊗ pow R y n ≡ 𝟙
   pow-inverse x y e n = sym (pow-mul R x y n) ∙ ap (λ z. pow R z n) e ∙ pow-one R n
 
   pow-sub : (x y : car) → x ⊗ y ≡ 𝟙 → (j k : ℕ) → k ≤ j → pow R x (j - k) ≡ pow R x j ⊗ pow R y k

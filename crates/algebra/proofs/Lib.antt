@@ -4,6 +4,7 @@ pub mod EvalLaws
 pub mod Evaluation
 pub mod FieldLaws
 pub mod Horner
+pub mod HornerRule
 pub mod LocatorLaws
 pub mod LocatorOrder
 pub mod LocatorProducts

@@ -2,5 +2,5 @@ pub mod ColumnMending
 pub mod MendableFrames
 pub mod MendedFrame
 pub mod MendedRow
-pub mod Reading
 pub mod RowMending
+pub mod SymbolsAdded

@@ -1,21 +1,25 @@
--- Frames that can be mended row after row: one of a shape in range with the sums that are held of it, and a row alone.
-use mathlib.Core.Path.{refl, subst⁻¹, ap, _∙_}
+-- What mending row after row uses of a frame that can be mended, and of the sums that are held of it.
+use mathlib.Core.Path.{_≡_, subst⁻¹, ap, _∙_}
 use mathlib.Core.List.{List}
-use Prim.Native.Nat.{ℕ, zero, suc, _+_, _≤_, _<_}
+use Prim.Native.Nat.{ℕ, _≤_, _<_}
 use native.Mathlib.Omega.{arith}
 use lib.ListN.{length, getD}
 use Rattle.columns.specs.Columns.{members}
 use Rattle.columns.specs.declared.Columns.{Columns}
-use Rattle.lists.proofs.Totals.{total-zero, total-bound}
-use Rattle.frame.specs.Frame.{sumsBefore}
+use Rattle.lists.proofs.Totals.{total-bound}
+use Rattle.frame.specs.Frame.{rowSums}
 use Rattle.frame.specs.Shape.{checksOf}
 use Rattle.frame.specs.declared.Shape.{Shape}
 use Rattle.frame.proofs.HeldParts.{partOf}
 use Rattle.frame.proofs.HeldSums.{held-below, held-length, held-row}
-use Rattle.frame.proofs.RowAlone.{aloneShape, alone-sums}
 use Rattle.frame.proofs.Shapes.{shape-ranges}
-use Rattle.completion.specs.Mendable.{MendableFrame, MendableRow, MendableRows}
-use Rattle.completion.proofs.MendedRow.{sums-below}
+use Rattle.completion.specs.Mendable.{MendableFrame, RowsLent}
+
+-- the rows are lent with their check sums, and the set has at most 64 columns
+pub record MendableRows (s : Shape) (set : Columns) (sums f : List ℕ) : Type 0 where
+  pub lent : RowsLent s sums f
+  pub held : (h : ℕ) → h < s .rows → partOf s sums h ≡ rowSums s f h
+  pub few : length (members set) ≤ 64
 
 pub held-mendable : (s : Shape) (set : Columns) (sums f : List ℕ) → MendableFrame s set sums f → MendableRows s set sums f
 held-mendable s set sums f a =
@@ -34,35 +38,6 @@ held-mendable s set sums f a =
             omega arith;
         sums-small = λ k. subst⁻¹ (λ (l : List ℕ). getD l k 0 < 257) (a .held) (held-below s f k);
       };
-      small = a .small;
       held = λ h l. ap (λ (z : List ℕ). partOf s z h) (a .held) ∙ held-row s f h l;
-      below = a .below;
       few = (let e = a .reach 0 (r .rows-least) in let m = r .checks 0 (r .rows-least) .most in omega arith);
-      reach = a .reach;
     }
-
-module _ (set : Columns) (sums x : List ℕ) (a : MendableRow set sums x) where
-  abbrev s : Shape
-  s = aloneShape (length x) (length sums)
-
-  -- what is said of row 0 is said of every row
-  each : (P : ℕ → Type 0) → P 0 → (h : ℕ) → h < 1 → P h
-  each P p zero l = p
-  each P p (suc h) l = absurd (let z : ⊥ = omega arith in z)
-
-  pub alone-mendable : MendableRows s set sums x
-  alone-mendable = record {
-    lent = record {
-      rows-most = omega arith;
-      narrow = a .narrow;
-      checks-most = each (λ h. checksOf s h ≤ 64) (a .few);
-      whole = omega arith;
-      sums-room = each (λ h. sumsBefore s h + checksOf s h ≤ length sums) (omega (arith, total-zero (checksOf s)));
-      sums-small = sums-below _ _ _ _ (a .held);
-    };
-    small = a .small;
-    held = alone-sums (length x) x sums refl (a .held);
-    below = a .below;
-    few = (let f = a .few in let r = a .reach in omega arith);
-    reach = each (λ h. length (members set) ≤ checksOf s h) (a .reach);
-  }

@@ -23,8 +23,7 @@ use Rattle.frame.proofs.CompletionLaws.{completed-only}
 use Rattle.field257.proofs.Members.{Below}
 use Rattle.lists.proofs.Joined.{tabulate-each}
 use Rattle.lists.proofs.Tabulated.{getD-tabulate, length-tabulate}
-use Rattle.completion.specs.Mending.{symbolRead}
-use Rattle.weights.specs.Weights.{coefficient}
+use Rattle.weights.specs.Weights.{coefficient, symbolRead}
 use Rattle.weights.proofs.ColumnWeights.{coefficientsOf}
 use Rattle.weights.proofs.ReadForm.{symbol-form}
 use Rattle.completion.proofs.RowMending.{mendedRow}

@@ -14,7 +14,8 @@ use Rattle.columns.proofs.Walk.{Walk, nextAt}
 use Rattle.lists.specs.Tabulate.{tabulate}
 use Rattle.lists.proofs.Filling.{by-entries, set-tabulate}
 use Rattle.lists.proofs.Tabulated.{getD-tabulate, length-tabulate, tabulate-ext, tabulate-getD}
-use Rattle.completion.specs.Mending.{mendedCell, symbolRead}
+use Rattle.completion.specs.Mending.{mendedCell}
+use Rattle.weights.specs.Weights.{symbolRead}
 use Rattle.weights.proofs.ColumnWeights.{coefficientsOf}
 use Rattle.columns.proofs.Passing.{passed, passed-none, not-yet, passed-here, passed-other, passed-all}
 

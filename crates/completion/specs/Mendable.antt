@@ -3,18 +3,12 @@ use mathlib.Core.Path.{_≡_}
 use mathlib.Core.Bool.{true}
 use mathlib.Core.List.{List}
 use Prim.Native.Nat.{ℕ, _+_, _*_, _≤_, _<_}
-use lib.ListN.{length, getD, take, drop}
+use lib.ListN.{length, getD}
 use Rattle.columns.specs.Columns.{has, members}
 use Rattle.columns.specs.declared.Columns.{Columns}
-use Rattle.frame.specs.Frame.{checkSums, heldSums, rowSums, sumsBefore}
+use Rattle.frame.specs.Frame.{checkSums, heldSums, sumsBefore}
 use Rattle.frame.specs.Shape.{checksOf, isShape}
 use Rattle.frame.specs.declared.Shape.{Shape}
-
--- a symbol is read off the sums, one for each coefficient
-pub record Readable (coefficients sums : List ℕ) : Type 0 where
-  pub few : length coefficients ≤ 64
-  pub reach : length coefficients ≤ length sums
-  pub sums-small : (k : ℕ) → getD sums k 0 < 257
 
 -- a symbol is read off and added to cell i of a row
 pub record MendableCell (row : List ℕ) (i : ℕ) (coefficients sums : List ℕ) : Type 0 where
@@ -46,15 +40,6 @@ pub record MendableColumn (s : Shape) (frame : List ℕ) (i : ℕ) (coefficients
   pub lent : RowsLent s sums frame
   pub inside : i < s .columns
   pub reach : (h : ℕ) → h < s .rows → length coefficients ≤ checksOf s h
-
--- each row of a frame, be the shape in range or not, is completed at a set, which has no more columns than any row has check sums
-pub record MendableRows (s : Shape) (set : Columns) (sums frame : List ℕ) : Type 0 where
-  pub lent : RowsLent s sums frame
-  pub small : (k : ℕ) → k < length frame → getD frame k 0 < 257
-  pub held : (h : ℕ) → h < s .rows → take (checksOf s h) (drop (sumsBefore s h) sums) ≡ rowSums s frame h
-  pub below : (i : ℕ) → has set i ≡ true → i < s .columns
-  pub few : length (members set) ≤ 64
-  pub reach : (h : ℕ) → h < s .rows → length (members set) ≤ checksOf s h
 
 -- each row of a frame is completed at a set, which has no more columns than any row has check sums
 pub record MendableFrame (s : Shape) (set : Columns) (sums frame : List ℕ) : Type 0 where

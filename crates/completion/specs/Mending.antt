@@ -1,20 +1,15 @@
 -- Mending: what is read off the check sums of a row is added to a cell of the row; a column of a frame is mended in each row.
 use mathlib.Core.Bool.{cond}
 use mathlib.Core.List.{List}
-use Prim.Native.Nat.{ℕ, suc, _+_, _-_, _*_, _%_}
+use Prim.Native.Nat.{ℕ, _+_, _%_}
 use lib.Dec.{eqb}
-use lib.ListN.{length, getD, take, drop}
-use Rattle.lists.specs.Total.{total}
+use lib.ListN.{getD, take, drop}
 use Rattle.frame.specs.Encode.{eachRow}
 use Rattle.frame.specs.Frame.{sumsBefore}
 use Rattle.frame.specs.Shape.{checksOf}
 use Rattle.frame.specs.declared.Shape.{Shape}
 use Rattle.lists.specs.Tabulate.{tabulate}
-
--- what m coefficients read off check sums: coefficient k times S_(m − k)
-unfoldable pub symbolRead : (coefficients sums : List ℕ) → ℕ
-symbolRead coefficients sums =
-    let m : ℕ = length coefficients in total m (λ k. getD coefficients k 0 * getD sums (m - suc k) 0) % 257
+use Rattle.weights.specs.Weights.{symbolRead}
 
 -- a row of n columns with its cell in column i mended
 unfoldable pub mendedCell : (n : ℕ) (coefficients sums : List ℕ) (i : ℕ) (x : List ℕ) → List ℕ

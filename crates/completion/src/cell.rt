@@ -1,30 +1,15 @@
 // Mending a cell of a row: the symbol is read off the check sums that the row has as it was received, which are at hand, and
 // added to what the cell holds; so no row is summed again.
 use field257::powers::wide;
-use field257::values::times;
+use weights::read::read_off;
 ghost use mathlib.Core.Path.{_≡_};
 ghost use Prim.Native.Nat.{_+_, _%_};
 ghost use lib.ListN.{length};
-ghost use Rattle.completion.specs.Mendable.{Readable, MendableCell};
-ghost use Rattle.completion.specs.Mending.{mendedCell, symbolRead};
-
-// The coefficients times the sums, the last sum first. 64 products of 65535 and 256 fit the sum, so that it is reduced once.
-pub fn read_off(coefficients: &[u16], sums: &[u16]) -> u16
-    requires { ⌜ Readable (now coefficients) (now sums) ⌝ }
-    ensures { λ r. ⌜ r ≡ symbolRead (now (coefficients .entry)) (now (sums .entry)) ⌝ }
-{
-    let m = coefficients.len();
-    let mut total: u32 = 0;
-    let mut k = 0;
-    while k < m {
-        total += times(coefficients[k], sums[m - 1 - k]);
-        k += 1;
-    }
-    (total % 257) as u16
-}
+ghost use Rattle.completion.specs.Mendable.{MendableCell};
+ghost use Rattle.completion.specs.Mending.{mendedCell};
 
 // A cell with what was read off added.
-fn plus(cell: u16, symbol: u16) -> u16
+pub fn plus(cell: u16, symbol: u16) -> u16
     ensures { λ r. ⌜ r ≡ (cell + symbol) % 257 ⌝ }
 {
     ((wide(cell) + wide(symbol)) % 257) as u16

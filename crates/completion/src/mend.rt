@@ -1,4 +1,4 @@
-// Mending a frame at a set of columns: each row is completed there.
+// Mending a frame at a set of columns that its rows share: each row is completed there.
 use crate::cell::mend_cell;
 use columns::Columns;
 use columns::next;
@@ -9,7 +9,7 @@ use field257::powers::wide;
 use frame::Shape;
 use weights::weigh;
 ghost use mathlib.Core.Path.{_≡_};
-ghost use Rattle.completion.specs.Mendable.{MendableColumn, MendableFrame, MendableRows};
+ghost use Rattle.completion.specs.Mendable.{MendableColumn, MendableFrame};
 ghost use Rattle.completion.specs.Mending.{mendedColumn};
 ghost use Rattle.frame.specs.Completion.{completed};
 ghost use Rattle.frame.specs.Encode.{eachRow};
@@ -33,10 +33,10 @@ fn mend_column(s: Shape, frame: &mut [u16], i: usize, coefficients: &[u16], sums
     }
 }
 
-// Each row completed at the set, given the check sums that it has. The rows share the coefficients, column after column, so
-// that those of one column alone are kept.
-pub fn mend_rows(s: Shape, set: Columns, sums: &[u16], frame: &mut [u16])
-    requires { ⌜ MendableRows s set (now sums) (now frame) ⌝ }
+// The frame with each row completed at the set, given the check sums that are held of it. The rows share the coefficients, column after column, so that those
+// of one column alone are kept.
+pub fn mend(s: Shape, set: Columns, sums: &[u16], frame: &mut [u16])
+    requires { ⌜ MendableFrame s set (now sums) (now frame) ⌝ }
     ensures { λ r. ⌜ now (frame .exit) ≡ eachRow (s .columns) (λ h. completed (s .columns) set) (s .rows) (now (frame .entry)) ⌝ }
 {
     let powers = powers();
@@ -49,12 +49,4 @@ pub fn mend_rows(s: Shape, set: Columns, sums: &[u16], frame: &mut [u16])
         mend_column(s, frame, i, &coefficients[0..m], sums);
         i = next(set, i + 1);
     }
-}
-
-// The frame with each row completed at the set, given the check sums that are held of it.
-pub fn mend(s: Shape, set: Columns, sums: &[u16], frame: &mut [u16])
-    requires { ⌜ MendableFrame s set (now sums) (now frame) ⌝ }
-    ensures { λ r. ⌜ now (frame .exit) ≡ eachRow (s .columns) (λ h. completed (s .columns) set) (s .rows) (now (frame .entry)) ⌝ }
-{
-    mend_rows(s, set, sums, frame);
 }

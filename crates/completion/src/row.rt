@@ -1,7 +1,8 @@
-// Mending a row at a set of columns: it is mended as a frame of one row.
-use crate::mend::mend_rows;
+// Mending a row at a set of columns of its own, which it shares with no other row: the symbols at all columns are read off side by side.
+use crate::cell::plus;
 use columns::Columns;
-use frame::Shape;
+use columns::next;
+use lanes::symbols::symbols;
 ghost use mathlib.Core.Path.{_≡_};
 ghost use lib.ListN.{length};
 ghost use Rattle.completion.specs.Mendable.{MendableRow};
@@ -12,13 +13,12 @@ pub fn mend_row(set: Columns, sums: &[u16], row: &mut [u16])
     requires { ⌜ MendableRow set (now sums) (now row) ⌝ }
     ensures { λ r. ⌜ now (row .exit) ≡ completed (length (now (row .entry))) set (now (row .entry)) ⌝ }
 {
-    let columns = row.len();
-    let mut checks = [0u16; 8];
-    checks[0] = sums.len() as u16;
-    let s = Shape {
-        rows: 1,
-        columns,
-        checks,
-    };
-    mend_rows(s, set, sums, row);
+    let symbols = symbols(set, sums);
+    let mut k = 0;
+    let mut i = next(set, 0);
+    while i < 256 {
+        row[i] = plus(row[i], symbols[k]);
+        k += 1;
+        i = next(set, i + 1);
+    }
 }

@@ -4,6 +4,7 @@ pub mod LocatorBuilding
 pub mod LocatorPolynomial
 pub mod Locators
 pub mod Members
+pub mod MontgomeryProduct
 pub mod PowerTable
 pub mod SetLocator
 pub mod Words

@@ -1,5 +1,6 @@
 pub mod Evaluable
 pub mod Inverses
 pub mod LocatorPolynomial
+pub mod Montgomery
 pub mod Powers
 pub mod Table

@@ -2,5 +2,6 @@
 pub mod factor;
 pub mod inverses;
 pub mod locator;
+pub mod montgomery;
 pub mod powers;
 pub mod values;

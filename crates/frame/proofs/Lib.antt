@@ -22,7 +22,6 @@ pub mod ReadFrames
 pub mod ReadTests
 pub mod Reasons
 pub mod Remainder
-pub mod RowAlone
 pub mod RowData
 pub mod RowPlace
 pub mod Rows

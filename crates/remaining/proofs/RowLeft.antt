@@ -7,7 +7,7 @@ use lib.ListN.{length, getD, set}
 use borrow.Rule.Slice.PartMut.{midOf, mid-len}
 use Rattle.columns.specs.Columns.{members}
 use Rattle.columns.specs.declared.Columns.{Columns}
-use Rattle.completion.specs.Mending.{symbolRead}
+use Rattle.weights.specs.Weights.{symbolRead}
 use Rattle.decoding.specs.Remaining.{remaining}
 use Rattle.field257.specs.LocatorPolynomial.{locatorPolynomial}
 use Rattle.lists.specs.Total.{total}

@@ -1,8 +1,8 @@
 // What is left of the check sums of one row.
 use columns::Columns;
 use columns::size;
-use completion::cell::read_off;
 use field257::locator::locator_polynomial;
+use weights::read::read_off;
 ghost use mathlib.Core.Path.{_≡_};
 ghost use Rattle.decoding.specs.Remaining.{remaining};
 ghost use Rattle.remaining.specs.Removable.{Removable};

@@ -32,7 +32,7 @@ negated p u h =
     ∙ sym (res-times 257 prime-257 p (minus 257 0 u)
     ∙ ap (λ x. res257 p ⊗ x) (res-minus 257 prime-257 0 u h ∙ ap (λ z. z ⊕ neg (res257 u)) (res-zero 257 prime-257))))
 
-factored : (m c : ℕ) (f s : ℕ → ℕ) → total m (λ k. times 257 (f k) c * s k) % 257 ≡ times 257 (total m (λ k. f k * s k) % 257) c
+pub factored : (m c : ℕ) (f s : ℕ → ℕ) → total m (λ k. times 257 (f k) c * s k) % 257 ≡ times 257 (total m (λ k. f k * s k) % 257) c
 factored m c f s =
     sym (total-mod m 257 (λ k. times 257 (f k) c * s k))
     ∙ ap (λ (t : ℕ). t % 257) (total-ext m (λ k. (times 257 (f k) c * s k) % 257) (λ k. (f k * s k * c) % 257) (λ k _. at k))

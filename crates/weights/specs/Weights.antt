@@ -1,7 +1,7 @@
 -- The coefficients with which the symbols at a set of columns are read off the check sums of a row. They depend on the set alone, so that rows completed
 -- at the same set share them.
 use mathlib.Core.List.{List}
-use Prim.Native.Nat.{ℕ, zero, suc, _+_, _*_, _%_}
+use Prim.Native.Nat.{ℕ, zero, suc, _+_, _-_, _*_, _%_}
 use lib.ListN.{length, getD}
 use Rattle.columns.specs.Columns.{members}
 use Rattle.columns.specs.declared.Columns.{Columns}
@@ -11,6 +11,7 @@ use Rattle.field257.specs.LocatorPolynomial.{locatorPolynomial}
 use Rattle.frame.specs.Completion.{without}
 use Rattle.field257.specs.Powers.{locatorOf}
 use Rattle.frame.specs.Frame.{weight}
+use Rattle.lists.specs.Total.{total}
 
 -- Synthetic division of f by 1 − x·z: what is carried to coefficient k is coefficient k − 1 of the quotient.
 unfoldable pub carried : (f : List ℕ) (x k : ℕ) → ℕ
@@ -29,3 +30,8 @@ readOff m i others k = times 257 (getD others k 0) (factorOf m i others)
 
 unfoldable pub coefficient : (J : Columns) (i k : ℕ) → ℕ
 coefficient J i k = readOff (length (members J)) i (locatorPolynomial (without i (members J))) k
+
+-- what m coefficients read off check sums: coefficient k times S_(m − k)
+unfoldable pub symbolRead : (coefficients sums : List ℕ) → ℕ
+symbolRead coefficients sums =
+    let m : ℕ = length coefficients in total m (λ k. getD coefficients k 0 * getD sums (m - suc k) 0) % 257

@@ -1,4 +1,6 @@
 // The coefficients with which the symbol at a column of a set is read off the check sums, shared by all rows.
+pub mod read;
+
 use field::residue::difference;
 use field::residue::product;
 use field257::inverses::inverse;

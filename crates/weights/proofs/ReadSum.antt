@@ -8,7 +8,7 @@ use mir.Syntax.{w16, w32}
 use mir.Val.{Fits}
 use lib.ListN.{length, getD}
 use Rattle.lists.proofs.Summing.{Summed, summed-more, summed-most, summed-all}
-use Rattle.completion.specs.Mending.{symbolRead}
+use Rattle.weights.specs.Weights.{symbolRead}
 
 module _ (coefficients sums : List ℕ) where
   abbrev m : ℕ

@@ -1,11 +1,11 @@
--- `completion::cell::read_off` meets its contract.
+-- `weights::read::read_off` meets its contract.
 use Prim.Native.Nat.{_+_, _-_}
 use native.Mathlib.Omega.{arith}
-use Rattle.completion.proofs.Reading.{Read, read-more, read-fits, read-all}
+use Rattle.weights.proofs.ReadSum.{Read, read-more, read-fits, read-all}
 use Rattle.lists.proofs.Summing.{summed-none}
 use borrow.Author.Needs.{needs}
-use Rattle.completion.proofs.cell.read_off.Statement.{statement}
-use Rattle.completion.proofs.cell.read_off.Tie as tie
+use Rattle.weights.proofs.read.read_off.Statement.{statement}
+use Rattle.weights.proofs.read.read_off.Tie as tie
 
 abbrev Inv-loop : tie.InvT-loop
 Inv-loop coefficients sums m total₀ k₀ total k = Read coefficients sums k total

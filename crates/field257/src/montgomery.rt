@@ -1,0 +1,23 @@
+// Montgomery's product modulo 257: two products by halves, and no division. 65536 is 1 modulo 257, so the product comes out as it is.
+use crate::values::times;
+ghost use mathlib.Core.Path.{_≡_};
+ghost use Prim.Native.Nat.{_≤_};
+ghost use Rattle.field257.specs.Montgomery.{companion as companionOf, montgomery};
+
+// What is kept beside a factor that many numbers are multiplied by.
+pub fn companion(y: u16) -> u16
+    ensures { λ r. ⌜ r ≡ companionOf y ⌝ }
+{
+    (times(y, 65281) % 65536) as u16
+}
+
+// a times the factor y, whose companion is z, modulo 257 and not reduced.
+pub fn product(a: u16, y: u16, z: u16) -> u16
+    requires { ⌜ (y ≤ 257) × (z ≡ companionOf y) ⌝ }
+    ensures equals { λ r. ⌜ r ≡ montgomery a y ⌝ }
+    ensures bounded { λ r. ⌜ r ≤ 513 ⌝ }
+{
+    let low = (times(a, z) % 65536) as u16;
+    let taken = (times(low, 257) / 65536) as u16;
+    (times(a, y) / 65536) as u16 + 257 - taken
+}

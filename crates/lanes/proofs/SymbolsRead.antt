@@ -1,0 +1,163 @@
+-- What the lanes of a set of columns have is what the columns read off with their coefficients.
+use mathlib.Core.Path.{_≡_, refl, sym, ap, ap₂, _∙_}
+use mathlib.Core.Bool.{Bool, cond}
+use mathlib.Core.List.{List}
+use Prim.Native.Nat.{ℕ, zero, suc, _-_, _*_, _%_, _^_, _≤_, _<_}
+use native.Mathlib.Decide.{decLt}
+use native.Mathlib.Nat.{mod-lt}
+use native.Mathlib.Omega.{arith}
+use borrow.Author.Tests.{lt-ltb, le-ltb}
+use lib.Dec.{lit<}
+use lib.ListN.{length, getD}
+use Rattle.columns.specs.Columns.{members}
+use Rattle.columns.specs.declared.Columns.{Columns}
+use Rattle.field.specs.Coefficients.{value}
+use Rattle.field.specs.Residue.{inverse, minus, times}
+use Rattle.field.proofs.Remainders.{mul-mod-mod}
+use Rattle.field257.specs.LocatorPolynomial.{locatorPolynomial}
+use Rattle.field257.specs.Montgomery.{companion}
+use Rattle.field257.specs.Powers.{locatorOf, powerOf3}
+use Rattle.field257.proofs.LocatorBuilding.{polynomial-below}
+use Rattle.field257.proofs.Locators.{power-mod}
+use Rattle.frame.specs.Completion.{without}
+use Rattle.frame.specs.Frame.{weight}
+use Rattle.frame.proofs.Weights.{weight-power}
+use Rattle.lanes.specs.Lanes.{Located, Runnable, Ran}
+use Rattle.lanes.specs.Symbols.{Askable, dividedAt, locatorIn, symbolIn, symbolOf}
+use Rattle.lanes.specs.declared.run.Lanes.{Lanes}
+use Rattle.lists.specs.Tabulate.{tabulate}
+use Rattle.lists.specs.Total.{total}
+use Rattle.lists.proofs.Tabulated.{getD-tabulate, length-tabulate}
+use Rattle.lists.proofs.Totals.{total-ext}
+use Rattle.weights.specs.Weights.{carried, coefficient, factorOf, readOff, symbolRead}
+use Rattle.weights.proofs.CarriedValue.{carried-scale}
+use Rattle.weights.proofs.Quotient.{quotient-others}
+use Rattle.weights.proofs.ReadForm.{factored}
+
+-- the weight of a column in the first check sum is its locator
+weight-first : (i : ℕ) → weight i 1 % 257 ≡ locatorOf i
+weight-first i = weight-power i 1 ∙ ap (λ (e : ℕ). powerOf3 (e % 256)) (let q : i * 1 ≡ i = omega arith in q) ∙ sym (power-mod i)
+
+-- ---- lanes divided
+
+module _ (m : ℕ) (x : List ℕ) (r : Lanes) where
+  abbrev chosen-symbol : ℕ → Bool → ℕ
+  chosen-symbol k b = cond b (symbolOf (getD x k 0) (getD (r .values) k 0) (getD (r .totals) k 0)) 0
+
+  pub divided-in : (k : ℕ) → k < m → dividedAt m x r k ≡ symbolOf (getD x k 0) (getD (r .values) k 0) (getD (r .totals) k 0)
+  unfolding dividedAt
+  divided-in k l = ap (chosen-symbol k) (lt-ltb k m l)
+
+  pub divided-past : (k : ℕ) → m ≤ k → dividedAt m x r k ≡ 0
+  unfolding dividedAt
+  divided-past k l = ap (chosen-symbol k) (le-ltb k m l)
+
+-- ---- the locators
+
+module _ (J : Columns) where
+  abbrev m : ℕ
+  m = length (members J)
+
+  abbrev chosen-locator : ℕ → Bool → ℕ
+  chosen-locator k b = cond b (locatorOf (getD (members J) k 0)) 0
+
+  pub locator-in : (k : ℕ) → k < length (members J) → locatorIn J k ≡ locatorOf (getD (members J) k 0)
+  unfolding locatorIn
+  locator-in k l = ap (chosen-locator k) (lt-ltb k m l)
+
+  pub locator-past : (k : ℕ) → length (members J) ≤ k → locatorIn J k ≡ 0
+  unfolding locatorIn
+  locator-past k l = ap (chosen-locator k) (le-ltb k m l)
+
+  locator-small : (k : ℕ) → locatorIn J k ≤ 256
+  locator-small k = pick (decLt k m)
+    where
+      pick : Dec (k < m) → locatorIn J k ≤ 256
+      pick (yes l) = rw (locator-in k l) (let b = mod-lt (3 ^ getD (members J) k 0) (lit< {m = 0} {n = 257} tt) in omega arith)
+      pick (no l) = rw (locator-past k (let q : m ≤ k = omega arith in q)) (omega arith)
+
+  -- ---- the symbols
+
+  abbrev chosen-read : (sums : List ℕ) (k : ℕ) → Bool → ℕ
+  chosen-read sums k b = cond b (symbolRead (tabulate m (coefficient J (getD (members J) k 0))) sums) 0
+
+  pub symbol-in : (sums : List ℕ) (k : ℕ) → k < length (members J)
+      → symbolIn J sums k ≡ symbolRead (tabulate (length (members J)) (coefficient J (getD (members J) k 0))) sums
+  unfolding symbolIn
+  symbol-in sums k l = ap (chosen-read sums k) (lt-ltb k m l)
+
+  symbol-past : (sums : List ℕ) (k : ℕ) → length (members J) ≤ k → symbolIn J sums k ≡ 0
+  unfolding symbolIn
+  symbol-past sums k l = ap (chosen-read sums k) (le-ltb k m l)
+
+  module _ (f sums x : List ℕ) (locator : (k : ℕ) → getD f k 0 ≡ getD (locatorPolynomial (members J)) k 0) (located : (k : ℕ) → getD x k 0 ≡ locatorIn J k) where
+    pub runnable : (z : List ℕ) → Askable J sums → z ≡ tabulate 64 (λ k. companion (getD x k 0)) → Runnable (length (members J)) f sums x z
+    runnable z asked e = record {
+      located = record {
+        few = asked .few;
+        locators = λ k l. rw (located k) (locator-small k);
+        companions = λ k l. ap (λ (y : List ℕ). getD y k 0) e ∙ getD-tabulate 64 (λ k. companion (getD x k 0)) k 0 (let few = asked .few in omega arith);
+      };
+      reach = asked .reach;
+      coefficients = λ k. rw (locator k) (polynomial-below (members J) k);
+      sums-small = asked .sums-small;
+    }
+
+    module _ (r : Lanes) (ran : Ran (length (members J)) f sums x r) (k : ℕ) (inside : k < length (members J)) where
+      abbrev i : ℕ
+      i = getD (members J) k 0
+
+      abbrev others : List ℕ
+      others = locatorPolynomial (without i (members J))
+
+      -- the locator of the lane
+      here : getD x k 0 ≡ locatorOf i
+      here = located k ∙ locator-in k inside
+
+      quotient : tabulate m (λ t. carried f (locatorOf i) (suc t)) ≡ others
+      quotient = quotient-others J k i inside refl f locator
+
+      size-others : length others ≡ m
+      size-others = ap length (sym quotient) ∙ length-tabulate m _
+
+      -- what the symbol is multiplied by
+      scale-is : (getD x k 0 * getD (r .values) k 0) % 257 ≡ times 257 (weight i m % 257) (value 257 others (inverse 257 (locatorOf i)))
+      scale-is =
+          sym (mul-mod-mod (getD x k 0) (getD (r .values) k 0) 257)
+          ∙ ap (λ (v : ℕ). (getD x k 0 * v) % 257) (ran .values k inside)
+          ∙ ap (λ (y : ℕ). (y * carried (tabulate m (λ t. carried f y (suc t))) y m) % 257) here
+          ∙ ap₂ (λ (w : ℕ) (q : List ℕ). (w * carried q (locatorOf i) m) % 257) (sym (weight-first i)) quotient
+          ∙ step m refl
+        where
+          step : (n : ℕ) → m ≡ n → times 257 (weight i 1 % 257) (carried others (locatorOf i) n)
+              ≡ times 257 (weight i n % 257) (value 257 others (inverse 257 (locatorOf i)))
+          step zero e = absurd (let z : ⊥ = omega arith in z)
+          step (suc d) e = carried-scale i others d (size-others ∙ e)
+
+      total-is : getD (r .totals) k 0 % 257 ≡ total m (λ t. getD others t 0 * getD sums (m - suc t) 0) % 257
+      total-is =
+          ran .totals k inside
+          ∙ ap (λ (y : ℕ). total m (λ t. carried f y (suc t) * getD sums (m - suc t) 0) % 257) here
+          ∙ ap (λ (t : ℕ). t % 257) (total-ext m _ _ (λ t l.
+          ap (λ (c : ℕ). c * getD sums (m - suc t) 0)
+          (sym (getD-tabulate m (λ t. carried f (locatorOf i) (suc t)) t 0 l) ∙ ap (λ (q : List ℕ). getD q t 0) quotient)))
+
+      read-is : symbolRead (tabulate m (coefficient J i)) sums
+          ≡ times 257 (total m (λ t. getD others t 0 * getD sums (m - suc t) 0) % 257) (factorOf m i others)
+      unfolding symbolRead coefficient readOff
+      read-is =
+          ap (λ (n : ℕ). total n (λ t. getD (tabulate m (coefficient J i)) t 0 * getD sums (n - suc t) 0) % 257) (length-tabulate m (coefficient J i))
+          ∙ ap (λ (t : ℕ). t % 257) (total-ext m _ _ (λ t l. ap (λ (c : ℕ). c * getD sums (m - suc t) 0) (getD-tabulate m (coefficient J i) t 0 l)))
+          ∙ factored m (factorOf m i others) (λ t. getD others t 0) (λ t. getD sums (m - suc t) 0)
+
+      lane-symbol : symbolOf (getD x k 0) (getD (r .values) k 0) (getD (r .totals) k 0) ≡ symbolRead (tabulate m (coefficient J i)) sums
+      unfolding factorOf
+      lane-symbol =
+          ap₂ (λ (t s : ℕ). times 257 t (minus 257 0 (inverse 257 s))) total-is scale-is ∙ sym read-is
+
+    pub divided-is : (r : Lanes) → Ran (length (members J)) f sums x r → (k : ℕ) → dividedAt (length (members J)) x r k ≡ symbolIn J sums k
+    divided-is r ran k = pick (decLt k m)
+      where
+        pick : Dec (k < m) → dividedAt m x r k ≡ symbolIn J sums k
+        pick (yes l) = divided-in m x r k l ∙ lane-symbol r ran k l ∙ sym (symbol-in sums k l)
+        pick (no l) = divided-past m x r k (omega arith) ∙ sym (symbol-past sums k (omega arith))
