@@ -378,7 +378,7 @@ fn main() {
     let small = Frames::new(&mut random, 2, 32, 8);
     cases.push(small.encode());
     cases.extend(small.received(&mut random, &[0, 2, 4], 0));
-    cases.extend(full.received(&mut random, &[0, 2, 24], 8));
+    cases.extend(full.received(&mut random, &[0, 2, 24, 40], 8));
     println!(
         "{:<52}{:>12}{:>12}{:>8}{:>12}{:>12}",
         "microseconds a call (median)", "plain", "library", "ratio", "FLINT", "to none"

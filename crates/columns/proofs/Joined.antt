@@ -11,7 +11,7 @@ use lib.Dec.{lit<}
 use lib.ListN.{length, getD, List·getD-eq-default}
 use Rattle.columns.specs.declared.Columns.{Columns}
 use Rattle.columns.specs.Listed.{count}
-use Rattle.columns.specs.Columns.{bit, has, members, either, Sound}
+use Rattle.columns.specs.Columns.{Apart, bit, has, members, either, Sound}
 use Rattle.columns.proofs.Bits.{bit-or}
 use Rattle.columns.proofs.Listing.{by-test, count-zero, count-pass, count-fail, count-skip, count-lt, length-listed}
 use Rattle.columns.proofs.Marks.{has-columnsOf, has-past, columnsOf-sound, columnsOf-ext, columnsOf-has, members-columnsOf}
@@ -137,12 +137,8 @@ module _ (J K : Columns) where
   pub size-either : length (members (either J K)) ≤ length (members J) + length (members K)
   size-either = omega (arith, sizes)
 
-  -- no column below 256 is in both
-  abbrev pub Apart : Type 0
-  Apart = (i : ℕ) → i < 256 → has J i ≡ true → has K i ≡ false
-
   -- the sizes add up exactly where the sets are apart
-  pub size-apart : Apart → length (members (either J K)) ≡ length (members J) + length (members K)
+  pub size-apart : Apart J K → length (members (either J K)) ≡ length (members J) + length (members K)
   size-apart apart = omega (arith, sizes, count-skip 0 256 (λ i. has J i && has K i) zero-le none, count-zero (λ i. has J i && has K i))
     where
       none : (i : ℕ) → 0 ≤ i → i < 256 → (has J i && has K i) ≡ false
@@ -152,7 +148,7 @@ module _ (J K : Columns) where
           pick (inl e) = ap₂ _&&_ e (apart i h e)
           pick (inr e) = ap (λ (b : Bool). b && has K i) e
 
-  pub apart-of-size : length (members J) + length (members K) ≤ length (members (either J K)) → Apart
+  pub apart-of-size : length (members J) + length (members K) ≤ length (members (either J K)) → Apart J K
   apart-of-size many i h e = pick (by-test (has K i))
     where
       pick : (has K i ≡ true) ⊎ (has K i ≡ false) → has K i ≡ false

@@ -1,7 +1,7 @@
 -- A set of 256 marks in four 64-bit words, column 0 lowest (SPECIFICATION.md, "Jobs"):
 -- which columns a value marks, the value that marks given columns, and its columns as a list.
 use mathlib.Core.Path.{_≡_}
-use mathlib.Core.Bool.{Bool, cond, _||_}
+use mathlib.Core.Bool.{Bool, true, false, cond, _||_}
 use mathlib.Core.List.{List, [], _∷_, map}
 use Prim.Native.Nat.{ℕ, zero, suc, _+_, _*_, _/_, _%_, _^_, _<_}
 use lib.Dec.{eqb}
@@ -33,6 +33,10 @@ members c = listed 256 (has c)
 -- the columns of either set
 unfoldable pub either : Columns → Columns → Columns
 either J K = columnsOf (λ i. has J i || has K i)
+
+-- no column is in both sets
+abbrev pub Apart : Columns → Columns → Type 0
+Apart J K = (i : ℕ) → i < 256 → has J i ≡ true → has K i ≡ false
 
 -- what every value of the type is: four words of 64 bits
 pub record Sound (c : Columns) : Type 0 where

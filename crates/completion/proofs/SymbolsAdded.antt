@@ -12,8 +12,8 @@ use Rattle.completion.specs.Mending.{mendedCell}
 use Rattle.completion.proofs.MendedRow.{mended-completed, sums-below}
 use Rattle.completion.proofs.RowMending.{cell-written, mendedBefore, mended-none, mended-more, mended-all}
 use Rattle.frame.specs.Completion.{completed}
-use Rattle.lanes.specs.Symbols.{Askable, symbolIn}
-use Rattle.lanes.proofs.SymbolsRead.{symbol-in}
+use Rattle.lanes.specs.Symbols.{ReadableSet, symbolsOf}
+use Rattle.lanes.proofs.SymbolsRead.{symbol-at}
 use Rattle.lists.proofs.Tabulated.{length-tabulate}
 use Rattle.weights.specs.Weights.{symbolRead}
 use Rattle.weights.proofs.ColumnWeights.{coefficientsOf}
@@ -22,8 +22,8 @@ module _ (J : Columns) (sums x : List ℕ) where
   abbrev n : ℕ
   n = length x
 
-  pub askable : MendableRow J sums x → Askable J sums
-  askable asked = record {
+  pub readable-set : MendableRow J sums x → ReadableSet J sums
+  readable-set asked = record {
     few = (let r = asked .reach in let f = asked .few in omega arith);
     reach = asked .reach;
     sums-small = sums-below n (length sums) sums x (asked .held);
@@ -43,12 +43,12 @@ module _ (J : Columns) (sums x : List ℕ) where
 
     module _ (asked : MendableRow J sums x) (inside : i < 256) where
       pub has-symbol : k < 64
-      has-symbol = let l = walk-member J k i (a .walk) inside .0 in let f = askable asked .few in omega arith
+      has-symbol = let l = walk-member J k i (a .walk) inside .0 in let f = readable-set asked .few in omega arith
 
       pub in-row : i < length y
       in-row = let l = asked .below i (a .walk .marked inside) in let s = same-size in omega arith
 
-      pub adding-more : (symbols : List ℕ) → ((k : ℕ) → getD symbols k 0 ≡ symbolIn J sums k) → (cell j : ℕ)
+      pub adding-more : (symbols : List ℕ) → ((k : ℕ) → getD symbols k 0 ≡ getD (symbolsOf J sums) k 0) → (cell j : ℕ)
           → cell ≡ (getD y i 0 + getD symbols k 0) % 257 → j ≡ nextAt J (i + 1) → Adding (k + 1) j (set y i cell)
       adding-more symbols read cell j e next = record {
         walk = walk-next J k i (a .walk) j inside next;
@@ -61,7 +61,7 @@ module _ (J : Columns) (sums x : List ℕ) where
           symbol : getD symbols k 0 ≡ symbolRead (coefficientsOf J i) sums
           symbol =
               let (less, here) = walk-member J k i (a .walk) inside in
-              read k ∙ symbol-in J sums k less ∙ ap (λ (c : ℕ). symbolRead (coefficientsOf J c) sums) here
+              read k ∙ symbol-at J sums k less ∙ ap (λ (c : ℕ). symbolRead (coefficientsOf J c) sums) here
 
     pub adding-all : MendableRow J sums x → 256 ≤ i → y ≡ completed (length x) J x
     adding-all asked past =

@@ -8,8 +8,7 @@ use native.Mathlib.Omega.{arith}
 use lib.Dec.{eqb}
 use lib.ListN.{length, getD}
 use borrow.Author.Tests.{eq-eqb}
-use Rattle.columns.specs.Columns.{has, either}
-use Rattle.columns.proofs.Joined.{Apart}
+use Rattle.columns.specs.Columns.{Apart, has, either}
 use Rattle.decoding.specs.Locating.{sizeOf, tapsOf, namedColumns, namesAll}
 use Rattle.decoding.specs.Remaining.{remaining, allRemaining, completable}
 use Rattle.decoding.proofs.SetsApart.{apart-left}

@@ -27,11 +27,11 @@ module _ (m : ℕ) (f sums x z : List ℕ) where
   module _ (asked : Runnable m f sums x z) (k : ℕ) (q v t : List ℕ) (a : Running k q v t) (inside : k < m) where
     pub steppable : Steppable m (getD f k 0) (getD sums (m - 1 - k) 0) x z q v t
     steppable = record {
-      located = asked .located;
+      lent = asked .lent;
       whole = a .whole;
       coefficient = (let s = asked .coefficients k in omega arith);
       sum = (let s = asked .sums-small (m - 1 - k) in omega arith);
-      room = λ i l. (let r = a .lanes i l .room in let few = asked .located .few in omega arith);
+      room = λ i l. (let r = a .lanes i l .room in let few = asked .lent .few in omega arith);
     }
 
     pub running-more : (q′ v′ t′ : List ℕ) → Stepped m (getD f k 0) (getD sums (m - 1 - k) 0) x q v t q′ v′ t′ → Running (k + 1) q′ v′ t′

@@ -38,7 +38,7 @@ module _ (n c s : ℕ) (x z q₀ v₀ t₀ : List ℕ) where
 
   module _ (asked : Steppable n c s x z q₀ v₀ t₀) (i : ℕ) (q v t : List ℕ) (so-far : Stepping i q v t) (inside : i < n) where
     pub lane : i < 64
-    lane = let few = asked .located .few in omega arith
+    lane = let few = asked .lent .few in omega arith
 
     -- in each of the arrays lane i is as it was, and is filled next
     module _ (g : ℕ → ℕ) (l₀ l : List ℕ) (whole : length l₀ ≡ 64) (filled : Filled g l₀ i l) where

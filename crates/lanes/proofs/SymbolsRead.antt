@@ -1,14 +1,12 @@
 -- What the lanes of a set of columns have is what the columns read off with their coefficients.
 use mathlib.Core.Path.{_≡_, refl, sym, ap, ap₂, _∙_}
-use mathlib.Core.Bool.{Bool, cond}
-use mathlib.Core.List.{List}
+use mathlib.Core.List.{List, map}
 use Prim.Native.Nat.{ℕ, zero, suc, _-_, _*_, _%_, _^_, _≤_, _<_}
 use native.Mathlib.Decide.{decLt}
 use native.Mathlib.Nat.{mod-lt}
 use native.Mathlib.Omega.{arith}
-use borrow.Author.Tests.{lt-ltb, le-ltb}
 use lib.Dec.{lit<}
-use lib.ListN.{length, getD}
+use lib.ListN.{length, getD, length-map, List·getD-eq-default}
 use Rattle.columns.specs.Columns.{members}
 use Rattle.columns.specs.declared.Columns.{Columns}
 use Rattle.field.specs.Coefficients.{value}
@@ -22,12 +20,13 @@ use Rattle.field257.proofs.Locators.{power-mod}
 use Rattle.frame.specs.Completion.{without}
 use Rattle.frame.specs.Frame.{weight}
 use Rattle.frame.proofs.Weights.{weight-power}
-use Rattle.lanes.specs.Lanes.{Located, Runnable, Ran}
-use Rattle.lanes.specs.Symbols.{Askable, dividedAt, locatorIn, symbolIn, symbolOf}
+use Rattle.lanes.specs.Lanes.{Runnable, Ran}
+use Rattle.lanes.specs.Symbols.{ReadableSet, symbolOf, symbolsIn, symbolsOf}
 use Rattle.lanes.specs.declared.run.Lanes.{Lanes}
 use Rattle.lists.specs.Tabulate.{tabulate}
 use Rattle.lists.specs.Total.{total}
-use Rattle.lists.proofs.Tabulated.{getD-tabulate, length-tabulate}
+use Rattle.lists.proofs.Mapped.{getD-mapped}
+use Rattle.lists.proofs.Tabulated.{getD-tabulate, getD-tabulate-past, length-tabulate}
 use Rattle.lists.proofs.Totals.{total-ext}
 use Rattle.weights.specs.Weights.{carried, coefficient, factorOf, readOff, symbolRead}
 use Rattle.weights.proofs.CarriedValue.{carried-scale}
@@ -38,64 +37,53 @@ use Rattle.weights.proofs.ReadForm.{factored}
 weight-first : (i : ℕ) → weight i 1 % 257 ≡ locatorOf i
 weight-first i = weight-power i 1 ∙ ap (λ (e : ℕ). powerOf3 (e % 256)) (let q : i * 1 ≡ i = omega arith in q) ∙ sym (power-mod i)
 
--- ---- lanes divided
+-- ---- the symbols of m lanes
 
 module _ (m : ℕ) (x : List ℕ) (r : Lanes) where
-  abbrev chosen-symbol : ℕ → Bool → ℕ
-  chosen-symbol k b = cond b (symbolOf (getD x k 0) (getD (r .values) k 0) (getD (r .totals) k 0)) 0
+  pub lane-at : (k : ℕ) → k < m → getD (symbolsIn m x r) k 0 ≡ symbolOf (getD x k 0) (getD (r .values) k 0) (getD (r .totals) k 0)
+  unfolding symbolsIn
+  lane-at k l = getD-tabulate m _ k 0 l
 
-  pub divided-in : (k : ℕ) → k < m → dividedAt m x r k ≡ symbolOf (getD x k 0) (getD (r .values) k 0) (getD (r .totals) k 0)
-  unfolding dividedAt
-  divided-in k l = ap (chosen-symbol k) (lt-ltb k m l)
-
-  pub divided-past : (k : ℕ) → m ≤ k → dividedAt m x r k ≡ 0
-  unfolding dividedAt
-  divided-past k l = ap (chosen-symbol k) (le-ltb k m l)
-
--- ---- the locators
+  pub lane-past : (k : ℕ) → m ≤ k → getD (symbolsIn m x r) k 0 ≡ 0
+  unfolding symbolsIn
+  lane-past k l = getD-tabulate-past m _ k 0 l
 
 module _ (J : Columns) where
   abbrev m : ℕ
   m = length (members J)
 
-  abbrev chosen-locator : ℕ → Bool → ℕ
-  chosen-locator k b = cond b (locatorOf (getD (members J) k 0)) 0
+  -- ---- the lists of the set
 
-  pub locator-in : (k : ℕ) → k < length (members J) → locatorIn J k ≡ locatorOf (getD (members J) k 0)
-  unfolding locatorIn
-  locator-in k l = ap (chosen-locator k) (lt-ltb k m l)
+  pub locator-at : (k : ℕ) → k < length (members J) → getD (map locatorOf (members J)) k 0 ≡ locatorOf (getD (members J) k 0)
+  locator-at k l = getD-mapped locatorOf (members J) k 0 l
 
-  pub locator-past : (k : ℕ) → length (members J) ≤ k → locatorIn J k ≡ 0
-  unfolding locatorIn
-  locator-past k l = ap (chosen-locator k) (le-ltb k m l)
+  pub locator-past : (k : ℕ) → length (members J) ≤ k → getD (map locatorOf (members J)) k 0 ≡ 0
+  locator-past k l = List·getD-eq-default (map locatorOf (members J)) 0 (let e = length-map (members J) locatorOf in omega arith)
 
-  locator-small : (k : ℕ) → locatorIn J k ≤ 256
-  locator-small k = pick (decLt k m)
-    where
-      pick : Dec (k < m) → locatorIn J k ≤ 256
-      pick (yes l) = rw (locator-in k l) (let b = mod-lt (3 ^ getD (members J) k 0) (lit< {m = 0} {n = 257} tt) in omega arith)
-      pick (no l) = rw (locator-past k (let q : m ≤ k = omega arith in q)) (omega arith)
+  locator-small : (k : ℕ) → k < m → getD (map locatorOf (members J)) k 0 ≤ 256
+  locator-small k l = rw (locator-at k l) (let b = mod-lt (3 ^ getD (members J) k 0) (lit< {m = 0} {n = 257} tt) in omega arith)
 
-  -- ---- the symbols
+  module _ (sums : List ℕ) where
+    abbrev read : ℕ → ℕ
+    read i = symbolRead (tabulate m (coefficient J i)) sums
 
-  abbrev chosen-read : (sums : List ℕ) (k : ℕ) → Bool → ℕ
-  chosen-read sums k b = cond b (symbolRead (tabulate m (coefficient J (getD (members J) k 0))) sums) 0
+    pub symbol-at : (k : ℕ) → k < length (members J)
+        → getD (symbolsOf J sums) k 0 ≡ symbolRead (tabulate (length (members J)) (coefficient J (getD (members J) k 0))) sums
+    unfolding symbolsOf
+    symbol-at k l = getD-mapped read (members J) k 0 l
 
-  pub symbol-in : (sums : List ℕ) (k : ℕ) → k < length (members J)
-      → symbolIn J sums k ≡ symbolRead (tabulate (length (members J)) (coefficient J (getD (members J) k 0))) sums
-  unfolding symbolIn
-  symbol-in sums k l = ap (chosen-read sums k) (lt-ltb k m l)
+    symbol-past : (k : ℕ) → m ≤ k → getD (symbolsOf J sums) k 0 ≡ 0
+    unfolding symbolsOf
+    symbol-past k l = List·getD-eq-default (map read (members J)) 0 (let e = length-map (members J) read in omega arith)
 
-  symbol-past : (sums : List ℕ) (k : ℕ) → length (members J) ≤ k → symbolIn J sums k ≡ 0
-  unfolding symbolIn
-  symbol-past sums k l = ap (chosen-read sums k) (le-ltb k m l)
+  -- ---- the lanes of the set
 
-  module _ (f sums x : List ℕ) (locator : (k : ℕ) → getD f k 0 ≡ getD (locatorPolynomial (members J)) k 0) (located : (k : ℕ) → getD x k 0 ≡ locatorIn J k) where
-    pub runnable : (z : List ℕ) → Askable J sums → z ≡ tabulate 64 (λ k. companion (getD x k 0)) → Runnable (length (members J)) f sums x z
+  module _ (f sums x : List ℕ) (locator : (k : ℕ) → getD f k 0 ≡ getD (locatorPolynomial (members J)) k 0) (lent : (k : ℕ) → getD x k 0 ≡ getD (map locatorOf (members J)) k 0) where
+    pub runnable : (z : List ℕ) → ReadableSet J sums → z ≡ tabulate 64 (λ k. companion (getD x k 0)) → Runnable (length (members J)) f sums x z
     runnable z asked e = record {
-      located = record {
+      lent = record {
         few = asked .few;
-        locators = λ k l. rw (located k) (locator-small k);
+        locators = λ k l. rw (lent k) (locator-small k l);
         companions = λ k l. ap (λ (y : List ℕ). getD y k 0) e ∙ getD-tabulate 64 (λ k. companion (getD x k 0)) k 0 (let few = asked .few in omega arith);
       };
       reach = asked .reach;
@@ -112,7 +100,7 @@ module _ (J : Columns) where
 
       -- the locator of the lane
       here : getD x k 0 ≡ locatorOf i
-      here = located k ∙ locator-in k inside
+      here = lent k ∙ locator-at k inside
 
       quotient : tabulate m (λ t. carried f (locatorOf i) (suc t)) ≡ others
       quotient = quotient-others J k i inside refl f locator
@@ -155,9 +143,10 @@ module _ (J : Columns) where
       lane-symbol =
           ap₂ (λ (t s : ℕ). times 257 t (minus 257 0 (inverse 257 s))) total-is scale-is ∙ sym read-is
 
-    pub divided-is : (r : Lanes) → Ran (length (members J)) f sums x r → (k : ℕ) → dividedAt (length (members J)) x r k ≡ symbolIn J sums k
-    divided-is r ran k = pick (decLt k m)
+    pub symbols-are : (r : Lanes) → Ran (length (members J)) f sums x r
+        → (k : ℕ) → getD (symbolsIn (length (members J)) x r) k 0 ≡ getD (symbolsOf J sums) k 0
+    symbols-are r ran k = pick (decLt k m)
       where
-        pick : Dec (k < m) → dividedAt m x r k ≡ symbolIn J sums k
-        pick (yes l) = divided-in m x r k l ∙ lane-symbol r ran k l ∙ sym (symbol-in sums k l)
-        pick (no l) = divided-past m x r k (omega arith) ∙ sym (symbol-past sums k (omega arith))
+        pick : Dec (k < m) → getD (symbolsIn m x r) k 0 ≡ getD (symbolsOf J sums) k 0
+        pick (yes l) = lane-at m x r k l ∙ lane-symbol r ran k l ∙ sym (symbol-at sums k l)
+        pick (no l) = lane-past m x r k (omega arith) ∙ sym (symbol-past sums k (omega arith))

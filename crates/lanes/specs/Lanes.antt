@@ -12,7 +12,7 @@ use Rattle.lists.specs.Total.{total}
 use Rattle.weights.specs.Weights.{carried}
 
 -- the first n entries of x are locators, or 0, and those of z their companions
-pub record Located (n : ℕ) (x z : List ℕ) : Type 0 where
+pub record LocatorsLent (n : ℕ) (x z : List ℕ) : Type 0 where
   pub few : n ≤ 64
   pub locators : (i : ℕ) → i < n → getD x i 0 ≤ 256
   pub companions : (i : ℕ) → i < n → getD z i 0 ≡ companion (getD x i 0)
@@ -25,7 +25,7 @@ pub record Whole (q v t : List ℕ) : Type 0 where
 
 -- n lanes go on by the coefficient c and the check sum s; there is room for what is read off
 pub record Steppable (n c s : ℕ) (x z q v t : List ℕ) : Type 0 where
-  pub located : Located n x z
+  pub lent : LocatorsLent n x z
   pub whole : Whole q v t
   pub coefficient : c ≤ 256
   pub sum : s ≤ 256
@@ -41,7 +41,7 @@ pub record Stepped (n c s : ℕ) (x q v t q′ v′ t′ : List ℕ) : Type 0 wh
 
 -- m lanes go through the first m coefficients of f and the first m check sums
 pub record Runnable (m : ℕ) (f sums x z : List ℕ) : Type 0 where
-  pub located : Located m x z
+  pub lent : LocatorsLent m x z
   pub reach : m ≤ length sums
   pub coefficients : (k : ℕ) → getD f k 0 < 257
   pub sums-small : (k : ℕ) → getD sums k 0 < 257

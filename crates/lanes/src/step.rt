@@ -3,9 +3,8 @@ use field257::montgomery::product;
 use field257::values::times;
 ghost use Rattle.lanes.specs.Lanes.{Steppable, Stepped};
 
-// Lane i has the locator x[i] with its companion z[i], the last coefficient q[i] of its quotient, what Horner's rule has of the quotient, v[i], and what was read
-// off so far, t[i]. The next coefficient comes from that of the dividend, c; s is the check sum that it is read off from. None is reduced: 16 bits hold q and
-// v, 32 bits hold t.
+// Lane i has the locator x[i] with its companion z[i], the last coefficient q[i] of its quotient, what Horner's rule has of the quotient, v[i], and what was
+// read off so far, t[i]. The next coefficient comes from that of the dividend, c; s is the check sum that it is multiplied by. None of them is reduced.
 pub fn step(
     n: usize,
     c: u16,

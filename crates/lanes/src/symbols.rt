@@ -12,18 +12,20 @@ use field257::powers::entry;
 use field257::powers::powers;
 use field257::values::times;
 ghost use mathlib.Core.Path.{_≡_};
+ghost use mathlib.Core.List.{map};
 ghost use Prim.Native.Nat.{ℕ, _≤_};
 ghost use lib.ListN.{length, getD};
 ghost use Rattle.columns.specs.Columns.{members};
 ghost use Rattle.field257.specs.Montgomery.{companion as companionOf};
+ghost use Rattle.field257.specs.Powers.{locatorOf};
 ghost use Rattle.field257.specs.Table.{table};
-ghost use Rattle.lanes.specs.Symbols.{Askable, dividedAt, locatorIn, symbolIn, symbolOf};
+ghost use Rattle.lanes.specs.Symbols.{ReadableSet, symbolOf, symbolsIn, symbolsOf};
 ghost use Rattle.lists.specs.Tabulate.{tabulate};
 
 // The locators of the columns, and zeros after them.
 fn locators(powers: &[u16; 256], set: Columns) -> [u16; 64]
     requires { ⌜ (now powers ≡ table) × (length (members set) ≤ 64) ⌝ }
-    ensures { λ r. ⌜ ((k : ℕ) → getD r k 0 ≡ locatorIn set k) ⌝ }
+    ensures { λ r. ⌜ ((k : ℕ) → getD r k 0 ≡ getD (map locatorOf (members set)) k 0) ⌝ }
 {
     let mut x = [0u16; 64];
     let mut k = 0;
@@ -48,7 +50,7 @@ fn companions(x: &[u16; 64]) -> [u16; 64]
     z
 }
 
-// What a lane of a column with this weight in the first check sum read off, divided by what the column's symbol is multiplied by there, with the sign turned.
+// The symbol at a column with this weight in the first check sum: what its lane read off is the symbol times the weight and the value, with the other sign.
 fn symbol(weight: u16, value: u16, total: u32) -> u16
     ensures { λ r. ⌜ r ≡ symbolOf weight value total ⌝ }
 {
@@ -59,7 +61,7 @@ fn symbol(weight: u16, value: u16, total: u32) -> u16
 // The symbols of the lanes of m columns with these locators, and zeros after them.
 fn divided(m: usize, x: &[u16; 64], lanes: Lanes) -> [u16; 64]
     requires { ⌜ m ≤ 64 ⌝ }
-    ensures { λ r. ⌜ ((k : ℕ) → getD r k 0 ≡ dividedAt m (now (x .entry)) lanes k) ⌝ }
+    ensures { λ r. ⌜ ((k : ℕ) → getD r k 0 ≡ getD (symbolsIn m (now (x .entry)) lanes) k 0) ⌝ }
 {
     let mut symbols = [0u16; 64];
     let mut k = 0;
@@ -70,10 +72,10 @@ fn divided(m: usize, x: &[u16; 64], lanes: Lanes) -> [u16; 64]
     symbols
 }
 
-// The symbols at the columns of the set that take the first check sums away, as many as the set has columns; rising, and zeros after them.
+// The symbols of the columns of the set, rising, and zeros after them.
 pub fn symbols(set: Columns, sums: &[u16]) -> [u16; 64]
-    requires { ⌜ Askable set (now sums) ⌝ }
-    ensures { λ r. ⌜ ((k : ℕ) → getD r k 0 ≡ symbolIn set (now (sums .entry)) k) ⌝ }
+    requires { ⌜ ReadableSet set (now sums) ⌝ }
+    ensures { λ r. ⌜ ((k : ℕ) → getD r k 0 ≡ getD (symbolsOf set (now (sums .entry))) k 0) ⌝ }
 {
     let powers = powers();
     let m = size(set);

@@ -1,11 +1,11 @@
 -- Whether rows can be completed, row by row, and what testing it asks (SPECIFICATION.md, "Declared cells").
 use mathlib.Core.Path.{_≡_}
-use mathlib.Core.Bool.{Bool, true, false}
+use mathlib.Core.Bool.{Bool, true}
 use mathlib.Core.List.{List, []}
 use Prim.Native.Nat.{ℕ, _≤_, _<_}
 use lib.Dec.{eqb}
 use lib.ListN.{length, getD}
-use Rattle.columns.specs.Columns.{has, either, members}
+use Rattle.columns.specs.Columns.{Apart, either, members}
 use Rattle.columns.specs.declared.Columns.{Columns}
 use Rattle.decoding.specs.Remaining.{remaining, leftReach}
 use Rattle.field257.specs.Table.{table}
@@ -22,10 +22,6 @@ allZero x = every (length x) (λ k. eqb (getD x k 0) 0)
 -- a row with the sums x can be completed at J: with its columns taken out, what is left of the sums is 0
 abbrev pub completableAt : (J : Columns) (x : List ℕ) → Bool
 completableAt J x = allZero (remaining J x)
-
--- no column is in both sets
-abbrev pub Apart : (J K : Columns) → Type 0
-Apart J K = (i : ℕ) → i < 256 → has J i ≡ true → has K i ≡ false
 
 -- a set of columns, of which there are no more than sums, is tested
 pub record TestableAt (powers : List ℕ) (set : Columns) (sums : List ℕ) : Type 0 where

@@ -16,7 +16,7 @@ use Rattle.lists.proofs.Totals.{total-zero, total-suc}
 use Rattle.weights.specs.Weights.{carried}
 use Rattle.weights.proofs.Division.{carried-zero, carried-suc}
 
--- a sum of which a part is replaced by one with the same remainder
+-- numbers with the same remainders have sums with the same remainder
 both-mod : (a b c d : ℕ) → a % 257 ≡ c % 257 → b % 257 ≡ d % 257 → (a + b) % 257 ≡ (c + d) % 257
 both-mod a b c d e h = add-mod a b 257 ∙ ap₂ (λ (u v : ℕ). (u + v) % 257) e h ∙ sym (add-mod c d 257)
 

@@ -36,7 +36,12 @@ pub fn run(judge: &mut Judge) {
     }
     for columns in [65, 256] {
         let checks = vec![64; 8];
-        frames(judge, &mut random, &Shape { columns, checks });
+        let shape = Shape { columns, checks };
+        frames(judge, &mut random, &shape);
+        all_checks(judge, &mut random, &shape);
+        for count in [1, 8, 20, 32] {
+            full_set(judge, &mut random, columns, count);
+        }
     }
     marked_and_declared(judge, &mut random);
     enumerated(judge, &mut random);
@@ -214,6 +219,34 @@ fn all_checks(judge: &mut Judge, random: &mut Random, shape: &Shape) {
     rows[h] = random.subset(shape.columns, rows[h].len() + 1);
     let refusal = judge.locate(&mut { job }, &declaring(&rows), &sent).refusal;
     judge.compare("one declared cell too many", &(shape, rows), 31, refusal);
+}
+
+/// As many damaged and declared columns together as a row has checks, 64 of them, beside a row that
+/// tells the damage.
+fn full_set(judge: &mut Judge, random: &mut Random, columns: usize, count: usize) {
+    let shape = Shape {
+        columns,
+        checks: vec![64, 64],
+    };
+    let sent = some_legal_frame(random, &shape);
+    let hit = random.subset(columns, count);
+    let mut received = sent.clone();
+    for row in received.chunks_mut(columns) {
+        for &i in &hit {
+            row[i] = (row[i] + random.from_to(1, 256) as u16) % 257;
+        }
+    }
+    let kept: Vec<usize> = (0..columns).filter(|i| !hit.contains(i)).collect();
+    let cells = random.subset(kept.len(), 64 - count);
+    let declared = declaring(&[cells.iter().map(|&k| kept[k]).collect(), vec![]]);
+    let received = refilled(random, &shape, &declared, &received);
+    let (answer, mended) = mend(judge, &shaped(&shape), &shape, &declared, &received);
+    judge.compare(
+        "64 damaged and declared columns",
+        &(&shape, &declared, &received),
+        (0, count as u64, &sent),
+        (answer.refusal, answer.count, &mended),
+    );
 }
 
 /// Two locates with other cells: repair goes by the second one's where it is not refused, by the

@@ -4,7 +4,7 @@ use native.Mathlib.Omega.{arith}
 use lib.ListN.{length}
 use Rattle.columns.proofs.Walk.{walk-rises}
 use borrow.Author.Needs.{needs}
-use Rattle.completion.proofs.SymbolsAdded.{Adding, askable, adding-none, adding-more, adding-all, has-symbol, in-row, same-size}
+use Rattle.completion.proofs.SymbolsAdded.{Adding, readable-set, adding-none, adding-more, adding-all, has-symbol, in-row, same-size}
 use Rattle.completion.proofs.row.mend_row.Statement.{statement}
 use Rattle.completion.proofs.row.mend_row.Tie as tie
 
@@ -15,7 +15,7 @@ abbrev μ-loop : tie.MeasureT-loop
 μ-loop set sums row₀ symbols k₀ i₀ row k i = 256 - i
 
 symbols-requires : tie.Need-symbols-requires Inv-loop μ-loop
-symbols-requires c κs = askable _ _ _ (c .before .before .pre)
+symbols-requires c κs = readable-set _ _ _ (c .before .before .pre)
 
 loop-holds : tie.Need-loop-holds Inv-loop μ-loop
 loop-holds c = adding-none _ _ _ _ (c .next .ensures)

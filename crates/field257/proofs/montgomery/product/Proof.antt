@@ -22,7 +22,8 @@ add-result c = omega (arith, upper c)
 returns : tie.Need-returns
 returns c =
     let start = start-of c in (
-      product-is (start .args .a) (start .args .y) _ _ _ _ (start .pre .1) (c .before .before .times .ensures) (c .before .times2 .ensures) (c .times3 .ensures),
+      product-is (start .args .a) (start .args .y) _ _ _ _ (start .pre .1) (c .before .before .times .ensures) (c .before .times2 .ensures)
+          (c .times3 .ensures),
       omega (arith, upper c),
     )
 

@@ -46,10 +46,10 @@ factor : (c : tie.In-loop Inv-loop μ-loop) →
     let args = start-of c .args in
     (getD (args .x .now) i 0 ≤ 257) × (getD (args .z .now) i 0 ≡ companion (getD (args .x .now) i 0))
 factor c =
-    let located = start-of c .pre .located in
+    let lent = start-of c .pre .lent in
     let i = c .before .loop .i in
-    let l = located .locators i (c .loop-test .taken) in
-    (omega arith, located .companions i (c .loop-test .taken))
+    let l = lent .locators i (c .loop-test .taken) in
+    (omega arith, lent .companions i (c .loop-test .taken))
 
 product-requires : tie.Need-product-requires Inv-loop μ-loop
 product-requires c κs = factor (in-loop c)
@@ -75,9 +75,12 @@ add-t c =
     let next = first (second c) in
     let inside = in-loop (next .before) in
     let at = inside .before .loop in
-    let r = room _ _ _ _ _ _ _ _ (start-of inside .pre) (at .i) _ _ _ (at .inv) (inside .loop-test .taken) (next .product .result) (next .product .ensures .1) in
     let w = c .times .ensures in
-    omega arith
+    omega (
+      arith,
+      room _ _ _ _ _ _ _ _ (start-of inside .pre) (at .i) _ _ _ (at .inv) (inside .loop-test .taken) (next .product .result)
+          (next .product .ensures .1),
+    )
 
 loop-again : tie.Need-loop-again Inv-loop μ-loop
 loop-again c =

@@ -1,13 +1,13 @@
 -- `lanes::symbols::locators` meets its contract.
 use mathlib.Core.Path.{_≡_, sym, ap, _∙_}
+use mathlib.Core.List.{map}
 use Prim.Native.Nat.{_-_, _<_}
 use native.Mathlib.Omega.{arith}
 use lib.ListN.{length, getD}
 use Rattle.columns.specs.Columns.{members}
 use Rattle.columns.proofs.Walk.{Walk, walk-start, walk-next, walk-member, walk-end, walk-rises}
 use Rattle.field257.specs.Powers.{locatorOf}
-use Rattle.lanes.specs.Symbols.{locatorIn}
-use Rattle.lanes.proofs.SymbolsRead.{locator-in, locator-past}
+use Rattle.lanes.proofs.SymbolsRead.{locator-at, locator-past}
 use Rattle.lists.proofs.Filling.{Filled, filled-none, filled-more, filled-zeros}
 use Rattle.lists.proofs.Zeros.{zeros}
 use borrow.Author.Needs.{needs}
@@ -15,7 +15,7 @@ use Rattle.lanes.proofs.symbols.locators.Statement.{statement}
 use Rattle.lanes.proofs.symbols.locators.Tie as tie
 
 abbrev Inv-loop : tie.InvT-loop
-Inv-loop powers set x₀ k₀ i₀ x k i = Walk set k i × Filled (locatorIn set) (zeros 64) k x
+Inv-loop powers set x₀ k₀ i₀ x k i = Walk set k i × Filled (λ k. getD (map locatorOf (members set)) k 0) (zeros 64) k x
 
 abbrev μ-loop : tie.MeasureT-loop
 μ-loop powers set x₀ k₀ i₀ x k i = 256 - i
@@ -66,7 +66,7 @@ loop-again c =
     let (few, less, here) = stands inside in (
       walk-next _ _ _ (at .inv .0) _ (inside .loop-test .taken) (c .next2 .ensures),
       filled-more _ (zeros 64) (at .k) _ _ (at .inv .1) (let s = at .inv .1 .size in omega arith)
-          (c .before .entry .ensures ∙ ap locatorOf (sym here) ∙ sym (locator-in _ (at .k) less)),
+          (c .before .entry .ensures ∙ ap locatorOf (sym here) ∙ sym (locator-at _ (at .k) less)),
     )
 
 returns : tie.Need-returns Inv-loop μ-loop

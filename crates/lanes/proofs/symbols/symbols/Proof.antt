@@ -1,9 +1,10 @@
 -- `lanes::symbols::symbols` meets its contract.
 use mathlib.Core.Path.{ap, _∙_}
 use Prim.Native.Nat.{ℕ}
-use Rattle.lanes.specs.Symbols.{dividedAt}
+use lib.ListN.{getD}
+use Rattle.lanes.specs.Symbols.{symbolsIn}
 use borrow.Author.Needs.{needs}
-use Rattle.lanes.proofs.SymbolsRead.{runnable, divided-is}
+use Rattle.lanes.proofs.SymbolsRead.{runnable, symbols-are}
 use Rattle.lanes.proofs.symbols.symbols.Statement.{statement}
 use Rattle.lanes.proofs.symbols.symbols.Tie as tie
 
@@ -37,8 +38,8 @@ returns c =
     let m = sized f in
     let start = start-of m in
     λ k.
-    c .divided .ensures k ∙ ap (λ (n : ℕ). dividedAt n (x .locators .result) (run .run .result) k) (m .size .ensures)
-    ∙ divided-is (start .args .set) (f .locator-polynomial .result) (start .args .sums .now) (x .locators .result) (f .locator-polynomial .ensures)
+    c .divided .ensures k ∙ ap (λ (n : ℕ). getD (symbolsIn n (x .locators .result) (run .run .result)) k 0) (m .size .ensures)
+    ∙ symbols-are (start .args .set) (f .locator-polynomial .result) (start .args .sums .now) (x .locators .result) (f .locator-polynomial .ensures)
     (x .locators .ensures) (run .run .result) (rw (m .size .ensures) at (run .run .ensures)) k
 
 pub symbols-spec : {M : Type 1} → statement M
