@@ -1,6 +1,6 @@
 -- Remainders of products and powers: a factor or a base may be reduced first (the same for sums is in `native.Mathlib.Nat`). What has
 -- remainder 0 adds nothing to a remainder, and the other way round.
-use mathlib.Core.Path.{_≡_, sym, ap, _∙_}
+use mathlib.Core.Path.{_≡_, sym, ap, ap₂, _∙_}
 use Prim.Native.Nat.{ℕ, zero, suc, _+_, _-_, _*_, _/_, _%_, _^_, _<_, _≤_}
 use native.Mathlib.Nat.{
   mod-add-div',
@@ -59,3 +59,7 @@ mod-add-zero x y m e = sym (add-mod-mod x y m) ∙ rw (e, add-zero)
 
 pub mod-mul-zero : (x y m : ℕ) → y % m ≡ 0 → (x * y) % m ≡ 0
 mod-mul-zero x y m e = sym (mul-mod-mod x y m) ∙ rw (e, mul-zero, zero-mod)
+
+-- numbers with the same remainders have sums with the same remainder
+pub same-sums : (a b c d m : ℕ) → a % m ≡ c % m → b % m ≡ d % m → (a + b) % m ≡ (c + d) % m
+same-sums a b c d m e h = add-mod a b m ∙ ap₂ (λ (u v : ℕ). (u + v) % m) e h ∙ sym (add-mod c d m)

@@ -1,7 +1,7 @@
 -- Montgomery's product is the product modulo 257, and what the code computes for it.
 use mathlib.Core.Path.{_≡_, sym, ap, ap₂, _∙_}
 use Prim.Native.Nat.{ℕ, _+_, _-_, _*_, _/_, _%_, _≤_, _<_}
-use native.Mathlib.Nat.{add-mul-mod-self-right, div-add-mod', div-lt-iff-lt-mul, mod-lt, mul-le-mul}
+use native.Mathlib.Nat.{add-mul-mod-self-right, div-add-mod', div-lt-iff-lt-mul, mod-lt, mul-comm, mul-le-mul}
 use native.Mathlib.Omega.{arith}
 use lib.Dec.{lit<}
 use Rattle.field.proofs.Remainders.{mod-mul-mod, mul-mod-mod}
@@ -38,6 +38,11 @@ module _ (a y : ℕ) where
       let gap : montgomery a y + (255 * (a * y / 65536) + low) * 257 ≡ a * y + (1 + 255 * (low * 257 / 65536)) * 257 = omega arith in
       sym (add-mul-mod-self-right (montgomery a y) (255 * (a * y / 65536) + low) 257)
       ∙ ap (λ (v : ℕ). v % 257) gap ∙ add-mul-mod-self-right (a * y) (1 + 255 * (low * 257 / 65536)) 257
+
+  -- the same where a stands for a residue
+  pub montgomery-residue : (r : ℕ) → a % 257 ≡ r → montgomery a y % 257 ≡ (y * r) % 257
+  montgomery-residue r e =
+      montgomery-is ∙ sym (mod-mul-mod a 257 y) ∙ ap (λ (v : ℕ). (v * y) % 257) e ∙ ap (λ (v : ℕ). v % 257) (mul-comm r y)
 
   pub upper-most : a < 65536 → y ≤ 257 → a * y / 65536 ≤ 256
   upper-most ha hy =

@@ -10,7 +10,7 @@ use Rattle.algebra.specs.Sum.{pow}
 use Rattle.algebra.proofs.Powers.{pow-pow}
 use Rattle.field.proofs.Bridge.{res-mod, res-mul, res-pow}
 use Rattle.field.proofs.Prime257.{prime-257}
-use Rattle.field257.specs.Powers.{powerOf3}
+use Rattle.field257.specs.Powers.{locatorOf, powerOf3}
 use Rattle.field257.proofs.Field257.{R257, res257, locatorAt}
 use Rattle.field257.proofs.Locators.{power-mod}
 use Rattle.frame.specs.Frame.{weight}
@@ -36,6 +36,10 @@ res-weight i j =
 pub weight-power : (i j : ℕ) → weight i j % 257 ≡ powerOf3 ((i * j) % 256)
 unfolding weight
 weight-power i j = power-mod (i * j)
+
+-- that of a column in the first check sum is its locator
+pub weight-first : (i : ℕ) → weight i 1 % 257 ≡ locatorOf i
+weight-first i = weight-power i 1 ∙ ap (λ (e : ℕ). powerOf3 (e % 256)) (let q : i * 1 ≡ i = omega arith in q) ∙ sym (power-mod i)
 
 pub weight-add : (i k j : ℕ) → weight (i + k) j ≡ weight i j * weight k j
 unfolding weight

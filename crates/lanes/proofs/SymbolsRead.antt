@@ -14,12 +14,11 @@ use Rattle.field.specs.Residue.{inverse, minus, times}
 use Rattle.field.proofs.Remainders.{mul-mod-mod}
 use Rattle.field257.specs.LocatorPolynomial.{locatorPolynomial}
 use Rattle.field257.specs.Montgomery.{companion}
-use Rattle.field257.specs.Powers.{locatorOf, powerOf3}
+use Rattle.field257.specs.Powers.{locatorOf}
 use Rattle.field257.proofs.LocatorBuilding.{polynomial-below}
-use Rattle.field257.proofs.Locators.{power-mod}
 use Rattle.frame.specs.Completion.{without}
 use Rattle.frame.specs.Frame.{weight}
-use Rattle.frame.proofs.Weights.{weight-power}
+use Rattle.frame.proofs.Weights.{weight-first}
 use Rattle.lanes.specs.Lanes.{Runnable, Ran}
 use Rattle.lanes.specs.Symbols.{ReadableSet, symbolOf, symbolsIn, symbolsOf}
 use Rattle.lanes.specs.declared.run.Lanes.{Lanes}
@@ -32,10 +31,6 @@ use Rattle.weights.specs.Weights.{carried, coefficient, factorOf, readOff, symb
 use Rattle.weights.proofs.CarriedValue.{carried-scale}
 use Rattle.weights.proofs.Quotient.{quotient-others}
 use Rattle.weights.proofs.ReadForm.{factored}
-
--- the weight of a column in the first check sum is its locator
-weight-first : (i : ℕ) → weight i 1 % 257 ≡ locatorOf i
-weight-first i = weight-power i 1 ∙ ap (λ (e : ℕ). powerOf3 (e % 256)) (let q : i * 1 ≡ i = omega arith in q) ∙ sym (power-mod i)
 
 -- ---- the symbols of m lanes
 

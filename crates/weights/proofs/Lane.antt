@@ -1,29 +1,20 @@
 -- One lane, from coefficient to coefficient: what it has is what synthetic division, Horner's rule and reading off give, modulo 257.
-use mathlib.Core.Path.{_≡_, sym, ap, ap₂, _∙_}
+use mathlib.Core.Path.{_≡_, sym, ap, _∙_}
 use mathlib.Core.List.{List}
 use Prim.Native.Nat.{ℕ, suc, _+_, _-_, _*_, _%_, _≤_, _<_}
-use native.Mathlib.Nat.{add-mod, mod-mod, mul-comm, mul-le-mul}
+use native.Mathlib.Nat.{mod-mod, mul-le-mul}
 use native.Mathlib.Numerals.{add-one}
 use native.Mathlib.Omega.{arith}
 use lib.ListN.{getD}
-use Rattle.field.proofs.Remainders.{mod-mul-mod}
+use Rattle.field.proofs.Remainders.{mod-mul-mod, same-sums}
 use Rattle.field257.specs.Montgomery.{montgomery}
-use Rattle.field257.proofs.MontgomeryProduct.{montgomery-is}
+use Rattle.field257.proofs.MontgomeryProduct.{montgomery-residue}
 use Rattle.lists.specs.Tabulate.{tabulate}
 use Rattle.lists.specs.Total.{total}
 use Rattle.lists.proofs.Tabulated.{getD-tabulate}
 use Rattle.lists.proofs.Totals.{total-zero, total-suc}
 use Rattle.weights.specs.Weights.{carried}
 use Rattle.weights.proofs.Division.{carried-zero, carried-suc}
-
--- numbers with the same remainders have sums with the same remainder
-both-mod : (a b c d : ℕ) → a % 257 ≡ c % 257 → b % 257 ≡ d % 257 → (a + b) % 257 ≡ (c + d) % 257
-both-mod a b c d e h = add-mod a b 257 ∙ ap₂ (λ (u v : ℕ). (u + v) % 257) e h ∙ sym (add-mod c d 257)
-
--- Montgomery's product of a number that stands for a residue r
-product-mod : (q x r : ℕ) → q % 257 ≡ r → montgomery q x % 257 ≡ (x * r) % 257
-product-mod q x r e =
-    montgomery-is q x ∙ sym (mod-mul-mod q 257 x) ∙ ap (λ (v : ℕ). (v * x) % 257) e ∙ ap (λ (v : ℕ). v % 257) (mul-comm r x)
 
 module _ (f : List ℕ) (x : ℕ) (sums : List ℕ) (m : ℕ) where
   abbrev coefficient : ℕ → ℕ
@@ -56,7 +47,7 @@ module _ (f : List ℕ) (x : ℕ) (sums : List ℕ) (m : ℕ) where
     next-coefficient : q′ % 257 ≡ coefficient k
     next-coefficient =
         ap (λ (u : ℕ). u % 257) next
-        ∙ both-mod c (montgomery q x) (getD f k 0) (x * carried f x k) (ap (λ (u : ℕ). u % 257) dividend) (product-mod q x (carried f x k) (lane .last))
+        ∙ same-sums c (montgomery q x) (getD f k 0) (x * carried f x k) 257 (ap (λ (u : ℕ). u % 257) dividend) (montgomery-residue q x (carried f x k) (lane .last))
         ∙ sym (carried-suc f x k)
 
     pub lane-more : Lane (k + 1) q′ v′ t′
@@ -64,12 +55,12 @@ module _ (f : List ℕ) (x : ℕ) (sums : List ℕ) (m : ℕ) where
       last = next-coefficient;
       value =
           ap (λ (u : ℕ). u % 257) evaluated
-          ∙ both-mod q′ (montgomery v x) (getD quotient k 0) (x * carried quotient x k)
-          (next-residue ∙ ap (λ (u : ℕ). u % 257) (sym (getD-tabulate m coefficient k 0 inside))) (product-mod v x (carried quotient x k) (lane .value))
+          ∙ same-sums q′ (montgomery v x) (getD quotient k 0) (x * carried quotient x k) 257
+          (next-residue ∙ ap (λ (u : ℕ). u % 257) (sym (getD-tabulate m coefficient k 0 inside))) (montgomery-residue v x (carried quotient x k) (lane .value))
           ∙ sym (carried-suc quotient x k);
       read =
           ap (λ (u : ℕ). u % 257) added
-          ∙ both-mod t (q′ * s) (total k term) (term k) (lane .read)
+          ∙ same-sums t (q′ * s) (total k term) (term k) 257 (lane .read)
           (sym (mod-mul-mod q′ 257 s) ∙ ap (λ (u : ℕ). (u * s) % 257) next-coefficient
           ∙ ap (λ (u : ℕ). (coefficient k * u) % 257) (sum ∙ ap (λ (j : ℕ). getD sums j 0) (let e : m - 1 - k ≡ m - suc k = omega arith in e)))
           ∙ ap (λ (u : ℕ). u % 257) (sym (total-suc k term));
