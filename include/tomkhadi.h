@@ -15,6 +15,10 @@
  * A refused call writes nothing to what is lent and leaves the job as it was, but that locate refused by 24, 25 or 26 leaves it shaped. So between a locate
  * and its repair there may be encodes, and calls that are refused by other numbers.
  *
+ * A shape has an exponent, 0 to 255, that of the locators in the first check sum: column i has the locator 3^i, and check sum j of a row, j = 1 up to its
+ * check count, is the sum over i of its symbol at column i times 3^(i*(exponent + j - 1)), modulo 257. A frame is legal where all of them are 0. Exponent 1 is
+ * what shapes meant before there was a choice. A frame that is legal for one exponent seldom is for another, so both ends of a link need the same.
+ *
  * Declared cells are known to be lost: locate and repair read them as 0 whatever they hold, and repair fills them too. Each row has 256 marks, in the form of
  * an answer's: bit b of word 4*h + w declares column 64*w + b of the row at place h. Places count from 0, like those of the check counts lent to shape; the
  * documents number rows from 1, so words 0 to 3 are row 1's and words 28 to 31 row 8's. Zeros declare nothing. A declared cell costs its row one check, and
@@ -35,6 +39,7 @@
  *    7  the frame does not have rows x columns symbols
  *    8  the tap buffer has fewer entries than the longest length plus 1
  *   31  more declared cells than checks in a row, or a mark past the last column or row
+ *   32  the exponent is above 255
  * Refusals because of the state of the job
  *   21  the job is empty
  *   22  repair of a job that is not located
@@ -75,13 +80,14 @@ typedef struct {
   uint64_t columns;
   uint64_t marks[4];
   uint16_t checks[8];
+  uint32_t exponent;
 } tomkhadi_head;
 
 /* A job. Treat it as opaque: make it empty, then hand it from call to call. One of zeros is empty. Any other value is safe too: it counts as empty, and
- * may be left as another that does, unless the numbers of its head are in their ranges (a shape that is not refused; where it is located, alone is 1,
- * `length` columns are marked, all below `columns`, and no row has fewer checks than `length`). The arrays hold what the last locate found that was
- * not refused, and the cells declared to it, and play a part only where the job is located: it counts as shaped where its cells would be refused by 31,
- * or leave some row fewer checks than `length`. */
+ * may be left as another that does, unless the numbers of its head are in their ranges (a shape that is not refused, its exponent 255 at most; where it is
+ * located, alone is 1, `length` columns are marked, all below `columns`, and no row has fewer checks than `length`). The arrays hold what the last locate found
+ * that was not refused, and the cells declared to it, and play a part only where the job is located: it counts as shaped where its cells would be refused
+ * by 31, or leave some row fewer checks than `length`. */
 typedef struct {
   tomkhadi_head head;
   uint64_t declared[32];
@@ -109,7 +115,7 @@ typedef struct {
 } tomkhadi_head_answered;
 
 tomkhadi_head tomkhadi_head_empty(void);
-tomkhadi_head_shaped tomkhadi_head_shape(tomkhadi_head head, size_t columns, const uint16_t *checks, size_t rows);
+tomkhadi_head_shaped tomkhadi_head_shape(tomkhadi_head head, size_t columns, const uint16_t *checks, size_t rows, uint32_t exponent);
 uint32_t tomkhadi_head_encode(tomkhadi_head head, uint16_t *frame, size_t size);
 tomkhadi_head_answered tomkhadi_head_locate(tomkhadi_head head, uint16_t sums[512], uint16_t taps[65], uint64_t held[32], const uint64_t declared[32],
                                             const uint16_t *frame, size_t size);
@@ -121,9 +127,10 @@ static inline void tomkhadi_empty(tomkhadi_job *job) {
   job->head = tomkhadi_head_empty();
 }
 
-/* Gives the job its shape: `columns` columns and one row for each of the check counts. Leaves it shaped. Answers the refusal or 0. Refusals: 2, 5, 6. */
-static inline uint32_t tomkhadi_shape(tomkhadi_job *job, size_t columns, const uint16_t *checks, size_t rows) {
-  tomkhadi_head_shaped shaped = tomkhadi_head_shape(job->head, columns, checks, rows);
+/* Gives the job its shape: `columns` columns, one row for each of the check counts, and the exponent, 1 where nothing else is agreed on. Leaves it shaped.
+ * Answers the refusal or 0. Refusals: 2, 5, 6, 32. */
+static inline uint32_t tomkhadi_shape(tomkhadi_job *job, size_t columns, const uint16_t *checks, size_t rows, uint32_t exponent) {
+  tomkhadi_head_shaped shaped = tomkhadi_head_shape(job->head, columns, checks, rows, exponent);
   job->head = shaped.head;
   return shaped.refusal;
 }

@@ -48,11 +48,18 @@ struct Work {
     lent: Lent,
 }
 
-/// Where cells are declared, with the same call of the frame in which they are not lost.
+/// What a call is compared with besides: the same call of the frame in which no cells are lost, or of
+/// the same data, damage and declared cells at the exponent 1.
+#[derive(Clone, Copy)]
+enum Beside {
+    NothingDeclared,
+    ExponentOne,
+}
+
 struct Case {
     name: String,
     work: Work,
-    nothing_declared: Option<Work>,
+    beside: Option<(Beside, Work)>,
 }
 
 /// What a call answers.
@@ -108,14 +115,13 @@ impl Case {
         Case {
             name,
             work: Work { call, lent },
-            nothing_declared: None,
+            beside: None,
         }
     }
 
-    /// The case of declared cells, with that of none.
-    fn beside(self, other: Case) -> Case {
+    fn beside(self, what: Beside, other: Case) -> Case {
         Case {
-            nothing_declared: Some(other.work),
+            beside: Some((what, other.work)),
             ..self
         }
     }
@@ -158,13 +164,29 @@ struct Frames {
 impl Frames {
     fn new(random: &mut Random, rows: usize, columns: usize, checks: u16) -> Frames {
         let mut job = Job::EMPTY;
-        Plain.shape(&mut job, columns, &vec![checks; rows]);
+        Plain.shape(&mut job, columns, &vec![checks; rows], 1);
         let data = random.symbols(257, rows * columns);
         let mut sent = data.clone();
         Plain.encode(&job, &mut sent);
         Frames {
             size: format!("{rows} x {columns}, {checks} checks"),
             columns,
+            job,
+            data,
+            sent,
+        }
+    }
+
+    /// Those of the same data with check sums that begin at another exponent.
+    fn at(&self, exponent: u32) -> Frames {
+        let mut job = self.job;
+        job.head.exponent = exponent;
+        let data = self.data.clone();
+        let mut sent = data.clone();
+        Plain.encode(&job, &mut sent);
+        Frames {
+            size: format!("{}, exponent {exponent}", self.size),
+            columns: self.columns,
             job,
             data,
             sent,
@@ -227,14 +249,36 @@ impl Frames {
                 let declared = self.lose(random, &mut frame, lost);
                 let damage = format!("{damage}, {lost} declared");
                 let [lost_locate, lost_repair] = self.mend(&damage, &declared, &frame);
-                locate = lost_locate.beside(locate);
-                repair = lost_repair.beside(repair);
+                locate = lost_locate.beside(Beside::NothingDeclared, locate);
+                repair = lost_repair.beside(Beside::NothingDeclared, repair);
             }
             locates.push(locate);
             repairs.push(repair);
         }
         locates.append(&mut repairs);
         locates
+    }
+
+    /// Encode, and the locates and repairs with nothing declared.
+    fn calls(&self, random: &mut Random, damages: &[usize]) -> Vec<Case> {
+        let mut cases = vec![self.encode()];
+        cases.extend(self.received(random, damages, 0));
+        cases
+    }
+
+    /// What is made of the frames at another exponent, each beside what is made of these: the data, the
+    /// damage and the declared cells are the same.
+    fn cases_at(
+        &self,
+        exponent: u32,
+        make: impl Fn(&Frames, &mut Random) -> Vec<Case>,
+    ) -> Vec<Case> {
+        let [cases, others] =
+            [&self.at(exponent), self].map(|frames| make(frames, &mut Random::new(7)));
+        let pairs = cases.into_iter().zip(others);
+        pairs
+            .map(|(case, other)| case.beside(Beside::ExponentOne, other))
+            .collect()
     }
 }
 
@@ -306,11 +350,10 @@ fn flint_time(_: &Case) -> Option<f64> {
     None
 }
 
-/// The ratios of the library's time: to the plain one, and, where cells are declared, to its own for
-/// the same call with nothing declared.
+/// The ratios of the library's time: to the plain one, and to its own for the call beside.
 struct Ratios {
     to_plain: f64,
-    to_nothing_declared: Option<f64>,
+    to_beside: Option<(Beside, f64)>,
 }
 
 /// Prints the times of a case and answers the ratios.
@@ -325,7 +368,7 @@ fn compare(case: &Case, library: &dyn Calls) -> Ratios {
         "{}",
         case.name
     );
-    let other = case.nothing_declared.as_ref().unwrap_or(&case.work);
+    let other = case.beside.as_ref().map_or(&case.work, |(_, work)| work);
     let mut others = other.lent.clone();
     let times = medians(&mut [
         &mut || {
@@ -340,10 +383,13 @@ fn compare(case: &Case, library: &dyn Calls) -> Ratios {
     ]);
     let ratios = Ratios {
         to_plain: times[1] / times[0],
-        to_nothing_declared: case.nothing_declared.as_ref().map(|_| times[1] / times[2]),
+        to_beside: case
+            .beside
+            .as_ref()
+            .map(|(what, _)| (*what, times[1] / times[2])),
     };
     print!(
-        "{:<52}{:>12.2}{:>12.2}{:>8.2}",
+        "{:<66}{:>12.2}{:>12.2}{:>8.2}",
         case.name,
         times[0] / 1e3,
         times[1] / 1e3,
@@ -352,8 +398,10 @@ fn compare(case: &Case, library: &dyn Calls) -> Ratios {
     if let Some(time) = flint_time(case) {
         print!("{:>12.2}", time / 1e3);
     }
-    if let Some(ratio) = ratios.to_nothing_declared {
-        print!("{:>12}{ratio:>12.2}", "");
+    match ratios.to_beside {
+        Some((Beside::NothingDeclared, ratio)) => print!("{ratio:>24.2}"),
+        Some((Beside::ExponentOne, ratio)) => print!("{ratio:>36.2}"),
+        None => {}
     }
     println!();
     ratios
@@ -368,35 +416,65 @@ fn library() -> Box<dyn Calls> {
     Box::new(Plain)
 }
 
-fn main() {
-    let library = library();
+/// The largest ratio so far, and the case that has it.
+struct Worst<'a>(f64, &'a str);
+
+impl<'a> Worst<'a> {
+    fn meet(&mut self, ratio: f64, case: &'a Case) {
+        if ratio > self.0 {
+            *self = Worst(ratio, &case.name);
+        }
+    }
+
+    fn print(&self, what: &str) {
+        println!("worst ratio{what}: {:.2} ({})", self.0, self.1);
+    }
+}
+
+fn all_cases() -> Vec<Case> {
     let mut random = Random::new(6);
     let mut cases = find_cases(&mut random);
     let full = Frames::new(&mut random, 8, 256, 64);
-    cases.push(full.encode());
-    cases.extend(full.received(&mut random, &[0, 2, 32], 0));
+    cases.extend(full.calls(&mut random, &[0, 2, 32]));
     let small = Frames::new(&mut random, 2, 32, 8);
-    cases.push(small.encode());
-    cases.extend(small.received(&mut random, &[0, 2, 4], 0));
+    cases.extend(small.calls(&mut random, &[0, 2, 4]));
     cases.extend(full.received(&mut random, &[0, 2, 24, 40], 8));
+    for exponent in [2, 128] {
+        cases.extend(full.cases_at(exponent, |full, random| {
+            let mut cases = full.calls(random, &[0, 2, 32]);
+            cases.extend(full.received(random, &[2, 24], 8));
+            cases
+        }));
+    }
+    cases.extend(small.cases_at(128, |small, random| small.calls(random, &[0, 2, 4])));
+    cases
+}
+
+fn main() {
+    let library = library();
+    let cases = all_cases();
     println!(
-        "{:<52}{:>12}{:>12}{:>8}{:>12}{:>12}",
-        "microseconds a call (median)", "plain", "library", "ratio", "FLINT", "to none"
+        "{:<66}{:>12}{:>12}{:>8}{:>12}{:>12}{:>12}",
+        "microseconds a call (median)",
+        "plain",
+        "library",
+        "ratio",
+        "FLINT",
+        "to none",
+        "to exp. 1"
     );
-    let (mut worst, mut worst_declared) = ((0.0, ""), (0.0, ""));
+    let [mut to_plain, mut to_none, mut to_one] = [(); 3].map(|_| Worst(0.0, ""));
     for case in &cases {
         let ratios = compare(case, &*library);
-        if ratios.to_plain > worst.0 {
-            worst = (ratios.to_plain, &case.name);
-        }
-        if ratios.to_nothing_declared > Some(worst_declared.0) {
-            worst_declared = (ratios.to_nothing_declared.unwrap_or(0.0), &case.name);
+        to_plain.meet(ratios.to_plain, case);
+        match ratios.to_beside {
+            Some((Beside::NothingDeclared, ratio)) => to_none.meet(ratio, case),
+            Some((Beside::ExponentOne, ratio)) => to_one.meet(ratio, case),
+            None => {}
         }
     }
     println!("a job has {} bytes", size_of::<Job>());
-    println!(
-        "worst ratio to the same call with nothing declared: {:.2} ({})",
-        worst_declared.0, worst_declared.1
-    );
-    println!("worst ratio: {:.2} ({})", worst.0, worst.1);
+    to_none.print(" to the same call with nothing declared");
+    to_one.print(" to the same call with exponent 1");
+    to_plain.print("");
 }

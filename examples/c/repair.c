@@ -18,6 +18,9 @@ enum { ROWS = 2, COLUMNS = 8, SIZE = ROWS * COLUMNS };
  * two declared cells of row 1 with it. */
 static const uint16_t checks[ROWS] = {4, 2};
 
+/* The check sums begin at the first power of the locators. Both sides of the link must have the same. */
+enum { EXPONENT = 1 };
+
 static void print_frame(const char *title, const uint16_t *frame) {
   printf("%s\n", title);
   for (size_t row = 0; row < ROWS; row++) {
@@ -44,7 +47,7 @@ int main(void) {
   /* The job keeps what the calls know of each other. */
   tomkhadi_job job;
   tomkhadi_empty(&job);
-  if (refused("shape", tomkhadi_shape(&job, COLUMNS, checks, ROWS))) return 1;
+  if (refused("shape", tomkhadi_shape(&job, COLUMNS, checks, ROWS, EXPONENT))) return 1;
 
   /* The sender's side: data in the columns after the checks, whose cells may hold anything. */
   uint16_t frame[SIZE] = {

@@ -5,8 +5,8 @@ void header_empty(tomkhadi_job *job) {
   tomkhadi_empty(job);
 }
 
-uint32_t header_shape(tomkhadi_job *job, size_t columns, const uint16_t *checks, size_t rows) {
-  return tomkhadi_shape(job, columns, checks, rows);
+uint32_t header_shape(tomkhadi_job *job, size_t columns, const uint16_t *checks, size_t rows, uint32_t exponent) {
+  return tomkhadi_shape(job, columns, checks, rows, exponent);
 }
 
 uint32_t header_encode(const tomkhadi_job *job, uint16_t *frame, size_t size) {

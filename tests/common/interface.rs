@@ -33,6 +33,7 @@ pub struct Head {
     pub columns: u64,
     pub marks: Marks,
     pub checks: [u16; 8],
+    pub exponent: u32,
 }
 
 #[repr(C)]
@@ -71,14 +72,16 @@ impl Head {
         columns: 0,
         marks: [0; 4],
         checks: [0; 8],
+        exponent: 0,
     };
 
     /// The head of the shape given, which is not refused.
-    pub fn shaped(columns: usize, checks: &[u16]) -> Head {
+    pub fn shaped(columns: usize, checks: &[u16], exponent: u32) -> Head {
         let mut head = Head {
             phase: SHAPED,
             rows: checks.len() as u64,
             columns: columns as u64,
+            exponent,
             ..Head::EMPTY
         };
         head.checks[..checks.len()].copy_from_slice(checks);
@@ -105,6 +108,7 @@ impl Head {
             rows: self.rows,
             columns: self.columns,
             checks: self.checks,
+            exponent: self.exponent,
             ..Head::EMPTY
         }
     }
@@ -133,7 +137,7 @@ impl Answer {
 pub trait Calls {
     fn find(&self, p: u32, lengths: &[u16], symbols: &[u16], taps: &mut [u16]) -> Register;
     fn empty(&self, job: &mut Job);
-    fn shape(&self, job: &mut Job, columns: usize, checks: &[u16]) -> u32;
+    fn shape(&self, job: &mut Job, columns: usize, checks: &[u16], exponent: u32) -> u32;
     fn encode(&self, job: &Job, frame: &mut [u16]) -> u32;
     fn locate(&self, job: &mut Job, declared: &Declared, frame: &[u16]) -> Answer;
     fn repair(&self, job: &mut Job, frame: &mut [u16]) -> Answer;
@@ -159,7 +163,13 @@ mod library {
         ) -> Register;
         // Those of `header.c`.
         fn header_empty(job: *mut Job);
-        fn header_shape(job: *mut Job, columns: usize, checks: *const u16, rows: usize) -> u32;
+        fn header_shape(
+            job: *mut Job,
+            columns: usize,
+            checks: *const u16,
+            rows: usize,
+            exponent: u32,
+        ) -> u32;
         fn header_encode(job: *const Job, frame: *mut u16, size: usize) -> u32;
         fn header_locate(
             job: *mut Job,
@@ -191,8 +201,8 @@ mod library {
             unsafe { header_empty(job) }
         }
 
-        fn shape(&self, job: &mut Job, columns: usize, checks: &[u16]) -> u32 {
-            unsafe { header_shape(job, columns, checks.as_ptr(), checks.len()) }
+        fn shape(&self, job: &mut Job, columns: usize, checks: &[u16], exponent: u32) -> u32 {
+            unsafe { header_shape(job, columns, checks.as_ptr(), checks.len(), exponent) }
         }
 
         fn encode(&self, job: &Job, frame: &mut [u16]) -> u32 {

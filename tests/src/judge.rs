@@ -12,7 +12,7 @@ use crate::independent::{Independent, shape_of};
 /// The answers that the inputs tried must bring about, each at least once.
 const ANSWERS: [(&str, &[u32]); 5] = [
     ("find", &[0, 1, 2, 3, 4, 8]),
-    ("shape", &[0, 2, 5, 6]),
+    ("shape", &[0, 2, 5, 6, 32]),
     ("encode", &[0, 4, 7, 21]),
     ("locate", &[0, 4, 7, 21, 24, 25, 26, 31]),
     ("repair", &[0, 4, 7, 21, 22, 23]),
@@ -222,7 +222,7 @@ impl<'a> Judge<'a> {
     /// The job that was shaped, with arrays of anything, and is made empty.
     pub fn empty(&mut self) -> Job {
         let mut job = Job {
-            head: Head::shaped(7, &[3]),
+            head: Head::shaped(7, &[3], 5),
             ..FILLED
         };
         self.both("empty", &(), &mut job, (&NOTHING, &[]), &|calls, held| {
@@ -232,11 +232,15 @@ impl<'a> Judge<'a> {
     }
 
     /// Answers the refusal.
-    pub fn shape(&mut self, job: &mut Job, columns: usize, checks: &[u16]) -> u32 {
-        let inputs = (("columns", columns), ("checks", checks));
+    pub fn shape(&mut self, job: &mut Job, columns: usize, checks: &[u16], exponent: u32) -> u32 {
+        let inputs = (
+            ("columns", columns),
+            ("checks", checks),
+            ("exponent", exponent),
+        );
         let lent = (&NOTHING, &[][..]);
         let (refusal, _) = self.both("shape", &inputs, job, lent, &|calls, held| {
-            let refusal = calls.shape(&mut held.job, columns, checks);
+            let refusal = calls.shape(&mut held.job, columns, checks, exponent);
             (refusal, refusal)
         });
         refusal

@@ -1,7 +1,7 @@
 /* Sizes and places in the structs of the header, in the order of trials/layout.rs. */
 #include "tomkhadi.h"
 
-const size_t tomkhadi_layout[33] = {
+const size_t tomkhadi_layout[34] = {
     sizeof(tomkhadi_register),
     _Alignof(tomkhadi_register),
     offsetof(tomkhadi_register, refusal),
@@ -16,6 +16,7 @@ const size_t tomkhadi_layout[33] = {
     offsetof(tomkhadi_head, columns),
     offsetof(tomkhadi_head, marks),
     offsetof(tomkhadi_head, checks),
+    offsetof(tomkhadi_head, exponent),
     sizeof(tomkhadi_job),
     _Alignof(tomkhadi_job),
     offsetof(tomkhadi_job, head),

@@ -28,7 +28,7 @@ fn subject() -> Box<dyn Calls> {
 
 type Trial = fn(&mut Judge);
 
-const TRIALS: [(&str, Trial); 10] = [
+const TRIALS: [(&str, Trial); 11] = [
     ("layout", trials::layout::run),
     ("prototypes", trials::prototypes::run),
     ("examples", trials::examples::run),
@@ -37,6 +37,7 @@ const TRIALS: [(&str, Trial); 10] = [
     ("shapes", trials::shapes::run),
     ("frames", trials::frames::run),
     ("declared cells", trials::declared::run),
+    ("exponents", trials::exponents::run),
     ("forged jobs", trials::forged::run),
     ("lists of calls", trials::lists::run),
 ];

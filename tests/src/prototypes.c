@@ -8,7 +8,7 @@
 /* Those of the archive. */
 static tomkhadi_register (*const find)(uint32_t, const uint16_t *, size_t, const uint16_t *, size_t, uint16_t *, size_t) = tomkhadi_find;
 static tomkhadi_head (*const head_empty)(void) = tomkhadi_head_empty;
-static tomkhadi_head_shaped (*const head_shape)(tomkhadi_head, size_t, const uint16_t *, size_t) = tomkhadi_head_shape;
+static tomkhadi_head_shaped (*const head_shape)(tomkhadi_head, size_t, const uint16_t *, size_t, uint32_t) = tomkhadi_head_shape;
 static uint32_t (*const head_encode)(tomkhadi_head, uint16_t *, size_t) = tomkhadi_head_encode;
 static tomkhadi_head_answered (*const head_locate)(tomkhadi_head, uint16_t *, uint16_t *, uint64_t *, const uint64_t *, const uint16_t *,
                                                    size_t) = tomkhadi_head_locate;
@@ -16,7 +16,7 @@ static tomkhadi_head_answered (*const head_repair)(tomkhadi_head, const uint16_t
 
 /* Those of the header. */
 static void (*const empty)(tomkhadi_job *) = tomkhadi_empty;
-static uint32_t (*const shape)(tomkhadi_job *, size_t, const uint16_t *, size_t) = tomkhadi_shape;
+static uint32_t (*const shape)(tomkhadi_job *, size_t, const uint16_t *, size_t, uint32_t) = tomkhadi_shape;
 static uint32_t (*const encode)(const tomkhadi_job *, uint16_t *, size_t) = tomkhadi_encode;
 static tomkhadi_answer (*const locate)(tomkhadi_job *, const uint64_t *, const uint16_t *, size_t) = tomkhadi_locate;
 static tomkhadi_answer (*const repair)(tomkhadi_job *, uint16_t *, size_t) = tomkhadi_repair;
@@ -38,8 +38,9 @@ static const uint16_t sums[512] = {57, 56, 236, 13, 56, 244};
 static const uint16_t taps[65] = {1, 14};
 
 static const tomkhadi_head zeros;
-static const tomkhadi_head shaped = {.phase = 1, .rows = ROWS, .columns = COLUMNS, .checks = {4, 2}};
-static const tomkhadi_head located = {.phase = 2, .alone = 1, .length = 1, .rows = ROWS, .columns = COLUMNS, .marks = {1 << 5}, .checks = {4, 2}};
+static const tomkhadi_head shaped = {.phase = 1, .rows = ROWS, .columns = COLUMNS, .checks = {4, 2}, .exponent = 1};
+static const tomkhadi_head located = {
+    .phase = 2, .alone = 1, .length = 1, .rows = ROWS, .columns = COLUMNS, .marks = {1 << 5}, .checks = {4, 2}, .exponent = 1};
 
 static int checked;
 static int failed;
@@ -54,8 +55,9 @@ static void check(int holds, int line) {
 #define CHECK(holds) check(holds, __LINE__)
 #define SAME(a, b) CHECK(memcmp(a, b, sizeof(b)) == 0)
 
+/* The exponent comes last, and nothing but padding after it. */
 static int is_head(tomkhadi_head head, tomkhadi_head other) {
-  return memcmp(&head, &other, sizeof head) == 0;
+  return memcmp(&head, &other, offsetof(tomkhadi_head, exponent)) == 0 && head.exponent == other.exponent;
 }
 
 /* The refusal, or one column, which is column 5. */
@@ -89,10 +91,12 @@ static void registers(void) {
 
 static void heads(void) {
   CHECK(is_head(head_empty(), zeros));
-  tomkhadi_head_shaped made = head_shape(zeros, COLUMNS, checks, ROWS);
+  tomkhadi_head_shaped made = head_shape(zeros, COLUMNS, checks, ROWS, 1);
   CHECK(made.refusal == 0 && is_head(made.head, shaped));
-  made = head_shape(shaped, 4, checks, ROWS);
+  made = head_shape(shaped, 4, checks, ROWS, 256);
   CHECK(made.refusal == 6 && is_head(made.head, shaped));
+  made = head_shape(shaped, COLUMNS, checks, ROWS, 256);
+  CHECK(made.refusal == 32 && is_head(made.head, shaped));
 
   uint16_t frame[SIZE];
   memcpy(frame, data, sizeof frame);
@@ -138,7 +142,7 @@ static void jobs(void) {
   memset(&job, 0xa5, sizeof job);
   empty(&job);
   CHECK(is_job(&job, zeros, 0));
-  CHECK(shape(&job, COLUMNS, checks, ROWS) == 0);
+  CHECK(shape(&job, COLUMNS, checks, ROWS, 1) == 0);
   CHECK(is_job(&job, shaped, 0));
 
   uint16_t frame[SIZE];
@@ -156,7 +160,8 @@ static void jobs(void) {
   SAME(frame, received);
   CHECK(is_job(&job, located, 1));
   CHECK(is_answer(locate(&job, past, frame, SIZE), 31));
-  CHECK(shape(&job, 4, checks, ROWS) == 6);
+  CHECK(shape(&job, 4, checks, ROWS, 1) == 6);
+  CHECK(shape(&job, COLUMNS, checks, ROWS, 65536) == 32);
   CHECK(is_job(&job, located, 1));
   frame[0]++;
   CHECK(is_answer(repair(&job, frame, SIZE), 23));
@@ -179,10 +184,47 @@ static void jobs(void) {
   CHECK(is_answer(locate(&job, other, frame, SIZE), 26));
 }
 
+/* The same data, damage and declared cell with the exponent 200: other checks and sums, and the same column and taps. */
+static void exponents(void) {
+  const uint16_t legal[SIZE] = {213, 203, 84, 226, 10, 20, 30, 40, 32, 8, 1, 2, 3, 4, 5, 6};
+  const uint16_t altered[SIZE] = {213, 65535, 84, 226, 10, 256, 30, 40, 32, 8, 1, 2, 3, 0, 5, 6};
+  const uint16_t altered_sums[512] = {171, 83, 101, 62, 120, 119};
+  tomkhadi_head at_200 = shaped;
+  at_200.exponent = 200;
+  tomkhadi_head_shaped made = head_shape(shaped, COLUMNS, checks, ROWS, 200);
+  CHECK(made.refusal == 0 && is_head(made.head, at_200));
+
+  tomkhadi_job job;
+  empty(&job);
+  CHECK(shape(&job, COLUMNS, checks, ROWS, 200) == 0);
+  CHECK(is_job(&job, at_200, 0));
+  uint16_t frame[SIZE];
+  memcpy(frame, data, sizeof frame);
+  CHECK(encode(&job, frame, SIZE) == 0);
+  SAME(frame, legal);
+
+  memcpy(frame, altered, sizeof frame);
+  CHECK(is_answer(locate(&job, declared, frame, SIZE), 0));
+  tomkhadi_head located_at_200 = located;
+  located_at_200.exponent = 200;
+  CHECK(is_head(job.head, located_at_200));
+  SAME(job.sums, altered_sums);
+  SAME(job.taps, taps);
+  CHECK(is_answer(repair(&job, frame, SIZE), 0));
+  SAME(frame, legal);
+  CHECK(is_head(job.head, at_200));
+
+  /* Shaped anew with another exponent, nothing is located any more. */
+  CHECK(is_answer(locate(&job, declared, altered, SIZE), 0));
+  CHECK(shape(&job, COLUMNS, checks, ROWS, 1) == 0);
+  CHECK(is_answer(repair(&job, frame, SIZE), 22));
+}
+
 int main(void) {
   registers();
   heads();
   jobs();
+  exponents();
   printf("tests/src/prototypes.c: %d checks, %d failed\n", checked, failed);
   return failed != 0;
 }

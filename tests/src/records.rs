@@ -33,11 +33,12 @@ fn register_line(judge: &mut Judge, body: &[u16]) -> Option<String> {
     Some(line)
 }
 
+/// Frames of records have check sums that begin at the exponent 1.
 fn frame_line(judge: &mut Judge, body: &[u16]) -> Option<String> {
     let (&[rows, columns], rest) = body.split_first_chunk()?;
     let (checks, frame) = rest.split_at_checked(usize::from(rows))?;
     let mut job = judge.empty();
-    let refusal = judge.shape(&mut job, usize::from(columns), checks);
+    let refusal = judge.shape(&mut job, usize::from(columns), checks, 1);
     if refusal != 0 {
         return Some(format!("E {refusal}"));
     }

@@ -1,5 +1,5 @@
 -- Columns that are lost, over the field of 257: check sums with columns taken out, and rows that can be completed at columns. The sums of a row are
--- S_1, S_2, .. from place 0 on, and a symbol x in column i adds x·3^(i·j) to S_j.
+-- S_1, S_2, .. from place 0 on. A symbol x in column i adds x·3^(i·(b + j − 1)) to S_j, so x·3^(i·(b + j)) to the sum at place j.
 use mathlib.Core.Path.{_≡_}
 use mathlib.Core.List.{List}
 use Prim.Native.Nat.{ℕ, zero, suc, _+_, _*_, _%_, _^_, _<_}
@@ -15,13 +15,14 @@ unfoldable pub without : (list : List ℕ) (n : ℕ) (s : ℕ → ℕ) (j : ℕ)
 without list zero s j = s j
 without list (suc n) s j = withoutColumn (getD list n 0) (without list n s) j
 
--- the equation of S_j: the constant is the sum itself, and the coefficient of unknown k + 1 the weight of column k of the list
-unfoldable pub sumEquation : (list : List ℕ) (s j k : ℕ) → ℕ
-sumEquation list s j zero = s
-sumEquation list s j (suc k) = 3 ^ (getD list k 0 * j) % 257
+-- the equation of a sum in which column i has the weight y^i: the constant is the sum itself, and the coefficient of unknown k + 1 the weight of column k of
+-- the list
+unfoldable pub sumEquation : (list : List ℕ) (s y k : ℕ) → ℕ
+sumEquation list s y zero = s
+sumEquation list s y (suc k) = y ^ getD list k 0 % 257
 
 -- there are symbols for the listed columns with which, added in these, every sum of the row is 0
-abbrev pub Completable : (list sums : List ℕ) → Type 0
-Completable list sums =
+abbrev pub Completable : (b : ℕ) (list sums : List ℕ) → Type 0
+Completable b list sums =
     (x : ℕ → ℕ) × ((k : ℕ) → x k < 257)
-    × Each 0 (length sums) (λ j. rem (getD sums j 0 + sum (length list) (λ k. x k * 3 ^ (getD list k 0 * suc j))) 257 ≡ 0)
+    × Each 0 (length sums) (λ j. rem (getD sums j 0 + sum (length list) (λ k. x k * 3 ^ (getD list k 0 * (b + j)))) 257 ≡ 0)

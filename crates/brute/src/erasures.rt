@@ -41,31 +41,33 @@ pub fn take_out_all(sums: &mut [u16], n: usize, list: &[u16])
     }
 }
 
-// The equation of check sum j: it and the symbols of the listed columns, times their weights, add up to 0.
-fn pose_sum(table: &mut [u16], list: &[u16], sum: u16, j: usize)
-    ensures { λ r. ⌜ Wrote (now (table .entry)) (now (table .exit)) 0 (length (now (list .entry)) + 1) (sumEquation (now (list .entry)) sum j) ⌝ }
+// The equation of a check sum in which column i has the weight step^i: it and the symbols of the listed columns, times their weights, add up to 0.
+fn pose_sum(table: &mut [u16], list: &[u16], sum: u16, step: u16)
+    ensures { λ r. ⌜ Wrote (now (table .entry)) (now (table .exit)) 0 (length (now (list .entry)) + 1) (sumEquation (now (list .entry)) sum step) ⌝ }
 {
     put(table, 0, sum);
     for k in 0..list.len() {
-        put(table, k + 1, power(power(3, get(list, k) as usize), j));
+        put(table, k + 1, power(step, get(list, k) as usize));
     }
 }
 
-// Some symbols, added in the listed columns, make all check sums 0. Room is for 128 columns.
-pub fn completable(list: &[u16], sums: &[u16]) -> bool
+// Some symbols, added in the listed columns, make all check sums 0, which begin at this exponent. Room is for 128 columns.
+pub fn completable(exponent: u32, list: &[u16], sums: &[u16]) -> bool
     ensures { λ r. ⌜
-        (length (now (list .entry)) ≤ 128 → Residues 257 (now (sums .entry)) → Tells r (Completable (now (list .entry)) (now (sums .entry))))
+        (length (now (list .entry)) ≤ 128 → Residues 257 (now (sums .entry)) → Tells r (Completable exponent (now (list .entry)) (now (sums .entry))))
         ⌝ }
 {
     let mut room = table();
     let equations: &mut [u16] = &mut room;
     let n = std::num::wrapping_add_usize(list.len(), 1);
     clear(equations, n);
+    let mut step = power(3, exponent as usize);
     for j in 0..sums.len() {
-        pose_sum(equations, list, get(sums, j), j + 1);
+        pose_sum(equations, list, get(sums, j), step);
         if contradicts(add(257, equations, n)) {
             return false;
         }
+        step = times(257, step, 3);
     }
     true
 }

@@ -35,13 +35,13 @@ record Gives (m : CJob) (j : Job) (c : Call) (r : CReturn) : Type 0 where
 
 gives : (m : CJob) (c : Call) (r : CReturn) → CStep m c r → Gives m (jobOf m) c r
 unfolding struct
-gives m (shape n checks) r (s, p, e) =
-    let q : CShapes (m .arrays) (step (jobOf m) (shape n checks)) s = p (m .arrays) in
-    subst⁻¹ (Gives m (jobOf m) (shape n checks)) e
+gives m (shape n checks b) r (s, p, e) =
+    let q : CShapes (m .arrays) (step (jobOf m) (shape n checks b)) s = p (m .arrays) in
+    subst⁻¹ (Gives m (jobOf m) (shape n checks b)) e
     (record {
       reply = ap (λ (x : CShaped). number (x .refusal)) (q .answers);
       job = inl (ap₂ struct (ap (λ (x : CShaped). x .head) (q .answers)) (sym (q .arrays)));
-      frame = by-call (jobOf m) (shape n checks) (λ o. [] ≡ o .frame) (λ k a. refl) (λ k l a. refl) (λ k l. refl);
+      frame = by-call (jobOf m) (shape n checks b) (λ o. [] ≡ o .frame) (λ k a. refl) (λ k l a. refl) (λ k l. refl);
     })
 gives m (encode f) r (k, left, p, e) =
     let q : CEncodes (jobOf m) (step (jobOf m) (encode f)) k left = p (m .arrays) in
@@ -119,12 +119,12 @@ module _ {A : Type 0} (seen : Outcome → A) where
       (seen (firstOf (refusing (reshaped j) (describe j c .lent)) ts (describe j c .gives)))) e
 
 module _ (m : CJob) where
-  can-shape : (n : ℕ) (checks : List ℕ) → HeadShapes (m .head) n checks (shapedOf (step (jobOf m) (shape n checks)))
-  can-shape n checks a =
+  can-shape : (n : ℕ) (checks : List ℕ) (b : ℕ) → HeadShapes (m .head) n checks b (shapedOf (step (jobOf m) (shape n checks b)))
+  can-shape n checks b a =
       let j : Job = beside (headOf (m .head)) a in
       record {
-        answers = seen-of shapedOf (jobOf m) (shape n checks) refl ∙ sym (seen-of shapedOf j (shape n checks) refl);
-        arrays = by-call j (shape n checks) (λ o. o .job .arrays ≡ a) (λ k b. refl) (λ k p b. absurd b) (λ p q. refl);
+        answers = seen-of shapedOf (jobOf m) (shape n checks b) refl ∙ sym (seen-of shapedOf j (shape n checks b) refl);
+        arrays = by-call j (shape n checks b) (λ o. o .job .arrays ≡ a) (λ k m. refl) (λ k p m. absurd m) (λ p q. refl);
       }
 
   can-encode : (f : List ℕ) → HeadEncodes (m .head) f (refusalOf (step (jobOf m) (encode f) .answer)) (step (jobOf m) (encode f) .frame)
@@ -132,7 +132,7 @@ module _ (m : CJob) where
       let j : Job = beside (headOf (m .head)) a in
       record {
         answers = seen-of (λ o. refusalOf (o .answer)) (jobOf m) (encode f) refl ∙ sym (seen-of (λ o. refusalOf (o .answer)) j (encode f) refl);
-        job = by-call j (encode f) (λ o. o .job ≡ j) (λ k b. refl) (λ k p b. absurd b) (λ p q. refl);
+        job = by-call j (encode f) (λ o. o .job ≡ j) (λ k m. refl) (λ k p m. absurd m) (λ p q. refl);
         leaves = seen-of (λ o. o .frame) (jobOf m) (encode f) refl ∙ sym (seen-of (λ o. o .frame) j (encode f) refl);
       }
 
@@ -142,12 +142,12 @@ module _ (m : CJob) where
       let j : Job = beside (headOf (m .head)) (withRead a (m .arrays .sums) (m .arrays .declared)) in
       record {
         answers = seen-of answeredOf (jobOf m) (repair f) refl ∙ sym (seen-of answeredOf j (repair f) refl);
-        arrays = by-call j (repair f) (λ o. o .job .arrays ≡ j .arrays) (λ k b. refl) (λ k p b. absurd b) (λ p q. refl);
+        arrays = by-call j (repair f) (λ o. o .job .arrays ≡ j .arrays) (λ k m. refl) (λ k p m. absurd m) (λ p q. refl);
         leaves = seen-of (λ o. o .frame) (jobOf m) (repair f) refl ∙ sym (seen-of (λ o. o .frame) j (repair f) refl);
       }
 
   total : (c : Call) → (r : CReturn) × CStep m c r
-  total (shape n checks) = (_, (_, can-shape n checks, refl))
+  total (shape n checks b) = (_, (_, can-shape n checks b, refl))
   total (encode f) = (_, (_, _, can-encode f, refl))
   total (locate words f) =
       let o : Outcome = step (jobOf m) (locate words f) in

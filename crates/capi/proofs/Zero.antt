@@ -35,14 +35,14 @@ nonzero k e = omega arith
 
 keeping-numbered : (j : Job) (c : Call) → Numbered (describe j c .keeping)
 unfolding shapeTests encodeTests readTests rereadTests
-keeping-numbered j (shape n checks) = (nonzero _, (nonzero _, (nonzero _, tt)))
+keeping-numbered j (shape n checks b) = (nonzero _, (nonzero _, (nonzero _, (nonzero _, tt))))
 keeping-numbered j (encode f) = (nonzero _, (nonzero _, (nonzero _, tt)))
 keeping-numbered j (locate words f) = (nonzero _, (nonzero _, (nonzero _, (nonzero _, tt))))
 keeping-numbered j (repair f) = (nonzero _, (nonzero _, (nonzero _, (nonzero _, (nonzero _, tt)))))
 
 shaping-numbered : (j : Job) (c : Call) → Numbered (describe j c .shaping)
 unfolding registerTests
-shaping-numbered j (shape n checks) = tt
+shaping-numbered j (shape n checks b) = tt
 shaping-numbered j (encode f) = tt
 shaping-numbered j (locate words f) = (nonzero _, (nonzero _, (nonzero _, tt)))
 shaping-numbered j (repair f) = tt

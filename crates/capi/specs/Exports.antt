@@ -42,8 +42,8 @@ pub record CRepairs (a : Arrays) (o : Outcome) (r : CAnswered) (left : List ℕ)
   pub leaves : left ≡ o .frame
 
 -- What each function promises of the head that it is given, of what it is lent and of what it returns and leaves, whatever the arrays are that it is not lent
-abbrev pub HeadShapes : (head : CHead) (n : ℕ) (checks : List ℕ) (r : CShaped) → Type 0
-HeadShapes m n checks r = (a : Arrays) → CShapes a (step (beside (headOf m) a) (shape n checks)) r
+abbrev pub HeadShapes : (head : CHead) (n : ℕ) (checks : List ℕ) (b : ℕ) (r : CShaped) → Type 0
+HeadShapes m n checks b r = (a : Arrays) → CShapes a (step (beside (headOf m) a) (shape n checks b)) r
 
 abbrev pub HeadEncodes : (head : CHead) (frame : List ℕ) (r : ℕ) (left : List ℕ) → Type 0
 HeadEncodes m f r left = (a : Arrays) → CEncodes (beside (headOf m) a) (step (beside (headOf m) a) (encode f)) r left

@@ -29,7 +29,7 @@ abbrev pub headOf : CHead → Head
 headOf m =
     record {
       phase = phaseOf (m .phase) (m .length) (m .alone);
-      shape = record { rows = m .rows; columns = m .columns; checks = m .checks };
+      shape = record { rows = m .rows; columns = m .columns; checks = m .checks; exponent = m .exponent };
       columns = record { words = m .marks };
     }
 
@@ -65,6 +65,7 @@ mirrorOf j =
       columns = j .shape .columns;
       marks = j .columns .words;
       checks = j .shape .checks;
+      exponent = j .shape .exponent;
     }
 
 -- A head that goes through the C interface and comes back is the same head, whatever it holds. Proved, as the two mirrors below, in proofs/RoundTrip.antt.
@@ -83,12 +84,13 @@ EmptyMirror =
       columns = 0;
       marks = 0 ∷ 0 ∷ 0 ∷ 0 ∷ [];
       checks = 0 ∷ 0 ∷ 0 ∷ 0 ∷ 0 ∷ 0 ∷ 0 ∷ 0 ∷ [];
+      exponent = 0;
     }
 
--- a head of two rows and 256 columns, located at the columns 0, 65 and 255
+-- a head of two rows and 256 columns whose check sums begin at the exponent 7, located at the columns 0, 65 and 255
 abbrev pub LocatedMirror : Type 0
 LocatedMirror =
-    mirrorOf (locatedHead (shapeOf 256 (4 ∷ 64 ∷ [])) 3 (columnsOf (λ i. eqb i 0 || (eqb i 65 || eqb i 255)))) ≡
+    mirrorOf (locatedHead (shapeOf 256 (4 ∷ 64 ∷ []) 7) 3 (columnsOf (λ i. eqb i 0 || (eqb i 65 || eqb i 255)))) ≡
     record {
       phase = 2;
       alone = 1;
@@ -97,6 +99,7 @@ LocatedMirror =
       columns = 256;
       marks = 1 ∷ 2 ∷ 0 ∷ 9223372036854775808 ∷ [];
       checks = 4 ∷ 64 ∷ 0 ∷ 0 ∷ 0 ∷ 0 ∷ 0 ∷ 0 ∷ [];
+      exponent = 7;
     }
 
 -- the number of a refusal, and 0 where nothing is refused

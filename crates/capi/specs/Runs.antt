@@ -33,8 +33,8 @@ pub record CReturn : Type 0 where
 -- The inline functions: the exported function is called on the parts of the job, and gives anything that it promises; the head that it returns is stored, and
 -- the answer returned. What is const is as it was, and so are arrays that are not lent.
 abbrev pub CStep : CJob → Call → CReturn → Type 0
-CStep m (shape n checks) r =
-    (s : CShaped) × HeadShapes (m .head) n checks s ×
+CStep m (shape n checks b) r =
+    (s : CShaped) × HeadShapes (m .head) n checks b s ×
     (r ≡ record { reply = number (s .refusal); job = record { head = s .head; arrays = m .arrays }; frame = [] })
 CStep m (encode f) r =
     (k : ℕ) × (left : List ℕ) × HeadEncodes (m .head) f k left × (r ≡ record { reply = number k; job = m; frame = left })
@@ -66,7 +66,7 @@ abbrev pub mirrorJob : Job → CJob
 mirrorJob j = record { head = mirrorOf (j .head); arrays = j .arrays }
 
 abbrev pub replyOf : Call → Outcome → CReply
-replyOf (shape n checks) o = number (refusalOf (o .answer))
+replyOf (shape n checks b) o = number (refusalOf (o .answer))
 replyOf (encode f) o = number (refusalOf (o .answer))
 replyOf (locate words f) o = answer (answeredOf o .answer)
 replyOf (repair f) o = answer (answeredOf o .answer)

@@ -72,10 +72,15 @@ pub extern "C" fn tomkhadi_head_empty() -> CHead
 }
 
 #[no_mangle]
-pub extern "C" fn tomkhadi_head_shape(head: CHead, columns: usize, checks: &[u16]) -> CShaped
-    ensures { λ r. ⌜ HeadShapes head columns (now (checks .entry)) r ⌝ }
+pub extern "C" fn tomkhadi_head_shape(
+    head: CHead,
+    columns: usize,
+    checks: &[u16],
+    exponent: u32,
+) -> CShaped
+    ensures { λ r. ⌜ HeadShapes head columns (now (checks .entry)) exponent r ⌝ }
 {
-    let made = shape(head_of(head), columns, checks);
+    let made = shape(head_of(head), columns, checks, exponent);
     let checked = made.checked;
     let next = mirror_of(made.head);
     CShaped {

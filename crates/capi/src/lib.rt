@@ -20,6 +20,7 @@ pub struct CHead {
     pub columns: usize,
     pub marks: [u64; 4],
     pub checks: [u16; 8],
+    pub exponent: u32,
 }
 
 #[repr(C)]

@@ -32,6 +32,7 @@ pub fn head_of(m: CHead) -> Head
         rows: m.rows,
         columns: m.columns,
         checks,
+        exponent: m.exponent,
     };
     let columns = Columns { words };
     Head {
@@ -100,5 +101,6 @@ pub fn mirror_of(j: Head) -> CHead
         columns: shape.columns,
         marks,
         checks,
+        exponent: shape.exponent,
     }
 }

@@ -15,8 +15,9 @@ use Rattle.frame.proofs.HeldSums.{held-below, held-length, held-row}
 use Rattle.frame.proofs.Shapes.{shape-ranges}
 use Rattle.completion.specs.Mendable.{MendableFrame, RowsLent}
 
--- the rows are lent with their check sums, and the set has at most 64 columns
+-- the exponent is in range, the rows are lent with their check sums, and the set has at most 64 columns
 pub record MendableRows (s : Shape) (set : Columns) (sums f : List ℕ) : Type 0 where
+  pub exponent : s .exponent ≤ 255
   pub lent : RowsLent s sums f
   pub held : (h : ℕ) → h < s .rows → partOf s sums h ≡ rowSums s f h
   pub few : length (members set) ≤ 64
@@ -25,6 +26,7 @@ pub held-mendable : (s : Shape) (set : Columns) (sums f : List ℕ) → Mendable
 held-mendable s set sums f a =
     let r = shape-ranges s (a .shape) in
     record {
+      exponent = r .exponent-most;
       lent = record {
         rows-most = r .rows-most;
         narrow = r .columns-most;

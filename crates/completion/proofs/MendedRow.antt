@@ -28,39 +28,39 @@ use Rattle.weights.proofs.ColumnWeights.{coefficientsOf}
 use Rattle.weights.proofs.ReadForm.{symbol-form}
 use Rattle.completion.proofs.RowMending.{mendedRow}
 
-pub sums-below : (n N : ℕ) (sums x : List ℕ) → sums ≡ checkSums n N x → (k : ℕ) → getD sums k 0 < 257
+pub sums-below : (b n N : ℕ) (sums x : List ℕ) → sums ≡ checkSums b n N x → (k : ℕ) → getD sums k 0 < 257
 unfolding checkSums
-sums-below n N sums x e k = rw e (tabulate-each (λ v. v < 257) 0 (lit< tt) N _ (λ j. checkSum-below n x (suc j)) k)
+sums-below b n N sums x e k = rw e (tabulate-each (λ v. v < 257) 0 (lit< tt) N _ (λ j. checkSum-below b n x (suc j)) k)
 
 -- a row x of n columns with its first N check sums, at least as many as the set has columns
-module _ (J : Columns) (n N : ℕ) (sums x : List ℕ) (narrow : n ≤ 256) (whole : length x ≡ n) (small : (k : ℕ) → k < n → getD x k 0 < 257)
-    (held : sums ≡ checkSums n N x) (below : Below n J) (reach : length (members J) ≤ N) where
+module _ (b : ℕ) (J : Columns) (n N : ℕ) (sums x : List ℕ) (narrow : n ≤ 256) (whole : length x ≡ n) (small : (k : ℕ) → k < n → getD x k 0 < 257)
+    (held : sums ≡ checkSums b n N x) (below : Below n J) (reach : length (members J) ≤ N) where
   abbrev m : ℕ
   m = length (members J)
 
   -- what is added in column i
   abbrev symbol : ℕ → ℕ
-  symbol i = symbolFor J (checkSum n x) m i
+  symbol i = symbolFor b J (checkSum b n x) m i
 
-  sum-held : (j : ℕ) → j < N → getD sums j 0 ≡ checkSum n x (suc j)
+  sum-held : (j : ℕ) → j < N → getD sums j 0 ≡ checkSum b n x (suc j)
   unfolding checkSums
   sum-held j l = ap (λ (z : List ℕ). getD z j 0) held ∙ getD-tabulate N _ j 0 l
 
-  read : (i : ℕ) → symbolRead (coefficientsOf J i) sums ≡ symbol i
+  read : (i : ℕ) → symbolRead (coefficientsOf b J i) sums ≡ symbol i
   unfolding symbolRead
   read i =
-      ap (λ (k : ℕ). total k (λ t. getD (coefficientsOf J i) t 0 * getD sums (k - suc t) 0) % 257) (length-tabulate m (coefficient J i))
+      ap (λ (k : ℕ). total k (λ t. getD (coefficientsOf b J i) t 0 * getD sums (k - suc t) 0) % 257) (length-tabulate m (coefficient b J i))
       ∙ ap (λ (t : ℕ). t % 257) (total-ext m _ _ (λ t l.
-      ap₂ _*_ (getD-tabulate m (coefficient J i) t 0 l)
-      (sum-held (m - suc t) (omega arith) ∙ ap (checkSum n x) (let q : suc (m - suc t) ≡ m - t = omega arith in q))))
-      ∙ symbol-form J (checkSum n x) i
+      ap₂ _*_ (getD-tabulate m (coefficient b J i) t 0 l)
+      (sum-held (m - suc t) (omega arith) ∙ ap (checkSum b n x) (let q : suc (m - suc t) ≡ m - t = omega arith in q))))
+      ∙ symbol-form b J (checkSum b n x) i
 
   abbrev y : List ℕ
-  y = mendedRow J n sums x
+  y = mendedRow b J n sums x
 
   -- cell i, mended or not
   abbrev chosen : ℕ → Bool → ℕ
-  chosen i b = cond b ((getD x i 0 + symbol i) % 257) (getD x i 0)
+  chosen i t = cond t ((getD x i 0 + symbol i) % 257) (getD x i 0)
 
   cell-mended : (i : ℕ) → i < n → getD y i 0 ≡ chosen i (has J i)
   cell-mended i l = getD-tabulate n _ i 0 l ∙ ap (λ (v : ℕ). cond (has J i) ((getD x i 0 + v) % 257) (getD x i 0)) (read i)
@@ -75,7 +75,7 @@ module _ (J : Columns) (n N : ℕ) (sums x : List ℕ) (narrow : n ≤ 256) (who
       pick (inl t) = rw (cell-mended i l ∙ ap (chosen i) t) (mod-lt _ (lit< tt))
       pick (inr t) = rw (mended-kept i l t) (small i l)
 
-  pub mended-completed : mendedRow J n sums x ≡ completed n J x
-  mended-completed = completed-only n J x narrow below y (length-tabulate n _) mended-below mended-kept
-      (sums-gone n J narrow below x y whole (length-tabulate n _) mended-kept
+  pub mended-completed : mendedRow b J n sums x ≡ completed b n J x
+  mended-completed = completed-only b n J x narrow below y (length-tabulate n _) mended-below mended-kept
+      (sums-gone b n J narrow below x y whole (length-tabulate n _) mended-kept
       (λ i l t. ap (λ (c : ℕ). c % 257) (cell-mended i l ∙ ap (chosen i) t) ∙ mod-mod _ 257))

@@ -38,10 +38,10 @@ cell-written coefficients sums i x symbol cell l read e =
 
 -- ---- the cells of a set
 
-module _ (J : Columns) (n : ℕ) (sums x : List ℕ) where
+module _ (b : ℕ) (J : Columns) (n : ℕ) (sums x : List ℕ) where
   -- cell k, mended or not
   abbrev chosen : ℕ → Bool → ℕ
-  chosen k b = cond b ((getD x k 0 + symbolRead (coefficientsOf J k) sums) % 257) (getD x k 0)
+  chosen k t = cond t ((getD x k 0 + symbolRead (coefficientsOf b J k) sums) % 257) (getD x k 0)
 
   -- the row mended in the columns of the set before i
   abbrev pub mendedBefore : ℕ → List ℕ
@@ -54,7 +54,7 @@ module _ (J : Columns) (n : ℕ) (sums x : List ℕ) where
   pub mended-none : (i : ℕ) → i ≡ nextAt J 0 → length x ≡ n → x ≡ mendedBefore i
   mended-none i e whole = by-entries n (λ k. chosen k (passed J i k)) x whole (λ k _. ap (chosen k) (sym (passed-none J i e k)))
 
-  pub mended-more : (d i : ℕ) → Walk J d i → (j : ℕ) (coefficients y : List ℕ) → i < 256 → j ≡ nextAt J (i + 1) → coefficients ≡ coefficientsOf J i
+  pub mended-more : (d i : ℕ) → Walk J d i → (j : ℕ) (coefficients y : List ℕ) → i < 256 → j ≡ nextAt J (i + 1) → coefficients ≡ coefficientsOf b J i
       → y ≡ mendedBefore i → mendedCell n coefficients sums i y ≡ mendedBefore j
   unfolding mendedCell
   mended-more d i w j coefficients y inside next c e = tabulate-ext n (λ k. new k (eqb k i)) (λ k. chosen k (passed J j k)) (λ k l. at k l (ℕ-discrete k i))
@@ -63,13 +63,13 @@ module _ (J : Columns) (n : ℕ) (sums x : List ℕ) where
       entry k l = ap (λ (z : List ℕ). getD z k 0) e ∙ getD-tabulate n (λ k. chosen k (passed J i k)) k 0 l
 
       new : (k : ℕ) → Bool → ℕ
-      new k b = cond b ((getD y k 0 + symbolRead coefficients sums) % 257) (getD y k 0)
+      new k t = cond t ((getD y k 0 + symbolRead coefficients sums) % 257) (getD y k 0)
 
       at : (k : ℕ) → k < n → Dec (k ≡ i) → new k (eqb k i) ≡ chosen k (passed J j k)
       at k l (yes q) =
           ap (new k) (eq-eqb k i q)
           ∙ ap₂ (λ (v : ℕ) (z : List ℕ). (v + symbolRead z sums) % 257)
-          (entry k l ∙ ap (chosen k) (ap (passed J i) q ∙ not-yet J d i w j inside next)) (c ∙ ap (coefficientsOf J) (sym q))
+          (entry k l ∙ ap (chosen k) (ap (passed J i) q ∙ not-yet J d i w j inside next)) (c ∙ ap (coefficientsOf b J) (sym q))
           ∙ ap (chosen k) (sym (ap (passed J j) q ∙ passed-here J d i w j inside next))
       at k l (no q) = ap (new k) (ne-eqb k i q) ∙ entry k l ∙ ap (chosen k) (passed-other J d i w j inside next k q)
 

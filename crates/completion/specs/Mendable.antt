@@ -17,12 +17,13 @@ pub record MendableCell (row : List ℕ) (i : ℕ) (coefficients sums : List ℕ
   pub reach : length coefficients ≤ length sums
   pub sums-small : (k : ℕ) → getD sums k 0 < 257
 
--- a row is completed at a set, which has no more columns than the row has check sums
-pub record MendableRow (set : Columns) (sums row : List ℕ) : Type 0 where
+-- a row, whose check sums begin at the exponent b, is completed at a set, which has no more columns than the row has check sums
+pub record MendableRow (b : ℕ) (set : Columns) (sums row : List ℕ) : Type 0 where
+  pub exponent : b ≤ 255
   pub narrow : length row ≤ 256
   pub small : (k : ℕ) → k < length row → getD row k 0 < 257
   pub few : length sums ≤ 64
-  pub held : sums ≡ checkSums (length row) (length sums) row
+  pub held : sums ≡ checkSums b (length row) (length sums) row
   pub below : (i : ℕ) → has set i ≡ true → i < length row
   pub reach : length (members set) ≤ length sums
 

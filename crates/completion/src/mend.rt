@@ -37,7 +37,7 @@ fn mend_column(s: Shape, frame: &mut [u16], i: usize, coefficients: &[u16], sums
 // of one column alone are kept.
 pub fn mend(s: Shape, set: Columns, sums: &[u16], frame: &mut [u16])
     requires { ⌜ MendableFrame s set (now sums) (now frame) ⌝ }
-    ensures { λ r. ⌜ now (frame .exit) ≡ eachRow (s .columns) (λ h. completed (s .columns) set) (s .rows) (now (frame .entry)) ⌝ }
+    ensures { λ r. ⌜ now (frame .exit) ≡ eachRow (s .columns) (λ h. completed (s .exponent) (s .columns) set) (s .rows) (now (frame .entry)) ⌝ }
 {
     let powers = powers();
     let m = size(set);
@@ -45,7 +45,7 @@ pub fn mend(s: Shape, set: Columns, sums: &[u16], frame: &mut [u16])
     let mut coefficients = [0u16; 64];
     let mut i = next(set, 0);
     while i < 256 {
-        weigh(&powers, &f, i, &mut coefficients[0..m]);
+        weigh(&powers, s.exponent, &f, i, &mut coefficients[0..m]);
         mend_column(s, frame, i, &coefficients[0..m], sums);
         i = next(set, i + 1);
     }

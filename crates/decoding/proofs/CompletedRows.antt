@@ -35,6 +35,9 @@ infixl 60 _⊕_
 infixl 70 _⊗_
 module _ (s : Shape) (shape : isShape s ≡ true) (f e : List ℕ) (h : ℕ) (below : h < s .rows) (J : Columns)
     (kept : (i : ℕ) → i < s .columns → has J i ≡ false → cell (s .columns) e h i ≡ cell (s .columns) f h i) where
+  abbrev b : ℕ
+  b = s .exponent
+
   abbrev n : ℕ
   n = s .columns
 
@@ -42,49 +45,49 @@ module _ (s : Shape) (shape : isShape s ≡ true) (f e : List ℕ) (h : ℕ) (be
   narrow = shape-ranges s shape .columns-most
 
   errors : ℕ → car
-  errors = powerSum R257 n locatorAt (error n f e h)
+  errors = powerSum R257 n locatorAt (error b n f e h)
 
   errors-generated : (j : ℕ) → size J < j → conv R257 (setLocator J) errors j ≡ 𝟘
   unfolding errors
   errors-generated j after =
-      roots-generate F257 n locatorAt (columns-distinct s shape) (columns-nonzero s shape) (has J) (error n f e h)
-      (λ i inside out. same-cell-error n f e h i (sym (kept i inside out))) (size J) (setLocator J) (set-locator-degree J)
+      roots-generate F257 n locatorAt (columns-distinct s shape) (columns-nonzero s shape) (has J) (error b n f e h)
+      (λ i inside out. same-cell-error b n f e h i (sym (kept i inside out))) (size J) (setLocator J) (set-locator-degree J)
       (λ i inside mem. let few = narrow in set-locator-root J i (omega arith) mem) j after
 
   -- the products of the locator polynomial with the sums of both are the same
-  same-products : (j : ℕ) → size J < j → conv R257 (setLocator J) (sums n e h) j ≡ conv R257 (setLocator J) (sums n f h) j
+  same-products : (j : ℕ) → size J < j → conv R257 (setLocator J) (sums b n e h) j ≡ conv R257 (setLocator J) (sums b n f h) j
   unfolding errors
   same-products j after =
-      sym (add-zero _) ∙ ap (λ x. conv R257 (setLocator J) (sums n e h) j ⊕ x) (sym (errors-generated j after))
-      ∙ sym (conv-add-right R257 (setLocator J) (sums n e h) errors j)
-      ∙ conv-ext R257 (setLocator J) (setLocator J) (λ k. sums n e h k ⊕ errors k) (sums n f h) j (λ _ _. refl) (λ k _.
-      solve R257 (sums n f h k ∷ sums n e h k ∷ errors k ∷ []) (λ a b d. :neg :1 :× a :- b :≡ d :⇒ b :+ d := a) tt (error-sums n f e h k))
+      sym (add-zero _) ∙ ap (λ x. conv R257 (setLocator J) (sums b n e h) j ⊕ x) (sym (errors-generated j after))
+      ∙ sym (conv-add-right R257 (setLocator J) (sums b n e h) errors j)
+      ∙ conv-ext R257 (setLocator J) (setLocator J) (λ k. sums b n e h k ⊕ errors k) (sums b n f h) j (λ _ _. refl) (λ k _.
+      solve R257 (sums b n f h k ∷ sums b n e h k ∷ errors k ∷ []) (λ a c d. :neg :1 :× a :- c :≡ d :⇒ c :+ d := a) tt (error-sums b n f e h k))
 
   seq-length : length (getD (sequences s f) h []) ≡ checksOf s h
   seq-length = sequence-length s f h below
 
-  pub row-codeword : ((j : ℕ) → j < size J → checkSum (s .columns) (row (s .columns) e h) (suc j) ≡ 0)
+  pub row-codeword : ((j : ℕ) → j < size J → checkSum (s .exponent) (s .columns) (row (s .columns) e h) (suc j) ≡ 0)
       → ((j : ℕ) → j < length (remaining J (getD (sequences s f) h [])) → getD (remaining J (getD (sequences s f) h [])) j 0 ≡ 0)
-      → (j : ℕ) → 1 ≤ j → j ≤ checksOf s h → sums (s .columns) e h j ≡ 𝟘
+      → (j : ℕ) → 1 ≤ j → j ≤ checksOf s h → sums (s .exponent) (s .columns) e h j ≡ 𝟘
   row-codeword zeros nothing =
-      zeros-go-on R257 (size J) (checksOf s h) (setLocator J) (sums n e h) (set-locator-degree J) (set-locator-constant J) start (λ j after within.
+      zeros-go-on R257 (size J) (checksOf s h) (setLocator J) (sums b n e h) (set-locator-degree J) (set-locator-constant J) start (λ j after within.
       same-products j after
-      ∙ sym (product-same (size J) (setLocator J) (entries (getD (sequences s f) h [])) (sums n f h) (set-locator-degree J) j after
+      ∙ sym (product-same (size J) (setLocator J) (entries (getD (sequences s f) h [])) (sums b n f h) (set-locator-degree J) j after
       (λ k one low. sequence-sums s f h below k one (let q = seq-length in omega arith)))
       ∙ none-left J (getD (sequences s f) h []) nothing j after (let q = seq-length in omega arith))
     where
-      start : (j : ℕ) → 1 ≤ j → j ≤ size J → sums n e h j ≡ 𝟘
+      start : (j : ℕ) → 1 ≤ j → j ≤ size J → sums b n e h j ≡ 𝟘
       start zero one few = absurd (let z : ⊥ = omega arith in z)
-      start (suc j) one few = sym (res-sums n e h (suc j) one) ∙ ap res257 (zeros j few) ∙ res-zero 257 prime-257
+      start (suc j) one few = sym (res-sums b n e h (suc j) one) ∙ ap res257 (zeros j few) ∙ res-zero 257 prime-257
 
-  pub codeword-row : ((j : ℕ) → 1 ≤ j → j ≤ checksOf s h → sums (s .columns) e h j ≡ 𝟘)
+  pub codeword-row : ((j : ℕ) → 1 ≤ j → j ≤ checksOf s h → sums (s .exponent) (s .columns) e h j ≡ 𝟘)
       → (j : ℕ) → j < length (remaining J (getD (sequences s f) h [])) → getD (remaining J (getD (sequences s f) h [])) j 0 ≡ 0
   codeword-row zero-sums =
       left-none J (getD (sequences s f) h []) (λ j after within.
       let inside : j ≤ checksOf s h = (let q = seq-length in omega arith) in
-      product-same (size J) (setLocator J) (entries (getD (sequences s f) h [])) (sums n f h) (set-locator-degree J) j after
+      product-same (size J) (setLocator J) (entries (getD (sequences s f) h [])) (sums b n f h) (set-locator-degree J) j after
       (λ k one low. sequence-sums s f h below k one (let q = seq-length in omega arith))
       ∙ sym (same-products j after)
-      ∙ conv-degree R257 (size J) (setLocator J) (sums n e h) j (set-locator-degree J) (omega arith)
+      ∙ conv-degree R257 (size J) (setLocator J) (sums b n e h) j (set-locator-degree J) (omega arith)
       ∙ sum-zeros R257 (suc (size J)) _ (λ i few.
       ap (λ x. setLocator J i ⊗ x) (zero-sums (j - i) (omega arith) (omega arith)) ∙ mul-zero R257 (setLocator J i)))

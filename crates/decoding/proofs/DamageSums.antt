@@ -14,10 +14,13 @@ open CRing R257 using (add as _⊕_, neg, add-zero)
 
 infixl 60 _⊕_
 module _ (s : Shape) (g f : List ℕ) (code : Codeword s g) where
+  abbrev b : ℕ
+  b = s .exponent
+
   abbrev n : ℕ
   n = s .columns
 
-  pub damage-sums : (h j : ℕ) → h < s .rows → 1 ≤ j → j ≤ checksOf s h → sums n f h j ≡ powerSum R257 n locatorAt (error n f g h) j
+  pub damage-sums : (h j : ℕ) → h < s .rows → 1 ≤ j → j ≤ checksOf s h → sums b n f h j ≡ powerSum R257 n locatorAt (error b n f g h) j
   damage-sums h j below one within =
-      sym (add-zero _) ∙ ap (λ x. sums n f h j ⊕ x) (sym (ap neg (codeword-sums s g code h j below one within) ∙ neg-zero R257))
-      ∙ error-sums n f g h j
+      sym (add-zero _) ∙ ap (λ x. sums b n f h j ⊕ x) (sym (ap neg (codeword-sums s g code h j below one within) ∙ neg-zero R257))
+      ∙ error-sums b n f g h j

@@ -31,6 +31,9 @@ open CRing R257 using (car, zero as 𝟘, mul as _⊗_)
 
 infixl 70 _⊗_
 module _ (s : Shape) (D : Declared) (f : List ℕ) where
+  abbrev b : ℕ
+  b = s .exponent
+
   abbrev n : ℕ
   n = s .columns
 
@@ -55,9 +58,10 @@ module _ (s : Shape) (D : Declared) (f : List ℕ) where
 
   -- the difference from g in row h at column i, with its weight in the sequence that is left
   pub part : (g : List ℕ) (h i : ℕ) → car
-  part g h i = error n F g h i ⊗ leftWeight (D h) i
+  part g h i = error b n F g h i ⊗ leftWeight (D h) i
 
-  pub part-nonzero : (g : List ℕ) (h i : ℕ) → i < 256 → has (D h) i ≡ false → (error (s .columns) (asRead s D f) g h i ≡ 𝟘 → ⊥) → part g h i ≡ 𝟘 → ⊥
+  pub part-nonzero : (g : List ℕ) (h i : ℕ) → i < 256 → has (D h) i ≡ false
+      → (error (s .exponent) (s .columns) (asRead s D f) g h i ≡ 𝟘 → ⊥) → part g h i ≡ 𝟘 → ⊥
   unfolding part
   part-nonzero g h i few out apart = mul-nonzero F257 _ _ apart (leftWeight-nonzero (D h) i few out)
 
@@ -78,7 +82,7 @@ module _ (s : Shape) (D : Declared) (f : List ℕ) where
               let long = sequence-length s F h below in
               λ j one within.
               ap (λ x. res257 (symbol x j)) (left-at h below)
-              ∙ remaining-power (D h) (getD (sequences s F) h []) n (error n F g h) (λ k first last.
+              ∙ remaining-power (D h) (getD (sequences s F) h []) n (error b n F g h) (λ k first last.
               sequence-sums s F h below k first last ∙ damage-sums s g F code h k below first (omega arith)) j one
               (let q = ap length (left-at h below) in omega arith);
         }
@@ -87,8 +91,8 @@ module _ (s : Shape) (D : Declared) (f : List ℕ) where
         narrow = shape-ranges s shape .columns-most
 
         pick : (h : ℕ) → h < s .rows → (i : ℕ) → i < n → differsRead s D g f i ≡ false → (has (D h) i ≡ true) ⊎ (has (D h) i ≡ false)
-            → error n F g h i ⊗ leftWeight (D h) i ≡ 𝟘
+            → error b n F g h i ⊗ leftWeight (D h) i ≡ 𝟘
         pick h below i column same (inl mem) =
-            ap (λ x. error n F g h i ⊗ x) (leftWeight-zero (D h) i (let q = narrow in omega arith) mem) ∙ mul-zero R257 _
+            ap (λ x. error b n F g h i ⊗ x) (leftWeight-zero (D h) i (let q = narrow in omega arith) mem) ∙ mul-zero R257 _
         pick h below i column same (inr out) =
-            ap (λ x. x ⊗ leftWeight (D h) i) (same-cell-error n F g h i (sym (same-undeclared h i below column out same))) ∙ zero-mul R257 _
+            ap (λ x. x ⊗ leftWeight (D h) i) (same-cell-error b n F g h i (sym (same-undeclared h i below column out same))) ∙ zero-mul R257 _

@@ -64,6 +64,9 @@ module _ (s : Shape) (D : Declared) (M : Columns) (f : List ℕ) where
   rows-fit each = every-of (s .rows) _ (λ h below. every-of _ _ (λ j inside. eq-eqb _ 0 (each h below j inside)))
 
 module _ (s : Shape) (shape : isShape s ≡ true) (D : Declared) (f : List ℕ) (read : Read s D f) (M : Columns) (marks : Below (s .columns) M) where
+  abbrev b : ℕ
+  b = s .exponent
+
   abbrev n : ℕ
   n = s .columns
 
@@ -84,25 +87,25 @@ module _ (s : Shape) (shape : isShape s ≡ true) (D : Declared) (f : List ℕ) 
 
   pub mended-size : length (mended s D M f) ≡ s .rows * s .columns
   unfolding mended
-  mended-size = length-completedFrame n (s .rows) (λ h. either M (D h)) f (read .size)
+  mended-size = length-completedFrame b n (s .rows) (λ h. either M (D h)) f (read .size)
 
   pub mended-kept : (h i : ℕ) → h < s .rows → i < s .columns → has (either M (D h)) i ≡ false
       → cell (s .columns) (mended s D M f) h i ≡ cell (s .columns) (asRead s D f) h i
   unfolding mended
   mended-kept h i below inside out =
-      completedFrame-kept n (s .rows) (λ h. either M (D h)) f (read .size) h i below inside out
+      completedFrame-kept b n (s .rows) (λ h. either M (D h)) f (read .size) h i below inside out
       ∙ sym (read-kept s D f (read .size) h i below inside (undeclared h i inside out))
 
-  pub mended-zeros : (h j : ℕ) → h < s .rows → j < size (either M (D h)) → checkSum (s .columns) (row (s .columns) (mended s D M f) h) (suc j) ≡ 0
+  pub mended-zeros : (h j : ℕ) → h < s .rows → j < size (either M (D h)) → checkSum (s .exponent) (s .columns) (row (s .columns) (mended s D M f) h) (suc j) ≡ 0
   unfolding mended
-  mended-zeros = completedFrame-sums n (s .rows) (λ h. either M (D h)) f (read .size) narrow sets-inside
+  mended-zeros = completedFrame-sums b n (s .rows) (λ h. either M (D h)) f (read .size) narrow sets-inside
 
   pub mended-well-formed : WellFormed s (mended s D M f)
   unfolding mended
   mended-well-formed = record {
     size = mended-size;
     symbols = each-symbol (λ x. x < 257) n (s .rows) E mended-size
-        (completedFrame-below n (s .rows) (λ h. either M (D h)) f (read .size) (λ h i below inside out.
+        (completedFrame-below b n (s .rows) (λ h. either M (D h)) f (read .size) (λ h i below inside out.
         read .symbols h i below inside (undeclared h i inside out)));
   }
 
@@ -127,6 +130,7 @@ module _ (s : Shape) (shape : isShape s ≡ true) (D : Declared) (f : List ℕ) 
       → g ≡ mended s D M f
   unfolding mended
   mended-only reach g legal kept =
-      completedFrame-only n (s .rows) (λ h. either M (D h)) f (read .size) narrow sets-inside g (legal .well-formed .size) (cell-below s g (legal .well-formed))
+      completedFrame-only b n (s .rows) (λ h. either M (D h)) f (read .size) narrow sets-inside g (legal .well-formed .size)
+      (cell-below s g (legal .well-formed))
       (λ h i below inside out. kept h i below inside out ∙ read-kept s D f (read .size) h i below inside (undeclared h i inside out))
       (λ h j below few. legal .codeword h (suc j) below (omega arith) (let r = reach h below in omega arith))

@@ -14,11 +14,12 @@ use borrow.Author.Tests.{ltb-false, lt-ltb, le-ltb, eqb-true, eq-eqb, not-true}
 use Rattle.algebra.specs.Ring.{CRing, Field}
 use Rattle.algebra.specs.Locator.{Distinct, Nonzero}
 use Rattle.algebra.specs.Polynomial.{eval}
-use Rattle.columns.specs.Columns.{has, members}
+use Rattle.columns.specs.Columns.{columnsOf, has, members}
 use Rattle.columns.specs.Listed.{count}
 use Rattle.columns.proofs.Listing.{count-skip, length-listed}
 use Rattle.columns.proofs.Marks.{has-columnsOf, has-past, columnsOf-sound, members-columnsOf}
 use Rattle.decoding.specs.Locating.{named, namedColumns, namesAll}
+use Rattle.decoding.specs.NamedAlike.{NamedAlike}
 use Rattle.decoding.proofs.ColumnRoots.{Roots, roots-at-most}
 use Rattle.decoding.proofs.RegisterPolynomial.{poly257, register-degree, register-constant}
 use Rattle.field.specs.Coefficients.{value}
@@ -36,6 +37,10 @@ use Rattle.frame.proofs.Shapes.{shape-ranges}
 use Rattle.register.specs.Register.{Register}
 open Field F257 using (inv)
 open CRing R257 using (zero as 𝟘)
+
+pub named-alike : NamedAlike
+unfolding namedColumns named
+named-alike s t same σ = ap (λ (n : ℕ). columnsOf (λ i. ltb i n && eqb (value 257 σ (inverse 257 (locatorOf i))) 0)) same
 
 module _ (s : Shape) (shape : isShape s ≡ true) where
   pub columns-distinct : Distinct R257 (s .columns) locatorAt

@@ -73,11 +73,11 @@ module _ (s : Shape) (shape : isShape s ≡ true) (D : Declared) (none : (h i : 
   unfolding leftReach rowsReach
   reach-none c = every-ext (s .rows) _ _ (λ h below. ap (leb c) (ap (λ (m : ℕ). checksOf s h - m) (no-cells h below) ∙ sub-zero (checksOf s h)))
 
-  pub mended-none : (M : Columns) (f : List ℕ) → Sound M → mended s D M f ≡ eachRow (s .columns) (λ h. completed (s .columns) M) (s .rows) f
+  pub mended-none : (M : Columns) (f : List ℕ) → Sound M → mended s D M f ≡ eachRow (s .columns) (λ h. completed (s .exponent) (s .columns) M) (s .rows) f
   unfolding mended
   mended-none M f sound =
       eachRow-ext (s .columns) _ _ f (s .rows)
-      (λ h x below. ap (λ (J : Columns). completed (s .columns) J x) (either-none M (D h) sound (λ i. none h i below)))
+      (λ h x below. ap (λ (J : Columns). completed (s .exponent) (s .columns) J x) (either-none M (D h) sound (λ i. none h i below)))
 
   -- nothing is taken out of sums
   pub all-remaining-none : (S : List (List ℕ)) → length S ≡ s .rows → ((h j : ℕ) → h < s .rows → getD (getD S h []) j 0 < 257) → allRemaining s D S ≡ S

@@ -82,7 +82,8 @@ module _ (s : Shape) (shape : isShape s ≡ true) (D : Declared) (g f : List ℕ
         h,
         (let q = rows-left s D f in omega arith),
         part-nonzero s D f g h i few out (λ z. apart (read-kept s D g sized h i below inside out
-            ∙ sym (error-same-cell n (asRead s D f) g h i (rw (read-kept s D f (read .size) h i below inside out) (read .symbols h i below inside out))
+            ∙ sym (error-same-cell (s .exponent) n (asRead s D f) g h i
+            (rw (read-kept s D f (read .size) h i below inside out) (read .symbols h i below inside out))
             (cell-below s g (legal .well-formed) h i below inside) z))),
         (let l = length-left s D f h below in omega (arith, damage .twice h below in-rows)),
       )

@@ -26,7 +26,8 @@ module _ (s : Shape) (shape : isShape s ≡ true) (D : Declared) (f : List ℕ) 
   pub mended-read : mended s D M f ≡ mended s D M (asRead s D f)
   unfolding mended
   mended-read =
-      completedFrame-only (s .columns) (s .rows) (λ h. either M (D h)) (asRead s D f) (length-read s D f (read .size)) (shape-ranges s shape .columns-most)
+      completedFrame-only (s .exponent) (s .columns) (s .rows) (λ h. either M (D h)) (asRead s D f)
+      (length-read s D f (read .size)) (shape-ranges s shape .columns-most)
       (λ h below. either-below M (D h) (s .columns) (λ i _. marks i) (λ i. read .inside h i below))
       (mended s D M f) (mended-size s shape D f read M marks)
       (cell-below s (mended s D M f) (mended-well-formed s shape D f read M marks))

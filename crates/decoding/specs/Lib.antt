@@ -1,2 +1,3 @@
 pub mod Locating
+pub mod NamedAlike
 pub mod Remaining

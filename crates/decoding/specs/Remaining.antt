@@ -47,4 +47,4 @@ completable s D M S =
 
 -- each row completed at its marked and declared columns
 unfoldable pub mended : Shape → Declared → (M : Columns) (f : List ℕ) → List ℕ
-mended s D M f = eachRow (s .columns) (λ h. completed (s .columns) (either M (D h))) (s .rows) f
+mended s D M f = eachRow (s .columns) (λ h. completed (s .exponent) (s .columns) (either M (D h))) (s .rows) f

@@ -1,5 +1,5 @@
 -- Division by the generator polynomial in place, from the last cell down: taking off the leading cell by a multiple of the generator changes no check
--- sum, and the cells fit 32 bits all the while.
+-- sum that the generator has 0, and the cells fit 32 bits all the while.
 use mathlib.Core.Path.{_≡_, refl, sym, ap, ap₂, _∙_}
 use mathlib.Core.List.{List}
 use Prim.Native.Nat.{ℕ, suc, _+_, _-_, _*_, _%_, _≤_, _<_}
@@ -19,20 +19,20 @@ use Rattle.lists.specs.Tabulate.{tabulate}
 use Rattle.lists.proofs.Entries.{getD-part}
 use Rattle.lists.proofs.Parts.{replaced-before, replaced-in, replaced-after}
 use Rattle.lists.proofs.Tabulated.{length-tabulate, getD-tabulate}
-use Rattle.encoder.specs.GeneratorPolynomial.{GeneratorPolynomial}
+use Rattle.encoder.specs.GeneratorPolynomial.{Divisor, GeneratorPolynomial}
 use Rattle.algebra.proofs.WeighedSums.{multiple-added}
 open CRing R257 using (add as _⊕_, mul as _⊗_)
 
 infixl 60 _⊕_
 infixl 70 _⊗_
-module _ (m : ℕ) (from : List ℕ) where
+module _ (m : ℕ) (g from : List ℕ) where
   -- the cells from i on are taken off
   pub record Divided (i : ℕ) (cells : List ℕ) : Type 0 where
     pub size : length cells ≡ length from
     pub above : m ≤ i
     pub within : i ≤ length from
     pub bound : (k : ℕ) → getD cells k 0 ≤ 65535 + 65536 * (length from - i)
-    pub sums : (j : ℕ) → j < m → checkSum i cells (suc j) ≡ checkSum (length from) from (suc j)
+    pub sums : (b : ℕ) → GeneratorPolynomial b m g → (j : ℕ) → j < m → checkSum b i cells (suc j) ≡ checkSum b (length from) from (suc j)
 
   pub divided-none : m ≤ length from → ((k : ℕ) → getD from k 0 < 65536) → Divided (length from) from
   divided-none le small = record {
@@ -40,15 +40,15 @@ module _ (m : ℕ) (from : List ℕ) where
     above = le;
     within = omega arith;
     bound = λ k. let s = small k in omega arith;
-    sums = λ j h. refl;
+    sums = λ b of j h. refl;
   }
 
   pub divided-all : (i : ℕ) (cells : List ℕ) → Divided i cells → i ≤ m
-      → (j : ℕ) → j < m → checkSum m cells (suc j) ≡ checkSum (length from) from (suc j)
-  divided-all i cells a le j h =
-      ap (λ (k : ℕ). checkSum k cells (suc j)) (let q : m ≡ i = let l = a .above in omega arith in q) ∙ a .sums j h
+      → (b : ℕ) → GeneratorPolynomial b m g → (j : ℕ) → j < m → checkSum b m cells (suc j) ≡ checkSum b (length from) from (suc j)
+  divided-all i cells a le b of j h =
+      ap (λ (k : ℕ). checkSum b k cells (suc j)) (let q : m ≡ i = let l = a .above in omega arith in q) ∙ a .sums b of j h
 
-  module _ (g : List ℕ) (gen : GeneratorPolynomial m g) (i : ℕ) (cells : List ℕ) (a : Divided i cells) (less : m < i) where
+  module _ (divisor : Divisor m g) (i : ℕ) (cells : List ℕ) (a : Divided i cells) (less : m < i) where
     -- where the part begins to which the multiple is added
     abbrev start : ℕ
     start = i - 1 - m
@@ -69,7 +69,7 @@ module _ (m : ℕ) (from : List ℕ) where
     length-part = let l = mid-len start (i - 1) cells (let s = a .size in let w = a .within in omega arith) in omega arith
 
     length-lower : length lower ≡ m
-    length-lower = let l = mid-len 0 m g (let s = gen .size in omega arith) in omega arith
+    length-lower = let l = mid-len 0 m g (let s = divisor .size in omega arith) in omega arith
 
     pub same-size : length part ≡ length lower
     same-size = length-part ∙ sym length-lower
@@ -81,7 +81,7 @@ module _ (m : ℕ) (from : List ℕ) where
 
     multiple-small : (k : ℕ) → getD g k 0 * leading ≤ 256 * 256
     multiple-small k =
-        mul-le-mul (let b = gen .below k in let l : getD g k 0 ≤ 256 = omega arith in l)
+        mul-le-mul (let b = divisor .below k in let l : getD g k 0 ≤ 256 = omega arith in l)
         (let l : leading ≤ 256 = omega arith in l)
 
     added-bound : (k : ℕ) → k < m → added k ≤ 65535 + 65536 * (length from - (i - 1))
@@ -134,15 +134,15 @@ module _ (m : ℕ) (from : List ℕ) where
           ∙ ap (λ z. symbols g k ⊗ z)
           (res-mod 257 prime-257 (getD cells (i - 1) 0) ∙ ap (symbols cells) (let q : i - 1 ≡ start + m = omega arith in q)))
 
-      same-sum : (j : ℕ) → j < m → checkSum (i - 1) after (suc j) ≡ checkSum i cells (suc j)
-      same-sum j h =
-          res-tells _ _ (checkSum-below (i - 1) after (suc j)) (checkSum-below i cells (suc j))
-          (res-checkSum (i - 1) after j
-          ∙ ap (λ n. rowSum n (symbols after) j) (let q : i - 1 ≡ start + m = omega arith in q)
-          ∙ multiple-added R257 (λ k. weightAt k j) (weightAt-add j) start m (symbols cells) (symbols g) (symbols after)
-          (ap res257 (gen .leading) ∙ res-minus-one) (zero-in-field (suc m) g j (gen .sums j h)) (λ k l. ap res257 (after-before k l)) after-symbol
-          ∙ ap (λ n. rowSum n (symbols cells) j) (let q : suc (start + m) ≡ i = omega arith in q)
-          ∙ sym (res-checkSum i cells j))
+      same-sum : (b : ℕ) → GeneratorPolynomial b m g → (j : ℕ) → j < m → checkSum b (i - 1) after (suc j) ≡ checkSum b i cells (suc j)
+      same-sum b of j h =
+          res-tells _ _ (checkSum-below b (i - 1) after (suc j)) (checkSum-below b i cells (suc j))
+          (res-checkSum b (i - 1) after j
+          ∙ ap (λ n. rowSum b n (symbols after) j) (let q : i - 1 ≡ start + m = omega arith in q)
+          ∙ multiple-added R257 (λ k. weightAt b k j) (weightAt-add b j) start m (symbols cells) (symbols g) (symbols after)
+          (ap res257 (divisor .leading) ∙ res-minus-one) (zero-in-field b (suc m) g j (of .sums j h)) (λ k l. ap res257 (after-before k l)) after-symbol
+          ∙ ap (λ n. rowSum b n (symbols cells) j) (let q : suc (start + m) ≡ i = omega arith in q)
+          ∙ sym (res-checkSum b i cells j))
 
       pub divided-more : Divided (i - 1) after
       divided-more = record {
@@ -150,5 +150,5 @@ module _ (m : ℕ) (from : List ℕ) where
         above = omega arith;
         within = (let w = a .within in omega arith);
         bound = λ k. after-bound k (decLt k start) (decLt k (i - 1));
-        sums = λ j h. same-sum j h ∙ a .sums j h;
+        sums = λ b of j h. same-sum b of j h ∙ a .sums b of j h;
       }

@@ -21,14 +21,14 @@ use Rattle.encoder.specs.GeneratorPolynomial.{GeneratorPolynomial}
 open CRing R257 using (zero as 𝟘, add as _⊕_, neg, add-neg)
 
 infixl 60 _⊕_
-module _ (m : ℕ) (g h : List ℕ) (few : m ≤ 64) (a : GeneratorPolynomial m g) (b : GeneratorPolynomial m h) where
+module _ (b m : ℕ) (g h : List ℕ) (few : m ≤ 64) (one : GeneratorPolynomial b m g) (other : GeneratorPolynomial b m h) where
   -- the entries that are not among the roots' unknowns are given
   same-outside : (i : ℕ) → m ≤ i → getD g i 0 ≡ getD h i 0
   same-outside i le = pick (ℕ-discrete i m)
     where
       pick : Dec (i ≡ m) → getD g i 0 ≡ getD h i 0
-      pick (yes e) = ap (λ (k : ℕ). getD g k 0) e ∙ a .leading ∙ sym (ap (λ (k : ℕ). getD h k 0) e ∙ b .leading)
-      pick (no e) = a .past i (omega (arith, e)) ∙ sym (b .past i (omega (arith, e)))
+      pick (yes e) = ap (λ (k : ℕ). getD g k 0) e ∙ one .divisor .leading ∙ sym (ap (λ (k : ℕ). getD h k 0) e ∙ other .divisor .leading)
+      pick (no e) = one .divisor .past i (omega (arith, e)) ∙ sym (other .divisor .past i (omega (arith, e)))
 
   outside : (i : ℕ) → has (firstColumns m) i ≡ false → symbols g i ⊕ neg (symbols h i) ≡ 𝟘
   outside i none = ap (λ (x : ℕ). res257 x ⊕ neg (symbols h i)) (pick (decLt i m)) ∙ add-neg (symbols h i)
@@ -39,12 +39,12 @@ module _ (m : ℕ) (g h : List ℕ) (few : m ≤ 64) (a : GeneratorPolynomial m 
 
   same-entry : (i : ℕ) → getD g i 0 ≡ getD h i 0
   same-entry i =
-      res-tells (getD g i 0) (getD h i 0) (a .below i) (b .below i) (eq-of-sub-zero R257 _ _
-      (supported-zero (suc m) (firstColumns m) (omega arith) (λ k e. let l = has-first m k e in omega arith) (λ k. symbols g k ⊕ neg (symbols h k)) outside
+      res-tells (getD g i 0) (getD h i 0) (one .divisor .below i) (other .divisor .below i) (eq-of-sub-zero R257 _ _
+      (supported-zero b (suc m) (firstColumns m) (omega arith) (λ k e. let l = has-first m k e in omega arith) (λ k. symbols g k ⊕ neg (symbols h k)) outside
       (λ j l.
       let short : j < m = let s = size-first m (omega arith) in omega arith in
-      rowSum-sub (suc m) (symbols g) (symbols h) j
-      ∙ ap₂ (λ x y. x ⊕ neg y) (zero-in-field (suc m) g j (a .sums j short)) (zero-in-field (suc m) h j (b .sums j short)) ∙ add-neg 𝟘) i))
+      rowSum-sub b (suc m) (symbols g) (symbols h) j
+      ∙ ap₂ (λ x y. x ⊕ neg y) (zero-in-field b (suc m) g j (one .sums j short)) (zero-in-field b (suc m) h j (other .sums j short)) ∙ add-neg 𝟘) i))
 
   pub generator-only : length g ≡ length h → g ≡ h
   generator-only e = ext-getD 0 g h e (λ i l. same-entry i)

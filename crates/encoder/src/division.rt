@@ -1,4 +1,4 @@
-// A row completed at its first m columns by polynomial division. The row is a polynomial whose value at 3^j is check sum j,
+// A row completed at its first m columns by polynomial division. The check sums are values of the row as a polynomial,
 // and a multiple of the generator polynomial has check sums 0. So what is left of the data after division by it has the
 // data's check sums, and stands in the check cells with its sign changed.
 use codec::stages::add_multiple;
@@ -10,6 +10,7 @@ ghost use lib.Dec.{ltb};
 ghost use lib.ListN.{length, getD};
 ghost use Rattle.columns.specs.Columns.{columnsOf};
 ghost use Rattle.encoder.specs.Encodable.{Dividend, EncodableRow};
+ghost use Rattle.encoder.specs.GeneratorPolynomial.{GeneratorPolynomial};
 ghost use Rattle.frame.specs.Completion.{completed};
 ghost use Rattle.frame.specs.Frame.{checkSum};
 ghost use Rattle.lists.specs.Tabulate.{tabulate};
@@ -28,12 +29,13 @@ fn data_cells(row: &[u16], m: usize) -> [u32; 256]
     cells
 }
 
-// What is left in the first m cells has the check sums of all cells at entry. Cells are not reduced: 256 products of 256 and
-// 256 fit beside a symbol.
+// What is left in the first m cells has the check sums of all cells at entry, from whichever exponent on the generator has them 0.
+// Cells are not reduced: 256 products of 256 and 256 fit beside a symbol.
 fn divide(cells: &mut [u32], generator: &[u16], m: usize)
     requires { ⌜ Dividend (now cells) (now generator) m ⌝ }
     ensures { λ r. ⌜
-        ((j : ℕ) → j < m → checkSum m (now (cells .exit)) (suc j) ≡ checkSum (length (now (cells .entry))) (now (cells .entry)) (suc j))
+        ((b : ℕ) → GeneratorPolynomial b m (now (generator .entry)) → (j : ℕ) → j < m
+        → checkSum b m (now (cells .exit)) (suc j) ≡ checkSum b (length (now (cells .entry))) (now (cells .entry)) (suc j))
         ⌝ }
 {
     let mut i = cells.len();
@@ -63,7 +65,10 @@ fn put_negatives(row: &mut [u16], cells: &[u32], m: usize)
 // The row completed at its first m columns, whose generator polynomial is lent.
 pub fn encode_row(generator: &[u16], m: usize, row: &mut [u16])
     requires { ⌜ EncodableRow (now generator) m (now row) ⌝ }
-    ensures { λ r. ⌜ now (row .exit) ≡ completed (length (now (row .entry))) (columnsOf (λ i. ltb i m)) (now (row .entry)) ⌝ }
+    ensures { λ r. ⌜
+        ((b : ℕ) → GeneratorPolynomial b m (now (generator .entry))
+        → now (row .exit) ≡ completed b (length (now (row .entry))) (columnsOf (λ i. ltb i m)) (now (row .entry)))
+        ⌝ }
 {
     let n = row.len();
     let mut cells = data_cells(row, m);

@@ -35,6 +35,9 @@ use Rattle.lists.proofs.Tabulated.{every-at}
 use Rattle.lists.proofs.Totals.{total-zero, total-suc, total-bound}
 
 module _ (s : Shape) (declared : List ℕ) (M : Columns) (sums f : List ℕ) where
+  abbrev b : ℕ
+  b = s .exponent
+
   abbrev n : ℕ
   n = s .columns
 
@@ -44,7 +47,7 @@ module _ (s : Shape) (declared : List ℕ) (M : Columns) (sums f : List ℕ) whe
   -- h rows are filled, and the sums of row h begin at `at`
   pub record RowsFilled (h at : ℕ) (frame : List ℕ) : Type 0 where
     pub place : at ≡ sumsBefore s h
-    pub rows : RowsAtSets completed length-completed (s .columns) (s .rows) (λ h. either M (declaredBy declared h)) f h frame
+    pub rows : RowsAtSets (completed (s .exponent)) (length-completed (s .exponent)) (s .columns) (s .rows) (λ h. either M (declaredBy declared h)) f h frame
 
   pub filled-none : RowsFilled 0 0 f
   filled-none = record { place = sym (total-zero (checksOf s)); rows = changed-none _ _ _ f }
@@ -63,7 +66,7 @@ module _ (s : Shape) (declared : List ℕ) (M : Columns) (sums f : List ℕ) whe
     sums-end =
         let r = shape-ranges s (asked .shape) in
         let rows = r .rows-most in
-        let before = total-bound h 64 (checksOf s) (λ k b. r .checks k (omega arith) .most) in
+        let before = total-bound h 64 (checksOf s) (λ k l. r .checks k (omega arith) .most) in
         let most = r .checks h less .most in
         let begins = a .place in
         omega arith
@@ -79,7 +82,7 @@ module _ (s : Shape) (declared : List ℕ) (M : Columns) (sums f : List ℕ) whe
       lent-sums = midOf at (at + count - at) sums
 
       is-row : lent ≡ row n f h
-      is-row = row-ahead n (s .rows) _ (λ h x. length-completed n _ x) f h frame (a .rows) (place-of .inside)
+      is-row = row-ahead n (s .rows) _ (λ h x. length-completed b n _ x) f h frame (a .rows) (place-of .inside)
 
       are-sums : lent-sums ≡ rowSums s f h
       are-sums =
@@ -110,18 +113,19 @@ module _ (s : Shape) (declared : List ℕ) (M : Columns) (sums f : List ℕ) whe
           omega arith
 
       module _ (set : Columns) (e : set ≡ either M (D h)) where
-        pub row-mendable : MendableRow set lent-sums lent
+        pub row-mendable : MendableRow b set lent-sums lent
         unfolding rowSums
         row-mendable = record {
+          exponent = shape-ranges s (asked .shape) .exponent-most;
           narrow = (let w = width in let p = place-of in omega arith);
-          small = λ k l.
-              let b : k < n = let w = width in omega arith in
-              subst⁻¹ (λ (x : ℕ). x < 257) (ap (λ (x : List ℕ). getD x k 0) is-row ∙ row-cell n f h k b)
+          small = λ k short.
+              let l : k < n = let w = width in omega arith in
+              subst⁻¹ (λ (x : ℕ). x < 257) (ap (λ (x : List ℕ). getD x k 0) is-row ∙ row-cell n f h k l)
               (asked .small (h * n + k) (let p = place-of in omega arith));
           few = (let q = number in let p = place-of in omega arith);
           held =
-              are-sums ∙ ap₂ (λ (k : ℕ) (x : List ℕ). checkSums k (checksOf s h) x) (sym width) (sym is-row)
-              ∙ ap (λ (m : ℕ). checkSums (length lent) m lent) (sym number);
+              are-sums ∙ ap₂ (λ (k : ℕ) (x : List ℕ). checkSums b k (checksOf s h) x) (sym width) (sym is-row)
+              ∙ ap (λ (m : ℕ). checkSums b (length lent) m lent) (sym number);
           below = λ i t.
               let l = inside i (ap (λ (J : Columns). has J i) (sym e) ∙ t) in
               let w = width in
@@ -129,9 +133,9 @@ module _ (s : Shape) (declared : List ℕ) (M : Columns) (sums f : List ℕ) whe
           reach = (let l = few in let q = number in let r = ap (λ (J : Columns). length (members J)) e in omega arith);
         }
 
-        pub filled-more : (y : List ℕ) → y ≡ completed (length lent) set lent
+        pub filled-more : (y : List ℕ) → y ≡ completed b (length lent) set lent
             → RowsFilled (h + 1) (at + count) (putMid (h * n) (h * n + n - h * n) frame y)
         filled-more y made = record {
           place = ap₂ _+_ (a .place) c ∙ sym (ap (sumsBefore s) (add-one h) ∙ total-suc h (checksOf s));
-          rows = more-at-sets completed length-completed n (s .rows) _ f h frame (a .rows) (place-of .inside) set y less e made;
+          rows = more-at-sets (completed b) (length-completed b) n (s .rows) _ f h frame (a .rows) (place-of .inside) set y less e made;
         }

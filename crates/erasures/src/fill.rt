@@ -25,6 +25,7 @@ fn fill_rows(s: Shape, declared: &[u64; 32], marked: Columns, sums: &[u16], fram
         let a = h * columns;
         let e = a + columns;
         mend_row(
+            s.exponent,
             either(marked, cells_of(declared, h)),
             &sums[at..to],
             &mut frame[a..e],

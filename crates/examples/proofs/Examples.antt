@@ -14,7 +14,7 @@ use Rattle.field257.specs.LocatorPolynomial.{locatorPolynomial}
 use Rattle.frame.specs.DeclaredCells.{asRead, marksInside, declarable, undeclaredBelow, readTests, rereadTests}
 use Rattle.frame.specs.Encode.{eachRow, encoded, dataBelow, encodeTests}
 use Rattle.frame.specs.Frame.{checkSum, checkSums, rowSums, sequences, heldSums, heldSequences, weight}
-use Rattle.frame.specs.Shape.{shapeOf, rowsInRange, columnsInRange, checksInRange, isShape, shapeTests}
+use Rattle.frame.specs.Shape.{shapeOf, rowsInRange, columnsInRange, checksInRange, exponentInRange, isShape, shapeTests}
 use Rattle.job.specs.Calls.{registerTests, sameSums, step, late}
 use Rattle.job.specs.Job.{noColumns, findingsSound, phaseSound, headSound, declaredSound, countsEmpty}
 use Rattle.lists.specs.Tabulate.{tabulate, every, joined}
@@ -28,7 +28,7 @@ use Rattle.examples.specs.Literals.{marked, refusals, Literals}
 pub examples : Examples
 unfolding table computed lengthOf registers kept doesGenerate residueLists split ordered placed largest discrepancy stepAt start withSaved changed turn
     rounds isAlone found foundAlone tabulate every joined noColumns phaseSound headSound countsEmpty step registerTests shapeOf rowsInRange
-    columnsInRange checksInRange isShape shapeTests weight checkSum checkSums rowSums sequences heldSums heldSequences asRead marksInside
+    columnsInRange checksInRange exponentInRange isShape shapeTests weight checkSum checkSums rowSums sequences heldSums heldSequences asRead marksInside
     declarable undeclaredBelow readTests rereadTests remaining allRemaining leftReach completable mended sameSums findingsSound declaredSound either
     eachRow encoded
     dataBelow encodeTests without locatorPolynomial cleared completion completed tests answer tapsLeft total noDivisor isPrime isModulus shifted

@@ -1,12 +1,12 @@
--- The value of a polynomial at a power of 3, as it is accumulated: coefficients times entries of the table of powers, whose places are kept modulo 256.
--- The sum fits 64 bits, and its remainder is the value.
+-- The value of a polynomial at 3^j, as it is accumulated: coefficients times powers of 3, whose exponents are the multiples of j. The exponents fit 32 bits,
+-- the sum fits 64, and its remainder is the value.
 use mathlib.Core.Path.{_≡_, sym, ap, ap₂, subst, _∙_}
 use mathlib.Core.List.{List}
 use Prim.Native.Nat.{ℕ, zero, suc, _+_, _*_, _/_, _%_, _^_, _≤_, _<_, zero-le}
-use native.Mathlib.Nat.{add-mod, le-antisymm, mod-add-mod, mod-lt, mul-comm, mul-le-mul, pow-suc, pow-zero, suc-mul, zero-mul}
+use native.Mathlib.Nat.{add-mod, le-antisymm, mul-comm, mul-le-mul, pow-suc, pow-zero, suc-mul, zero-mul}
 use native.Mathlib.Numerals.{add-one}
 use native.Mathlib.Omega.{arith}
-use mir.Syntax.{w16, w64}
+use mir.Syntax.{w16, w32, w64}
 use mir.Val.{Fits}
 use lib.Pow.{pow-add}
 use lib.ListN.{length, getD}
@@ -16,9 +16,6 @@ use Rattle.field.proofs.Remainders.{mod-mul-mod, mul-mod-mod}
 use Rattle.lists.proofs.Totals.{total-zero, total-suc}
 use Rattle.field257.specs.Evaluable.{cubicAt}
 use Rattle.field257.specs.Powers.{powerOf3}
-use Rattle.field257.proofs.Locators.{power-mod}
-use Rattle.field257.specs.Table.{table}
-use Rattle.field257.proofs.PowerTable.{table-power, table-small}
 
 -- a power of a power
 pub power-of-power : (j k : ℕ) → powerOf3 (k * j) ≡ (powerOf3 j ^ k) % 257
@@ -46,62 +43,54 @@ module _ (x : List ℕ) (j : ℕ) where
   abbrev term : ℕ → ℕ
   term k = getD x k 0 * powerOf3 j ^ k
 
-  -- an entry of the table is a power of the point
-  entry-power : (i v : ℕ) → (v * getD table ((i * j) % 256) 0) % 257 ≡ (v * powerOf3 j ^ i) % 257
-  entry-power i v =
-      ap (λ (w : ℕ). (v * w) % 257)
-      (table-power ((i * j) % 256) (mod-lt (i * j) (omega arith)) ∙ sym (power-mod (i * j)) ∙ power-of-power j i)
-      ∙ mul-mod-mod v (powerOf3 j ^ i) 257
-
-  -- after i coefficients the sum is t, and e is the place of the next power
+  -- after i coefficients the sum is t, and e is the exponent of the next power
   pub record Accumulated (i e t : ℕ) : Type 0 where
     pub within : i ≤ length x
-    pub place : e ≡ (i * j) % 256
+    pub exponent : e ≡ i * j
     pub terms : t % 257 ≡ total i term % 257
     pub bounded : t ≤ i * 562949953421312
 
   pub none : Accumulated 0 0 0
-  none = record { within = zero-le; place = omega arith; terms = ap (λ (k : ℕ). k % 257) (sym (total-zero term)); bounded = zero-le }
+  none = record { within = zero-le; exponent = omega arith; terms = ap (λ (k : ℕ). k % 257) (sym (total-zero term)); bounded = zero-le }
 
-  module _ (i e t : ℕ) (a : Accumulated i e t) (powers : List ℕ) (is : powers ≡ table) where
-    looked-up : (v : ℕ) → (v * getD powers e 0) % 257 ≡ (v * powerOf3 j ^ i) % 257
-    looked-up v = ap₂ (λ (l : List ℕ) (k : ℕ). (v * getD l k 0) % 257) is (a .place) ∙ entry-power i v
+  -- w is the next power
+  module _ (i e t : ℕ) (a : Accumulated i e t) (w : ℕ) (is : w ≡ powerOf3 e) where
+    power-of-point : (v : ℕ) → (v * w) % 257 ≡ (v * powerOf3 j ^ i) % 257
+    power-of-point v =
+        ap (λ (n : ℕ). (v * n) % 257) (is ∙ ap powerOf3 (a .exponent) ∙ power-of-power j i) ∙ mul-mod-mod v (powerOf3 j ^ i) 257
 
-    entry-small : getD powers e 0 ≤ 256
-    entry-small = rw (is, a .place) (table-small ((i * j) % 256) (mod-lt (i * j) (omega arith)))
+    small : w ≤ 256
+    small = omega arith
 
-    pub more : (r : ℕ) → i < length x → Fits w16 (getD x i 0) → r ≡ getD x i 0 * getD powers e 0
-        → Accumulated (i + 1) ((e + j % 256) % 256) (t + r)
+    pub more : (r : ℕ) → i < length x → Fits w16 (getD x i 0) → r ≡ getD x i 0 * w → Accumulated (i + 1) (e + j) (t + r)
     more r h known q = record {
       within = omega arith;
-      place = rw (a .place, add-one, suc-mul i j) (sym (add-mod (i * j) j 256));
+      exponent = omega (arith, a .exponent);
       terms =
           add-mod t r 257
-          ∙ ap₂ (λ (m n : ℕ). (m + n) % 257) (a .terms) (ap (λ (k : ℕ). k % 257) q ∙ looked-up (getD x i 0))
+          ∙ ap₂ (λ (m n : ℕ). (m + n) % 257) (a .terms) (ap (λ (k : ℕ). k % 257) q ∙ power-of-point (getD x i 0))
           ∙ sym (add-mod (total i term) (term i) 257)
           ∙ ap (λ (k : ℕ). k % 257) (sym (ap (λ (k : ℕ). total k term) (add-one i) ∙ total-suc i term));
       bounded =
           (let b = a .bounded in
-          let s = mul-le-mul (let z : getD x i 0 ≤ 65535 = omega arith in z) entry-small in
+          let s = mul-le-mul (let z : getD x i 0 ≤ 65535 = omega arith in z) small in
           omega arith);
     }
 
     -- four coefficients more
-    more-four : (part r : ℕ) → i + 4 ≤ length x
-        → part ≡ cubicAt x i (powerOf3 j) → part ≤ 4398046511104 → r ≡ part * getD powers e 0 → Accumulated (i + 4) ((e + 4 * j) % 256) (t + r)
-    more-four part r h q small p = record {
+    more-four : (part : ℕ) → i + 4 ≤ length x → part ≡ cubicAt x i (powerOf3 j) → part ≤ 4398046511104
+        → Accumulated (i + 4) (e + 4 * j) (t + part * w)
+    more-four part h q le = record {
       within = omega arith;
-      place =
-          ap (λ (k : ℕ). (k + 4 * j) % 256) (a .place) ∙ mod-add-mod (i * j) 256 (4 * j)
-          ∙ ap (λ (k : ℕ). k % 256) (let z : i * j + 4 * j ≡ (i + 4) * j = omega arith in z);
+      exponent = omega (arith, a .exponent);
       terms =
-          add-mod t r 257
-          ∙ ap₂ (λ (m n : ℕ). (m + n) % 257) (a .terms) (ap (λ (k : ℕ). k % 257) p ∙ looked-up part)
+          add-mod t (part * w) 257
+          ∙ ap₂ (λ (m n : ℕ). (m + n) % 257) (a .terms) (power-of-point part)
           ∙ sym (add-mod (total i term) (part * powerOf3 j ^ i) 257)
           ∙ ap (λ (k : ℕ). k % 257) joined;
       bounded =
           (let b = a .bounded in
-          let s = mul-le-mul small entry-small in
+          let s = mul-le-mul le small in
           omega arith);
     }
       where
@@ -121,19 +110,22 @@ module _ (x : List ℕ) (j : ℕ) where
     pub fits : length x ≤ 256 → Fits w64 t
     fits le = let b = a .bounded in let w = a .within in omega arith
 
+    pub exponent-fits : length x ≤ 256 → j < 16777216 → Fits w32 e
+    exponent-fits le h =
+        let w = a .within in
+        let m = mul-le-mul (let z : i ≤ 256 = omega arith in z) (let z : j ≤ 16777215 = omega arith in z) in
+        omega (arith, a .exponent)
+
     pub finished : length x ≤ i → t % 257 ≡ value 257 x (powerOf3 j)
     unfolding value
     finished le = a .terms ∙ ap (λ (k : ℕ). total k term % 257) (le-antisymm (a .within) le)
 
   -- blocks of four, one after the other
-  pub more-block : (b e t : ℕ) → Accumulated (4 * b) e t → (powers : List ℕ) → powers ≡ table → (y part w : ℕ) → b < length x / 4 → y ≡ powerOf3 j
-      → part ≡ cubicAt x (4 * b) y
-      → part ≤ 4398046511104 → w ≡ getD powers e 0 → Accumulated (4 * (b + 1)) ((e + 4 * j) % 256) (t + part * w)
-  more-block b e t a powers is y part w h point q small entry =
-      subst (λ (i : ℕ). Accumulated i ((e + 4 * j) % 256) (t + part * w)) (omega arith)
-      (more-four (4 * b) e t a powers is part (part * w) (omega arith)
-      (q ∙ ap (cubicAt x (4 * b)) point)
-      small (ap (λ (k : ℕ). part * k) entry))
+  pub more-block : (b e t : ℕ) → Accumulated (4 * b) e t → (w : ℕ) → w ≡ powerOf3 e → (y part : ℕ) → b < length x / 4 → y ≡ powerOf3 j
+      → part ≡ cubicAt x (4 * b) y → part ≤ 4398046511104 → Accumulated (4 * (b + 1)) (e + 4 * j) (t + part * w)
+  more-block b e t a w is y part h point q le =
+      subst (λ (i : ℕ). Accumulated i (e + 4 * j) (t + part * w)) (omega arith)
+      (more-four (4 * b) e t a w is part (omega arith) (q ∙ ap (cubicAt x (4 * b)) point) le)
 
   pub blocks-end : (b e t : ℕ) → Accumulated (4 * b) e t → length x / 4 ≤ b
       → (t % 257 ≡ total (4 * (length x / 4)) term % 257) × (t ≤ 4 * (length x / 4) * 562949953421312)
@@ -141,13 +133,3 @@ module _ (x : List ℕ) (j : ℕ) where
       let w = a .within in
       let all : b ≡ length x / 4 = omega arith in
       (a .terms ∙ ap (λ (k : ℕ). total (4 * k) term % 257) all, omega (arith, a .bounded, all))
-
-  -- the coefficients up to the last multiple of four are taken, at the point's own exponent or at its remainder
-  pub blocks-taken : (t : ℕ) → (let n = 4 * (length x / 4) in t % 257 ≡ total n (λ k. getD x k 0 * powerOf3 (j % 256) ^ k) % 257)
-      → t ≤ 4 * (length x / 4) * 562949953421312 → Accumulated (4 * (length x / 4)) ((4 * (length x / 4) * (j % 256)) % 256) t
-  blocks-taken t e b = record {
-    within = omega arith;
-    place = mul-mod-mod (4 * (length x / 4)) j 256;
-    terms = e ∙ ap (λ (y : ℕ). total (4 * (length x / 4)) (λ k. getD x k 0 * y ^ k) % 257) (sym (power-mod j));
-    bounded = b;
-  }

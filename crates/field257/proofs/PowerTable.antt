@@ -1,15 +1,14 @@
 -- The table of the powers of 3 holds them.
 use mathlib.Core.Path.{_≡_, refl, sym, ap, _∙_}
-use Prim.Native.Nat.{ℕ, zero, suc, _*_, _%_, _^_, _≤_, _<_}
+use Prim.Native.Nat.{ℕ, zero, suc, _*_, _%_, _^_, _<_}
 use native.Mathlib.Nat.{mul-comm, pow-suc}
-use native.Mathlib.Omega.{arith}
 use lib.ListN.{getD}
 use Rattle.field.proofs.Remainders.{mul-mod-mod}
 use Rattle.lists.proofs.Tabulated.{getD-tabulate}
 use Rattle.field257.specs.Powers.{powerOf3}
 use Rattle.field257.specs.Table.{entryOf, table}
 
-pub entry-power : (k : ℕ) → entryOf k ≡ powerOf3 k
+entry-power : (k : ℕ) → entryOf k ≡ powerOf3 k
 unfolding entryOf
 entry-power zero = refl
 entry-power (suc k) =
@@ -19,6 +18,3 @@ entry-power (suc k) =
 pub table-power : (k : ℕ) → k < 256 → getD table k 0 ≡ powerOf3 k
 unfolding table
 table-power k h = getD-tabulate 256 entryOf k 0 h ∙ entry-power k
-
-pub table-small : (k : ℕ) → k < 256 → getD table k 0 ≤ 256
-table-small k h = let e = table-power k h in omega arith

@@ -1,6 +1,7 @@
 // Powers of 3 modulo 257: the locators of the columns, and the weights of the check sums.
 ghost use mathlib.Core.Path.{_≡_};
-ghost use Prim.Native.Nat.{_<_};
+ghost use Prim.Native.Nat.{_%_, _<_};
+ghost use lib.ListN.{getD};
 ghost use Rattle.field257.specs.Table.{table};
 ghost use Rattle.field257.specs.Powers.{powerOf3};
 
@@ -278,18 +279,10 @@ pub fn wide(x: u16) -> u32
     x as u32
 }
 
-// The power of 3 that the table holds at e.
-pub fn entry(powers: &[u16; 256], e: usize) -> u32
-    requires { ⌜ (now powers ≡ table) × (e < 256) ⌝ }
-    ensures { λ r. ⌜ r ≡ powerOf3 e ⌝ }
+// 3 to the power e modulo 257, for every e, the table being lent: the powers come round after 256, so that no caller reduces an exponent.
+pub fn power_of_3(powers: &[u16; 256], e: u32) -> u16
+    ensures power { λ r. ⌜ (now (powers .entry) ≡ table → r ≡ powerOf3 e) ⌝ }
+    ensures entry { λ r. ⌜ r ≡ getD (now (powers .entry)) (e % 256) 0 ⌝ }
 {
-    wide(powers[e])
-}
-
-// 3 to the power e. The powers come round after 256, since 3 to the power 256 is 1.
-pub fn power_of_3(e: u32) -> u32
-    ensures { λ r. ⌜ r ≡ powerOf3 e ⌝ }
-{
-    let powers = powers();
-    entry(&powers, (e % 256) as usize)
+    powers[(e % 256) as usize]
 }

@@ -1,9 +1,9 @@
 // Values of polynomials at powers of 3.
+use crate::powers::power_of_3;
 ghost use mathlib.Core.Path.{_≡_};
 ghost use Prim.Native.Nat.{_+_, _*_, _/_, _%_, _^_, _≤_, _<_};
 ghost use lib.ListN.{length, getD};
 ghost use Rattle.field257.specs.Evaluable.{Evaluable, cubicAt};
-ghost use Rattle.field257.specs.Table.{table};
 ghost use Rattle.field.specs.Coefficients.{value};
 ghost use Rattle.lists.specs.Total.{total};
 ghost use Rattle.field257.specs.Powers.{powerOf3};
@@ -41,42 +41,40 @@ fn cubic(f: &[u16], k: usize, y: u64) -> u64
     above(f[k], y, three)
 }
 
-// What the coefficients up to the last multiple of four add to the value at 3^step, not reduced: one power of 3 is looked up for
+// What the coefficients up to the last multiple of four add to the value at 3^e, not reduced: one power of 3 is looked up for
 // four of them.
-fn fours(powers: &[u16; 256], f: &[u16], step: usize) -> u64
-    requires { ⌜ Evaluable (now powers) (now f) step ⌝ }
+fn fours(powers: &[u16; 256], f: &[u16], e: u32) -> u64
+    requires { ⌜ Evaluable (now powers) (now f) e ⌝ }
     ensures equals { λ r. ⌜
-        r % 257 ≡ total (4 * (length (now (f .entry)) / 4)) (λ k. getD (now (f .entry)) k 0 * powerOf3 step ^ k) % 257
+        r % 257 ≡ total (4 * (length (now (f .entry)) / 4)) (λ k. getD (now (f .entry)) k 0 * powerOf3 e ^ k) % 257
         ⌝ }
     ensures bounded { λ r. ⌜ r ≤ 4 * (length (now (f .entry)) / 4) * 562949953421312 ⌝ }
 {
-    let y = long(powers[step]);
+    let y = long(power_of_3(powers, e));
     let blocks = f.len() / 4;
     let mut total: u64 = 0;
-    let mut place: usize = 0;
+    let mut exponent: u32 = 0;
     let mut b = 0;
     while b < blocks {
-        total += cubic(f, 4 * b, y) * long(powers[place]);
-        place = (place + 4 * step) % 256;
+        total += cubic(f, 4 * b, y) * long(power_of_3(powers, exponent));
+        exponent += 4 * e;
         b += 1;
     }
     total
 }
 
-// The value at 3^e of the polynomial with the coefficients f. The place of the next power in the table is kept modulo 256,
-// since the powers of 3 come round; the sum fits 64 bits, so that it is reduced once.
-pub fn value_at(powers: &[u16; 256], f: &[u16], e: usize) -> u16
-    requires { ⌜ (now powers ≡ table) × (length (now f) ≤ 256) ⌝ }
+// The value at 3^e of the polynomial with the coefficients f. The sum fits 64 bits, so that it is reduced once.
+pub fn value_at(powers: &[u16; 256], f: &[u16], e: u32) -> u16
+    requires { ⌜ Evaluable (now powers) (now f) e ⌝ }
     ensures equals { λ r. ⌜ r ≡ value 257 (now (f .entry)) (powerOf3 e) ⌝ }
     ensures below { λ r. ⌜ r < 257 ⌝ }
 {
-    let step = e % 256;
-    let mut total = fours(powers, f, step);
+    let mut total = fours(powers, f, e);
     let mut k = 4 * (f.len() / 4);
-    let mut place = (k * step) % 256;
+    let mut exponent = (k as u32) * e;
     while k < f.len() {
-        total += times(f[k], powers[place]) as u64;
-        place = (place + step) % 256;
+        total += times(f[k], power_of_3(powers, exponent)) as u64;
+        exponent += e;
         k += 1;
     }
     (total % 257) as u16

@@ -27,8 +27,8 @@ use Rattle.field.proofs.Prime257.{prime-257}
 use Rattle.field257.specs.Powers.{powerOf3}
 use Rattle.field257.proofs.Accumulation.{power-of-power}
 use Rattle.field257.proofs.Field257.{F257, R257, res257, res-tells, res-tells-zero, symbols, locatorAt}
-use Rattle.field257.proofs.Locators.{locators-distinct, locator-nonzero, power-mod}
-use Rattle.frame.proofs.Weights.{firstExponent, weightAt, res-weight, weight-power}
+use Rattle.field257.proofs.Locators.{locators-distinct, locator-nonzero}
+use Rattle.frame.proofs.Weights.{weightAt, res-weight, weight-power}
 use Rattle.field257.proofs.Members.{size, member, Below, sum-members}
 use Rattle.field257.proofs.Words.{word-zero}
 use Rattle.frame.specs.Frame.{checkSum, weight}
@@ -37,57 +37,57 @@ open CRing R257 using (car, zero as 𝟘, add as _⊕_, mul as _⊗_, neg, add-n
 infixl 60 _⊕_
 infixl 70 _⊗_
 -- check sum j + 1 of a row of field elements
-abbrev pub rowSum : (n : ℕ) (d : ℕ → R257 .car) (j : ℕ) → R257 .car
-rowSum n d j = sum R257 n (λ i. d i ⊗ weightAt i j)
+abbrev pub rowSum : (b n : ℕ) (d : ℕ → R257 .car) (j : ℕ) → R257 .car
+rowSum b n d j = sum R257 n (λ i. d i ⊗ weightAt b i j)
 
-pub checkSum-below : (n : ℕ) (x : List ℕ) (j : ℕ) → checkSum n x j < 257
+pub checkSum-below : (b n : ℕ) (x : List ℕ) (j : ℕ) → checkSum b n x j < 257
 unfolding checkSum
-checkSum-below n x j = mod-lt _ (lit< tt)
+checkSum-below b n x j = mod-lt _ (lit< tt)
 
-pub res-checkSum : (n : ℕ) (x : List ℕ) (j : ℕ) → res257 (checkSum n x (suc j)) ≡ rowSum n (symbols x) j
+pub res-checkSum : (b n : ℕ) (x : List ℕ) (j : ℕ) → res257 (checkSum b n x (suc j)) ≡ rowSum b n (symbols x) j
 unfolding checkSum
-res-checkSum n x j =
-    res-mod 257 prime-257 _ ∙ res-total 257 prime-257 n (λ i. getD x i 0 * weight i (suc j))
-    ∙ sum-ext R257 n _ _ (λ i _. res-mul 257 prime-257 (getD x i 0) (weight i (suc j)) ∙ ap (λ w. symbols x i ⊗ w) (res-weight i j))
+res-checkSum b n x j =
+    res-mod 257 prime-257 _ ∙ res-total 257 prime-257 n (λ i. getD x i 0 * weight b i (suc j))
+    ∙ sum-ext R257 n _ _ (λ i _. res-mul 257 prime-257 (getD x i 0) (weight b i (suc j)) ∙ ap (λ w. symbols x i ⊗ w) (res-weight b i j))
 
-pub rowSum-sub : (n : ℕ) (c d : ℕ → car) (j : ℕ) → rowSum n (λ i. c i ⊕ neg (d i)) j ≡ rowSum n c j ⊕ neg (rowSum n d j)
-rowSum-sub n c d j =
-    sum-ext R257 n _ (λ i. c i ⊗ weightAt i j ⊕ neg (d i ⊗ weightAt i j)) (λ i _.
-    add-mul R257 (c i) (neg (d i)) (weightAt i j) ∙ ap (λ x. c i ⊗ weightAt i j ⊕ x) (neg-mul R257 (d i) (weightAt i j)))
-    ∙ sum-add R257 n (λ i. c i ⊗ weightAt i j) (λ i. neg (d i ⊗ weightAt i j))
-    ∙ ap (λ x. rowSum n c j ⊕ x) (sum-neg R257 n (λ i. d i ⊗ weightAt i j))
+pub rowSum-sub : (b n : ℕ) (c d : ℕ → car) (j : ℕ) → rowSum b n (λ i. c i ⊕ neg (d i)) j ≡ rowSum b n c j ⊕ neg (rowSum b n d j)
+rowSum-sub b n c d j =
+    sum-ext R257 n _ (λ i. c i ⊗ weightAt b i j ⊕ neg (d i ⊗ weightAt b i j)) (λ i _.
+    add-mul R257 (c i) (neg (d i)) (weightAt b i j) ∙ ap (λ x. c i ⊗ weightAt b i j ⊕ x) (neg-mul R257 (d i) (weightAt b i j)))
+    ∙ sum-add R257 n (λ i. c i ⊗ weightAt b i j) (λ i. neg (d i ⊗ weightAt b i j))
+    ∙ ap (λ x. rowSum b n c j ⊕ x) (sum-neg R257 n (λ i. d i ⊗ weightAt b i j))
 
 -- the check sums of a row that is 0 outside the set
-pub rowSum-members : (n : ℕ) (J : Columns) → n ≤ 256 → Below n J → (d : ℕ → car) → ((i : ℕ) → has J i ≡ false → d i ≡ 𝟘) → (j : ℕ)
-    → rowSum n d j ≡ sum R257 (size J) (λ k. d (member J k) ⊗ weightAt (member J k) j)
-rowSum-members n J narrow below d z j =
-    sum-members R257 n J (λ i. d i ⊗ weightAt i j) narrow below (λ i f. ap (λ x. x ⊗ weightAt i j) (z i f) ∙ zero-mul R257 (weightAt i j))
+pub rowSum-members : (b n : ℕ) (J : Columns) → n ≤ 256 → Below n J → (d : ℕ → car) → ((i : ℕ) → has J i ≡ false → d i ≡ 𝟘) → (j : ℕ)
+    → rowSum b n d j ≡ sum R257 (size J) (λ k. d (member J k) ⊗ weightAt b (member J k) j)
+rowSum-members b n J narrow below d z j =
+    sum-members R257 n J (λ i. d i ⊗ weightAt b i j) narrow below (λ i f. ap (λ x. x ⊗ weightAt b i j) (z i f) ∙ zero-mul R257 (weightAt b i j))
 
-module _ (n : ℕ) (J : Columns) (narrow : n ≤ 256) (below : Below n J) where
-  pub supported-zero : (d : ℕ → car) → ((i : ℕ) → has J i ≡ false → d i ≡ 𝟘) → ((j : ℕ) → j < size J → rowSum n d j ≡ 𝟘) → (i : ℕ) → d i ≡ 𝟘
+module _ (b n : ℕ) (J : Columns) (narrow : n ≤ 256) (below : Below n J) where
+  pub supported-zero : (d : ℕ → car) → ((i : ℕ) → has J i ≡ false → d i ≡ 𝟘) → ((j : ℕ) → j < size J → rowSum b n d j ≡ 𝟘) → (i : ℕ) → d i ≡ 𝟘
   supported-zero d z sums i = pick (by-test (has J i))
     where
       pick : (has J i ≡ true) ⊎ (has J i ≡ false) → d i ≡ 𝟘
       pick (inl t) =
-          word-zero F257 256 locatorAt locators-distinct (λ k _. locator-nonzero k) (has J) d (λ k _. z k) firstExponent
+          word-zero F257 256 locatorAt locators-distinct (λ k _. locator-nonzero k) (has J) d (λ k _. z k) b
           (λ j h.
-          rowSum-members 256 J (omega arith) (λ k e. let b = below k e in omega arith) d z j ∙ sym (rowSum-members n J narrow below d z j)
+          rowSum-members b 256 J (omega arith) (λ k e. let l = below k e in omega arith) d z j ∙ sym (rowSum-members b n J narrow below d z j)
           ∙ sums j (let c = length-listed 256 (has J) in omega arith))
-          i (let b = below i t in omega arith)
+          i (let l = below i t in omega arith)
       pick (inr f) = z i f
 
   pub same-row : (x y : List ℕ) → length x ≡ n → length y ≡ n → ((i : ℕ) → i < n → getD x i 0 < 257) → ((i : ℕ) → i < n → getD y i 0 < 257)
       → ((i : ℕ) → i < n → has J i ≡ false → getD x i 0 ≡ getD y i 0)
-      → ((j : ℕ) → j < size J → checkSum n x (suc j) ≡ checkSum n y (suc j)) → x ≡ y
+      → ((j : ℕ) → j < size J → checkSum b n x (suc j) ≡ checkSum b n y (suc j)) → x ≡ y
   same-row x y lx ly sx sy outside sums =
       ext-getD 0 x y (lx ∙ sym ly) (λ i h.
-      let b : i < n = omega arith in
-      res-tells (getD x i 0) (getD y i 0) (sx i b) (sy i b) (eq-of-sub-zero R257 _ _ (supported-zero (λ i. symbols x i ⊕ neg (symbols y i))
+      let l : i < n = omega arith in
+      res-tells (getD x i 0) (getD y i 0) (sx i l) (sy i l) (eq-of-sub-zero R257 _ _ (supported-zero (λ i. symbols x i ⊕ neg (symbols y i))
       (λ i f. ap (λ s. res257 s ⊕ neg (symbols y i)) (kept i f (decLt i n)) ∙ add-neg (symbols y i))
       (λ j l.
-      rowSum-sub n (symbols x) (symbols y) j
-      ∙ ap (λ s. s ⊕ neg (rowSum n (symbols y) j)) (sym (res-checkSum n x j) ∙ ap res257 (sums j l) ∙ res-checkSum n y j)
-      ∙ add-neg (rowSum n (symbols y) j)) i)))
+      rowSum-sub b n (symbols x) (symbols y) j
+      ∙ ap (λ s. s ⊕ neg (rowSum b n (symbols y) j)) (sym (res-checkSum b n x j) ∙ ap res257 (sums j l) ∙ res-checkSum b n y j)
+      ∙ add-neg (rowSum b n (symbols y) j)) i)))
     where
       kept : (i : ℕ) → has J i ≡ false → Dec (i < n) → getD x i 0 ≡ getD y i 0
       kept i f (yes h) = outside i h f
@@ -96,22 +96,23 @@ module _ (n : ℕ) (J : Columns) (narrow : n ≤ 256) (below : Below n J) where
 -- ---- single sums
 
 -- a check sum is 0 where it is in the field
-pub sum-is-zero : (n : ℕ) (x : List ℕ) (j : ℕ) → rowSum n (symbols x) j ≡ 𝟘 → checkSum n x (suc j) ≡ 0
-sum-is-zero n x j e = res-tells-zero (checkSum n x (suc j)) (checkSum-below n x (suc j)) (res-checkSum n x j ∙ e)
+pub sum-is-zero : (b n : ℕ) (x : List ℕ) (j : ℕ) → rowSum b n (symbols x) j ≡ 𝟘 → checkSum b n x (suc j) ≡ 0
+sum-is-zero b n x j e = res-tells-zero (checkSum b n x (suc j)) (checkSum-below b n x (suc j)) (res-checkSum b n x j ∙ e)
 
-pub zero-in-field : (n : ℕ) (x : List ℕ) (j : ℕ) → checkSum n x (suc j) ≡ 0 → rowSum n (symbols x) j ≡ 𝟘
-zero-in-field n x j e = sym (res-checkSum n x j) ∙ ap res257 e ∙ res-zero 257 prime-257
+pub zero-in-field : (b n : ℕ) (x : List ℕ) (j : ℕ) → checkSum b n x (suc j) ≡ 0 → rowSum b n (symbols x) j ≡ 𝟘
+zero-in-field b n x j e = sym (res-checkSum b n x j) ∙ ap res257 e ∙ res-zero 257 prime-257
 
 -- a check sum is the row's value, as a polynomial, at a power of 3
-pub check-sum-value : (x : List ℕ) (j : ℕ) → value 257 x (powerOf3 j) ≡ checkSum (length x) x j
+pub check-sum-value : (b : ℕ) (x : List ℕ) (j : ℕ) → value 257 x (powerOf3 (b + j)) ≡ checkSum b (length x) x (suc j)
 unfolding value checkSum
-check-sum-value x j =
-    sym (total-mod (length x) 257 (λ k. getD x k 0 * powerOf3 j ^ k))
-    ∙ ap (λ (k : ℕ). k % 257) (total-ext (length x) (λ k. (getD x k 0 * powerOf3 j ^ k) % 257) (λ k. (getD x k 0 * weight k j) % 257) (λ k h. same k))
-    ∙ total-mod (length x) 257 (λ k. getD x k 0 * weight k j)
+check-sum-value b x j =
+    sym (total-mod (length x) 257 (λ k. getD x k 0 * powerOf3 (b + j) ^ k))
+    ∙ ap (λ (k : ℕ). k % 257)
+    (total-ext (length x) (λ k. (getD x k 0 * powerOf3 (b + j) ^ k) % 257) (λ k. (getD x k 0 * weight b k (suc j)) % 257) (λ k h. same k))
+    ∙ total-mod (length x) 257 (λ k. getD x k 0 * weight b k (suc j))
   where
-    same : (k : ℕ) → (getD x k 0 * powerOf3 j ^ k) % 257 ≡ (getD x k 0 * weight k j) % 257
+    same : (k : ℕ) → (getD x k 0 * powerOf3 (b + j) ^ k) % 257 ≡ (getD x k 0 * weight b k (suc j)) % 257
     same k =
-        sym (mul-mod-mod (getD x k 0) (powerOf3 j ^ k) 257)
-        ∙ ap (λ (w : ℕ). (getD x k 0 * w) % 257) (sym (power-of-power j k) ∙ power-mod (k * j) ∙ sym (weight-power k j))
-        ∙ mul-mod-mod (getD x k 0) (weight k j) 257
+        sym (mul-mod-mod (getD x k 0) (powerOf3 (b + j) ^ k) 257)
+        ∙ ap (λ (w : ℕ). (getD x k 0 * w) % 257) (sym (power-of-power (b + j) k) ∙ sym (weight-power b k j))
+        ∙ mul-mod-mod (getD x k 0) (weight b k (suc j)) 257

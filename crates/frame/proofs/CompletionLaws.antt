@@ -19,18 +19,6 @@ use Rattle.frame.specs.Completion.{cleared, completion, completed}
 use Rattle.frame.specs.Frame.{checkSum}
 
 module _ (n : ℕ) (J : Columns) (x : List ℕ) where
-  pub length-completed : length (completed n J x) ≡ n
-  unfolding completed
-  length-completed = length-tabulate n _
-
-  pub completed-kept : (i : ℕ) → i < n → has J i ≡ false → getD (completed n J x) i 0 ≡ getD x i 0
-  unfolding completed
-  completed-kept i h f = getD-tabulate n _ i 0 h ∙ rw f
-
-  completed-filled : (i : ℕ) → i < n → has J i ≡ true → getD (completed n J x) i 0 ≡ completion n J x i
-  unfolding completed
-  completed-filled i h t = getD-tabulate n _ i 0 h ∙ rw t
-
   pub cleared-kept : (i : ℕ) → i < n → has J i ≡ false → getD (cleared n J x) i 0 ≡ getD x i 0
   unfolding cleared
   cleared-kept i h f = getD-tabulate n _ i 0 h ∙ rw f
@@ -39,30 +27,43 @@ module _ (n : ℕ) (J : Columns) (x : List ℕ) where
   unfolding cleared
   cleared-empty i h t = getD-tabulate n _ i 0 h ∙ rw t
 
-  completion-below : (i : ℕ) → completion n J x i < 257
+module _ (b n : ℕ) (J : Columns) (x : List ℕ) where
+  pub length-completed : length (completed b n J x) ≡ n
+  unfolding completed
+  length-completed = length-tabulate n _
+
+  pub completed-kept : (i : ℕ) → i < n → has J i ≡ false → getD (completed b n J x) i 0 ≡ getD x i 0
+  unfolding completed
+  completed-kept i h f = getD-tabulate n _ i 0 h ∙ rw f
+
+  completed-filled : (i : ℕ) → i < n → has J i ≡ true → getD (completed b n J x) i 0 ≡ completion b n J x i
+  unfolding completed
+  completed-filled i h t = getD-tabulate n _ i 0 h ∙ rw t
+
+  completion-below : (i : ℕ) → completion b n J x i < 257
   unfolding completion
   completion-below i = mod-lt _ (lit< tt)
 
-  pub completed-below : ((i : ℕ) → i < n → has J i ≡ false → getD x i 0 < 257) → (i : ℕ) → i < n → getD (completed n J x) i 0 < 257
+  pub completed-below : ((i : ℕ) → i < n → has J i ≡ false → getD x i 0 < 257) → (i : ℕ) → i < n → getD (completed b n J x) i 0 < 257
   completed-below small i h = pick (by-test (has J i))
     where
-      pick : (has J i ≡ true) ⊎ (has J i ≡ false) → getD (completed n J x) i 0 < 257
+      pick : (has J i ≡ true) ⊎ (has J i ≡ false) → getD (completed b n J x) i 0 < 257
       pick (inl t) = rw (completed-filled i h t) (completion-below i)
       pick (inr f) = rw (completed-kept i h f) (small i h f)
 
   module _ (narrow : n ≤ 256) (below : Below n J) where
-    pub completed-sums : (j : ℕ) → j < size J → checkSum n (completed n J x) (suc j) ≡ 0
+    pub completed-sums : (j : ℕ) → j < size J → checkSum b n (completed b n J x) (suc j) ≡ 0
     unfolding cleared completion
     completed-sums =
-        sums-gone n J narrow below (cleared n J x) (completed n J x) (length-tabulate n _) length-completed
-        (λ i h f. completed-kept i h f ∙ sym (cleared-kept i h f))
+        sums-gone b n J narrow below (cleared n J x) (completed b n J x) (length-tabulate n _) length-completed
+        (λ i h f. completed-kept i h f ∙ sym (cleared-kept n J x i h f))
         (λ i h t. ap (λ (c : ℕ). c % 257)
-        (completed-filled i h t ∙ sym (ap (λ (a : ℕ). a + completion n J x i) (cleared-empty i h t) ∙ zero-add (completion n J x i))))
+        (completed-filled i h t ∙ sym (ap (λ (a : ℕ). a + completion b n J x i) (cleared-empty n J x i h t) ∙ zero-add (completion b n J x i))))
 
     -- the only row with these symbols outside the set whose first check sums are 0
     pub completed-only : (y : List ℕ) → length y ≡ n → ((i : ℕ) → i < n → getD y i 0 < 257) → ((i : ℕ) → i < n → has J i ≡ false → getD y i 0 ≡ getD x i 0)
-        → ((j : ℕ) → j < size J → checkSum n y (suc j) ≡ 0) → y ≡ completed n J x
+        → ((j : ℕ) → j < size J → checkSum b n y (suc j) ≡ 0) → y ≡ completed b n J x
     completed-only y ly small same zeros =
-        same-row n J narrow below y (completed n J x) ly length-completed small
+        same-row b n J narrow below y (completed b n J x) ly length-completed small
         (completed-below (λ i h f. rw (← same i h f) (small i h)))
         (λ i h f. same i h f ∙ sym (completed-kept i h f)) (λ j h. zeros j h ∙ sym (completed-sums j h))

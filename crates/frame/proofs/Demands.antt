@@ -25,7 +25,7 @@ use Rattle.frame.specs.declared.Shape.{Shape}
 
 pub demand-1 : Demand1
 demand-1 = record {
-  shape = λ n checks. outcome-refused (shapeTests n checks) (shapeReasons n checks) (shape-says n checks);
+  shape = λ n checks b. outcome-refused (shapeTests n checks b) (shapeReasons n checks b) (shape-says n checks b);
   encode = λ s f. outcome-refused (encodeTests s f) (encodeReasons s f) (encode-says s f);
   frame = λ s f. outcome-refused (frameTests s f) (frameReasons s f) (frame-says s f);
 }

@@ -65,19 +65,22 @@ module _ (s : Shape) (f : List ℕ) (ranges : Ranges s) (whole : length f ≡ s 
   encoder = record {
     legal = record {
       well-formed = record {
-        size = length-completedFrame (s .columns) (s .rows) checkColumns f whole;
-        symbols = each-symbol (λ x. x < 257) (s .columns) (s .rows) (encoded s f) (length-completedFrame (s .columns) (s .rows) checkColumns f whole)
-            (completedFrame-below (s .columns) (s .rows) checkColumns f whole (λ h i r c e. small h i r (not-check h i c e) c));
+        size = length-completedFrame (s .exponent) (s .columns) (s .rows) checkColumns f whole;
+        symbols = each-symbol (λ x. x < 257) (s .columns) (s .rows) (encoded s f)
+            (length-completedFrame (s .exponent) (s .columns) (s .rows) checkColumns f whole)
+            (completedFrame-below (s .exponent) (s .columns) (s .rows) checkColumns f whole (λ h i r c e. small h i r (not-check h i c e) c));
       };
       codeword = λ h j r one within.
           let q : suc (j - 1) ≡ j = omega arith in
-          ap (checkSum (s .columns) (row (s .columns) (encoded s f) h)) (sym q)
-          ∙ completedFrame-sums (s .columns) (s .rows) checkColumns f whole narrow checks-below h (j - 1) r (let e = size-checks h r in omega arith);
+          ap (checkSum (s .exponent) (s .columns) (row (s .columns) (encoded s f) h)) (sym q)
+          ∙ completedFrame-sums (s .exponent) (s .columns) (s .rows) checkColumns f whole narrow checks-below h (j - 1) r
+          (let e = size-checks h r in omega arith);
     };
     same-data = λ h i r d c.
-        sym (completedFrame-kept (s .columns) (s .rows) checkColumns f whole h i r c (has-not-first (checksOf s h) i (let b = narrow in omega arith) d));
+        sym (completedFrame-kept (s .exponent) (s .columns) (s .rows) checkColumns f whole h i r c
+        (has-not-first (checksOf s h) i (let b = narrow in omega arith) d));
     only = λ g legal same.
-        completedFrame-only (s .columns) (s .rows) checkColumns f whole narrow checks-below g (legal .well-formed .size)
+        completedFrame-only (s .exponent) (s .columns) (s .rows) checkColumns f whole narrow checks-below g (legal .well-formed .size)
         (λ h i r c. legal .well-formed .symbols (h * s .columns + i)
         (let e = legal .well-formed .size in let p = cell-place (s .columns) (s .rows) h i r c in omega arith))
         (λ h i r c e. sym (same h i r (not-check h i c e) c))

@@ -51,13 +51,13 @@ module _ (s : Shape) (f : List ℕ) where
         let q = mid-len at to sums (let e = ends in let z = a .size in omega arith) in
         omega arith
 
-    sums-of-row : (y : List ℕ) → y ≡ checkSums (length place-of-row) (length (midOf at (to - at) sums)) place-of-row → y ≡ rowSums s f h
+    sums-of-row : (y : List ℕ) → y ≡ checkSums (s .exponent) (length place-of-row) (length (midOf at (to - at) sums)) place-of-row → y ≡ rowSums s f h
     unfolding rowSums
     sums-of-row y e =
-        e ∙ ap₂ (λ (k m : ℕ). checkSums k m place-of-row) length-row length-part
-        ∙ ap (checkSums (s .columns) (checksOf s h)) is-row
+        e ∙ ap₂ (λ (k m : ℕ). checkSums (s .exponent) k m place-of-row) length-row length-part
+        ∙ ap (checkSums (s .exponent) (s .columns) (checksOf s h)) is-row
 
-    pub held-more : (y : List ℕ) → h < s .rows → y ≡ checkSums (length place-of-row) (length (midOf at (to - at) sums)) place-of-row
+    pub held-more : (y : List ℕ) → h < s .rows → y ≡ checkSums (s .exponent) (length place-of-row) (length (midOf at (to - at) sums)) place-of-row
         → Held (h + 1) to (putMid at (to - at) sums y)
     held-more y l e = record {
       rows-passed = omega arith;

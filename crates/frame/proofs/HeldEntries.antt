@@ -14,7 +14,7 @@ use Rattle.frame.proofs.HeldSums.{held-row, sums-before}
 use Rattle.lists.proofs.Padded.{padded-entry}
 
 pub held-entry : (s : Shape) (f : List ℕ) (h j : ℕ) → h < s .rows → j < checksOf s h
-    → getD (heldSums s f) (sumsBefore s h + j) 0 ≡ checkSum (s .columns) (row (s .columns) f h) (suc j)
+    → getD (heldSums s f) (sumsBefore s h + j) 0 ≡ checkSum (s .exponent) (s .columns) (row (s .columns) f h) (suc j)
 unfolding rowSums checkSums
 held-entry s f h j inside short =
     sym (getD-drop (sumsBefore s h) (heldSums s f) j 0) ∙ sym (getD-take (checksOf s h) (drop (sumsBefore s h) (heldSums s f)) j 0 short)
@@ -29,7 +29,7 @@ held-rest s f k past =
 -- frames with the same check sums are held with the same sums
 pub same-held : (s : Shape) (f g : List ℕ)
     → ((h j : ℕ) → h < s .rows → j < checksOf s h
-    → checkSum (s .columns) (row (s .columns) f h) (suc j) ≡ checkSum (s .columns) (row (s .columns) g h) (suc j))
+    → checkSum (s .exponent) (s .columns) (row (s .columns) f h) (suc j) ≡ checkSum (s .exponent) (s .columns) (row (s .columns) g h) (suc j))
     → heldSums s f ≡ heldSums s g
 unfolding heldSums sequences rowSums checkSums
 same-held s f g same =

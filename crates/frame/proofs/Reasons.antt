@@ -9,7 +9,7 @@ use native.Mathlib.Decide.{decLt}
 use native.Mathlib.Omega.{arith}
 use lib.Dec.{leb, ltb, eqb}
 use lib.ListN.{length, getD, List·getD-append}
-use borrow.Author.Tests.{ltb-true, ltb-false, leb-true, eqb-true, eqb-false, lt-ltb, le-ltb, eq-eqb}
+use borrow.Author.Tests.{ltb-true, ltb-false, leb-true, leb-false, eqb-true, eqb-false, lt-ltb, le-ltb, eq-eqb}
 use Rattle.lists.specs.Tabulate.{every}
 use Rattle.lists.proofs.Tabulated.{every-at, every-of, every-witness, every-ext}
 use Rattle.refusal.proofs.Orders.{Pass, no-fail, Says, SayAll, says-not}
@@ -17,7 +17,7 @@ use Rattle.refusal.proofs.Ranges.{outside-says}
 use Rattle.frame.specs.Demands.{BadChecks, shapeReasons, encodeReasons, frameReasons, sizeReason}
 use Rattle.frame.specs.Encode.{encodeTests, dataBelow}
 use Rattle.frame.specs.Frame.{cell, WellFormed, frameTests}
-use Rattle.frame.specs.Shape.{checksOf, shapeOf, shapeTests, isShape, rowsInRange, columnsInRange, checksInRange}
+use Rattle.frame.specs.Shape.{checksOf, shapeOf, shapeTests, isShape, rowsInRange, columnsInRange, checksInRange, exponentInRange}
 use Rattle.frame.specs.declared.Shape.{Shape}
 use Rattle.frame.proofs.ShapeTests.{countTest, count-taken}
 
@@ -45,18 +45,18 @@ bad-count n k e = pick (decLt k 1) (decLt 64 k) (decLt k n)
     pick (no a) (no b) (yes c) =
         absurd (false≢true (sym e ∙ count-taken n k (omega arith) (omega arith) c))
 
-pub shape-says : (n : ℕ) (checks : List ℕ) → SayAll (shapeTests n checks) (shapeReasons n checks)
-unfolding shapeTests rowsInRange columnsInRange checksInRange
-shape-says n checks = (
+pub shape-says : (n : ℕ) (checks : List ℕ) (b : ℕ) → SayAll (shapeTests n checks b) (shapeReasons n checks b)
+unfolding shapeTests rowsInRange columnsInRange checksInRange exponentInRange
+shape-says n checks b = (
   outside-says 2 1 8 (length checks),
   (
     outside-says 5 2 256 n,
     (
       says-not 6 (every (length checks) (λ h. countTest n (getD checks h 0)))
           ((h : ℕ) × (h < length checks) × BadChecks n (getD checks h 0))
-          (λ e (h, l, b). good-count n (getD checks h 0) (every-at (length checks) _ e h l) b)
-          (λ e. let (h, l, b) = every-witness (length checks) _ e in (h, l, bad-count n (getD checks h 0) b)),
-      tt,
+          (λ e (h, l, bad). good-count n (getD checks h 0) (every-at (length checks) _ e h l) bad)
+          (λ e. let (h, l, bad) = every-witness (length checks) _ e in (h, l, bad-count n (getD checks h 0) bad)),
+      (says-not 32 (leb b 255) (255 < b) (λ e l. let m = leb-true b 255 e in omega arith) (leb-false b 255), tt),
     ),
   ),
 )
@@ -107,12 +107,14 @@ frame-says s f = (
 
 -- ---- where the tests pass
 
-pub shape-passes : (n : ℕ) (checks : List ℕ) → Pass (shapeTests n checks) → isShape (shapeOf n checks) ≡ true
+pub shape-passes : (n : ℕ) (checks : List ℕ) (b : ℕ) → Pass (shapeTests n checks b) → isShape (shapeOf n checks b) ≡ true
 unfolding shapeTests isShape shapeOf checksInRange
-shape-passes n checks (r, (c, (k, u))) =
+shape-passes n checks b (r, (c, (k, (e, u)))) =
     ap₂ _&&_ (no-fail (rowsInRange (length checks)) r)
     (ap₂ _&&_ (no-fail (columnsInRange n) c)
-    (every-ext (length checks) _ (λ h. countTest n (getD checks h 0)) (λ h l. ap (countTest n) (List·getD-append checks _ 0 h l)) ∙ no-fail _ k))
+    (ap₂ _&&_
+    (every-ext (length checks) _ (λ h. countTest n (getD checks h 0)) (λ h l. ap (countTest n) (List·getD-append checks _ 0 h l)) ∙ no-fail _ k)
+    (no-fail (exponentInRange b) e)))
 
 pub frame-passes : (s : Shape) (f : List ℕ) → Pass (frameTests s f) → WellFormed s f
 unfolding frameTests

@@ -45,7 +45,7 @@ module _ (m : ℕ) (x cells : List ℕ) (fewer : m ≤ length x) (narrow : lengt
   pub part-small : ((k : ℕ) → Fits w16 (getD x k 0)) → (k : ℕ) → getD part k 0 < 65536
   part-small known k = pick (decLt k (length x))
     where
-      choose : (b : Bool) → cond b 0 (getD x k 0) < 65536
+      choose : (t : Bool) → cond t 0 (getD x k 0) < 65536
       choose true = omega arith
       choose false = let f = known k in omega arith
 
@@ -53,10 +53,10 @@ module _ (m : ℕ) (x cells : List ℕ) (fewer : m ≤ length x) (narrow : lengt
       pick (yes h) = rw (part-entry k h) (choose (ltb k m))
       pick (no h) = let e = List·getD-eq-default part 0 {n = k} (let l = length-part in omega arith) in omega arith
 
-  module _ (left y : List ℕ) (same : length left ≡ length part)
+  module _ (b : ℕ) (left y : List ℕ) (same : length left ≡ length part)
       (e : y ≡ tabulate (length x) (λ k. cond (ltb k m) ((257 - getD (putMid 0 (length x - 0) cells left) k 0 % 257) % 257) (getD x k 0))) where
     abbrev chosen : ℕ → Bool → ℕ
-    chosen k b = cond b ((257 - getD (putMid 0 (length x - 0) cells left) k 0 % 257) % 257) (getD x k 0)
+    chosen k t = cond t ((257 - getD (putMid 0 (length x - 0) cells left) k 0 % 257) % 257) (getD x k 0)
 
     entry : (k : ℕ) → k < length x → getD y k 0 ≡ chosen k (ltb k m)
     entry k h = ap (λ (l : List ℕ). getD l k 0) e ∙ getD-tabulate (length x) (λ k. chosen k (ltb k m)) k 0 h
@@ -71,20 +71,20 @@ module _ (m : ℕ) (x cells : List ℕ) (fewer : m ≤ length x) (narrow : lengt
     data-entry : (k : ℕ) → m ≤ k → k < length x → getD y k 0 ≡ getD x k 0
     data-entry k le h = entry k h ∙ ap (chosen k) (le-ltb k m le)
 
-    sum-zero : (j : ℕ) → checkSum m left (suc j) ≡ checkSum (length part) part (suc j) → checkSum (length x) y (suc j) ≡ 0
+    sum-zero : (j : ℕ) → checkSum b m left (suc j) ≡ checkSum b (length part) part (suc j) → checkSum b (length x) y (suc j) ≡ 0
     sum-zero j q =
-        sum-is-zero (length x) y j
-        (ap (λ n. rowSum n (symbols y) j) whole
-        ∙ remainder-put R257 (λ k. weightAt k j) m (length x - m) (symbols y) (symbols part) (symbols left) front
-        (λ k h. ap res257 (part-entry k (omega arith) ∙ ap (λ (b : Bool). cond b 0 (getD x k 0)) (lt-ltb k m h)) ∙ res-zero 257 prime-257)
+        sum-is-zero b (length x) y j
+        (ap (λ n. rowSum b n (symbols y) j) whole
+        ∙ remainder-put R257 (λ k. weightAt b k j) m (length x - m) (symbols y) (symbols part) (symbols left) front
+        (λ k h. ap res257 (part-entry k (omega arith) ∙ ap (λ (t : Bool). cond t 0 (getD x k 0)) (lt-ltb k m h)) ∙ res-zero 257 prime-257)
         (λ k h. ap res257 (data-entry (m + k) (omega arith) (omega arith) ∙ sym (data-cell (m + k) (omega arith) (omega arith))))
-        (sym (res-checkSum m left j) ∙ ap res257 q ∙ res-checkSum (length part) part j ∙ ap (λ n. rowSum n (symbols part) j) (length-part ∙ whole)))
+        (sym (res-checkSum b m left j) ∙ ap res257 q ∙ res-checkSum b (length part) part j ∙ ap (λ n. rowSum b n (symbols part) j) (length-part ∙ whole)))
       where
         whole : length x ≡ m + (length x - m)
         whole = omega arith
 
         data-cell : (k : ℕ) → m ≤ k → k < length x → getD part k 0 ≡ getD x k 0
-        data-cell k le h = part-entry k h ∙ ap (λ (b : Bool). cond b 0 (getD x k 0)) (le-ltb k m le)
+        data-cell k le h = part-entry k h ∙ ap (λ (t : Bool). cond t 0 (getD x k 0)) (le-ltb k m le)
 
         front : (k : ℕ) → k < m → symbols y k ≡ neg (symbols left k)
         front k h =
@@ -93,9 +93,9 @@ module _ (m : ℕ) (x cells : List ℕ) (fewer : m ≤ length x) (narrow : lengt
             ∙ ap neg (res-mod 257 prime-257 (getD left k 0))
 
     pub completed-by-remainder : ((k : ℕ) → m ≤ k → k < length x → getD x k 0 < 257)
-        → ((j : ℕ) → j < m → checkSum m left (suc j) ≡ checkSum (length part) part (suc j)) → y ≡ completed (length x) (firstColumns m) x
+        → ((j : ℕ) → j < m → checkSum b m left (suc j) ≡ checkSum b (length part) part (suc j)) → y ≡ completed b (length x) (firstColumns m) x
     completed-by-remainder small sums =
-        completed-only (length x) (firstColumns m) x narrow (λ i t. let l = has-first m i t in omega arith) y
+        completed-only b (length x) (firstColumns m) x narrow (λ i t. let l = has-first m i t in omega arith) y
         (ap length e ∙ length-tabulate (length x) (λ k. chosen k (ltb k m)))
         (λ i h. below i h (decLt i m))
         (λ i h f. data-entry i (ltb-false i m (sym (has-columnsOf (λ k. ltb k m) i (omega arith)) ∙ f)) h)

@@ -31,14 +31,14 @@ module _ (s : Shape) (f : List ℕ) (small : dataBelow s f ≡ true) (h : ℕ) (
       (ap (λ (b : Bool). b || ltb (cell n f h i) 257) (sym (le-ltb i (checksOf s h) le))
       ∙ every-at n _ (every-at (s .rows) _ small h less) i l)
 
-  pub row-small : (sets : ℕ → Columns) (frame : List ℕ) → RowsAtSets completed length-completed n (s .rows) sets f h frame → h * n + n ≤ length f
-      → (i : ℕ) → checksOf s h ≤ i → i < n → getD (midOf (h * n) (h * n + n - h * n) frame) i 0 < 257
+  pub row-small : (sets : ℕ → Columns) (frame : List ℕ) → RowsAtSets (completed (s .exponent)) (length-completed (s .exponent)) n (s .rows) sets f h frame
+      → h * n + n ≤ length f → (i : ℕ) → checksOf s h ≤ i → i < n → getD (midOf (h * n) (h * n + n - h * n) frame) i 0 < 257
   row-small sets frame a inside i le l =
       let same =
       getD-part (h * n) (h * n + n - h * n) frame i 0 (omega arith)
       ∙ ap (λ (e : List ℕ). cell n e h i) (a .entries) ∙ sym (row-cell n _ h i l)
       ∙ ap (λ (x : List ℕ). getD x i 0)
-      (eachRow-later n (λ h. completed n (sets h)) (λ h x. length-completed n (sets h) x) f h (omega arith) h (omega arith) inside)
+      (eachRow-later n (λ h. completed (s .exponent) n (sets h)) (λ h x. length-completed (s .exponent) n (sets h) x) f h (omega arith) h (omega arith) inside)
       ∙ row-cell n f h i l
       in
       let d = data-small i le l in

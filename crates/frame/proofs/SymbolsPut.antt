@@ -20,9 +20,9 @@ use Rattle.frame.proofs.ClosedForm.{symbolFor, symbols-sum}
 open CRing R257 using (car, zero as 𝟘, add as _⊕_, neg, add-neg)
 
 infixl 60 _⊕_
-module _ (n : ℕ) (J : Columns) (narrow : n ≤ 256) (below : Below n J) (x y : List ℕ) (x-size : length x ≡ n) (y-size : length y ≡ n)
+module _ (b n : ℕ) (J : Columns) (narrow : n ≤ 256) (below : Below n J) (x y : List ℕ) (x-size : length x ≡ n) (y-size : length y ≡ n)
     (outside : (i : ℕ) → i < n → has J i ≡ false → getD y i 0 ≡ getD x i 0)
-    (inside : (i : ℕ) → i < n → has J i ≡ true → getD y i 0 % 257 ≡ (getD x i 0 + symbolFor J (checkSum n x) (size J) i) % 257) where
+    (inside : (i : ℕ) → i < n → has J i ≡ true → getD y i 0 % 257 ≡ (getD x i 0 + symbolFor b J (checkSum b n x) (size J) i) % 257) where
   -- what is put into the columns of the set
   abbrev put : ℕ → car
   put i = symbols y i ⊕ neg (symbols x i)
@@ -34,20 +34,20 @@ module _ (n : ℕ) (J : Columns) (narrow : n ≤ 256) (below : Below n J) (x y :
       same (yes h) = outside i h f
       same (no h) = List·getD-eq-default y 0 (omega arith) ∙ sym (List·getD-eq-default x 0 (omega arith))
 
-  put-inside : (i : ℕ) → has J i ≡ true → put i ≡ res257 (symbolFor J (checkSum n x) (size J) i)
+  put-inside : (i : ℕ) → has J i ≡ true → put i ≡ res257 (symbolFor b J (checkSum b n x) (size J) i)
   put-inside i t =
-      let s : ℕ = symbolFor J (checkSum n x) (size J) i in
+      let s : ℕ = symbolFor b J (checkSum b n x) (size J) i in
       ap (λ c. c ⊕ neg (symbols x i)) (res-same 257 prime-257 (getD y i 0) (getD x i 0 + s) .1 (inside i (below i t) t) ∙ res-add 257 prime-257 (getD x i 0) s)
-      ∙ solve R257 (symbols x i ∷ res257 s ∷ []) (λ a b. a :+ b :- a := b) tt
+      ∙ solve R257 (symbols x i ∷ res257 s ∷ []) (λ a c. a :+ c :- a := c) tt
 
-  pub sums-gone : (j : ℕ) → j < size J → checkSum n y (suc j) ≡ 0
+  pub sums-gone : (j : ℕ) → j < size J → checkSum b n y (suc j) ≡ 0
   sums-gone j h = pick (size J) refl h
     where
-      pick : (m : ℕ) → size J ≡ m → j < m → checkSum n y (suc j) ≡ 0
+      pick : (m : ℕ) → size J ≡ m → j < m → checkSum b n y (suc j) ≡ 0
       pick zero e l = absurd (let z : ⊥ = omega arith in z)
       pick (suc d) e l =
-          sum-is-zero n y j
-          (solve R257 (rowSum n (symbols y) j ∷ rowSum n (symbols x) j ∷ rowSum n put j ∷ [])
+          sum-is-zero b n y j
+          (solve R257 (rowSum b n (symbols y) j ∷ rowSum b n (symbols x) j ∷ rowSum b n put j ∷ [])
           (λ c a p. :neg :1 :× p :≡ c :- a :⇒ :1 :× p :≡ :neg a :⇒ c := :0) tt
-          (rowSum-sub n (symbols y) (symbols x) j)
-          (symbols-sum J (checkSum n x) d e n narrow below put put-outside put-inside j l ∙ ap neg (res-checkSum n x j)))
+          (rowSum-sub b n (symbols y) (symbols x) j)
+          (symbols-sum b J (checkSum b n x) d e n narrow below put put-outside put-inside j l ∙ ap neg (res-checkSum b n x j)))

@@ -1,7 +1,7 @@
--- The weights of the columns in a check sum: each is a power of the column's locator, and that of column a + k is the product of those of a and of k. That of
--- column 1 in S_j is 3^j.
-use mathlib.Core.Path.{_≡_, sym, ap, ap₂, _∙_}
-use Prim.Native.Nat.{ℕ, suc, _+_, _*_, _%_, _^_}
+-- The weights of the columns in check sums that begin at the exponent b: each is a power of the column's locator, and that of column a + k is the product of
+-- those of a and of k. That of column 1 in S_j is 3^(b + j − 1).
+use mathlib.Core.Path.{_≡_, refl, sym, ap, ap₂, _∙_}
+use Prim.Native.Nat.{ℕ, suc, _+_, _-_, _*_, _%_, _^_}
 use native.Mathlib.Nat.{add-mul}
 use native.Mathlib.Omega.{arith}
 use lib.Pow.{pow-add}
@@ -10,48 +10,41 @@ use Rattle.algebra.specs.Sum.{pow}
 use Rattle.algebra.proofs.Powers.{pow-pow}
 use Rattle.field.proofs.Bridge.{res-mod, res-mul, res-pow}
 use Rattle.field.proofs.Prime257.{prime-257}
-use Rattle.field257.specs.Powers.{locatorOf, powerOf3}
+use Rattle.field257.specs.Powers.{powerOf3}
 use Rattle.field257.proofs.Field257.{R257, res257, locatorAt}
-use Rattle.field257.proofs.Locators.{power-mod}
 use Rattle.frame.specs.Frame.{weight}
 open CRing R257 using (mul as _⊗_)
 
 infixl 70 _⊗_
--- the exponent of a column's locator in the first check sum
-pub firstExponent : ℕ
-firstExponent = 1
-
 -- the power of column i's locator in check sum j + 1
-abbrev pub weightAt : (i j : ℕ) → R257 .car
-weightAt i j = pow R257 (locatorAt i) (firstExponent + j)
+abbrev pub weightAt : (b i j : ℕ) → R257 .car
+weightAt b i j = pow R257 (locatorAt i) (b + j)
 
--- what a weight is: all else that is proved of check sums and completion cites this law and does not look into `weight`
-pub res-weight : (i j : ℕ) → res257 (weight i (suc j)) ≡ weightAt i j
-unfolding firstExponent weight
-res-weight i j =
-    res-pow 257 prime-257 3 (i * suc j) ∙ pow-pow R257 (res257 3) i (suc j)
-    ∙ ap (pow R257 (locatorAt i)) (let q : suc j ≡ 1 + j = omega arith in q)
-
--- where it stands in the table of powers
-pub weight-power : (i j : ℕ) → weight i j % 257 ≡ powerOf3 ((i * j) % 256)
+-- a weight is the power of 3 that is looked up
+pub weight-is : (b i j : ℕ) → weight b i j % 257 ≡ powerOf3 (i * (b + j - 1))
 unfolding weight
-weight-power i j = power-mod (i * j)
+weight-is b i j = refl
 
--- that of a column in the first check sum is its locator
-pub weight-first : (i : ℕ) → weight i 1 % 257 ≡ locatorOf i
-weight-first i = weight-power i 1 ∙ ap (λ (e : ℕ). powerOf3 (e % 256)) (let q : i * 1 ≡ i = omega arith in q) ∙ sym (power-mod i)
+pub weight-power : (b i j : ℕ) → weight b i (suc j) % 257 ≡ powerOf3 (i * (b + j))
+weight-power b i j = weight-is b i (suc j) ∙ ap (λ (e : ℕ). powerOf3 (i * e)) (let q : b + suc j - 1 ≡ b + j = omega arith in q)
 
-pub weight-add : (i k j : ℕ) → weight (i + k) j ≡ weight i j * weight k j
+-- what a weight is in the field: all else that is proved of check sums and completion cites these laws and does not look into `weight`
+pub res-weight : (b i j : ℕ) → res257 (weight b i (suc j)) ≡ weightAt b i j
+res-weight b i j =
+    sym (res-mod 257 prime-257 (weight b i (suc j))) ∙ ap res257 (weight-power b i j) ∙ res-mod 257 prime-257 (3 ^ (i * (b + j)))
+    ∙ res-pow 257 prime-257 3 (i * (b + j)) ∙ pow-pow R257 (res257 3) i (b + j)
+
+weight-add : (b i k j : ℕ) → weight b (i + k) j ≡ weight b i j * weight b k j
 unfolding weight
-weight-add i k j = rw (add-mul i k j, pow-add 3 (i * j) (k * j))
+weight-add b i k j = rw (add-mul i k (b + j - 1), pow-add 3 (i * (b + j - 1)) (k * (b + j - 1)))
 
-pub weightAt-add : (j a k : ℕ) → weightAt (a + k) j ≡ weightAt a j ⊗ weightAt k j
-weightAt-add j a k =
-    sym (res-weight (a + k) j) ∙ ap res257 (weight-add a k (suc j)) ∙ res-mul 257 prime-257 (weight a (suc j)) (weight k (suc j))
-    ∙ ap₂ _⊗_ (res-weight a j) (res-weight k j)
+pub weightAt-add : (b j a k : ℕ) → weightAt b (a + k) j ≡ weightAt b a j ⊗ weightAt b k j
+weightAt-add b j a k =
+    sym (res-weight b (a + k) j) ∙ ap res257 (weight-add b a k (suc j)) ∙ res-mul 257 prime-257 (weight b a (suc j)) (weight b k (suc j))
+    ∙ ap₂ _⊗_ (res-weight b a j) (res-weight b k j)
 
 -- the root that a row has as a polynomial where check sum j + 1 is 0
-pub res-root : (j : ℕ) → res257 (powerOf3 (suc j)) ≡ weightAt 1 j
-unfolding weight
-res-root j =
-    res-mod 257 prime-257 (3 ^ suc j) ∙ ap (λ (e : ℕ). res257 (3 ^ e)) (let q : suc j ≡ 1 * suc j = omega arith in q) ∙ res-weight 1 j
+pub res-root : (b j : ℕ) → res257 (powerOf3 (b + j)) ≡ weightAt b 1 j
+res-root b j =
+    ap (λ (e : ℕ). res257 (powerOf3 e)) (let q : b + j ≡ 1 * (b + j) = omega arith in q) ∙ ap res257 (sym (weight-power b 1 j))
+    ∙ res-mod 257 prime-257 (weight b 1 (suc j)) ∙ res-weight b 1 j

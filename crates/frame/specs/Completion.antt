@@ -1,5 +1,5 @@
--- Completing a row at a set of columns: the symbols outside the set are kept, and those in the set become the ones with which the first check sums,
--- as many as the set has columns, are 0. What the row holds in the set before plays no part.
+-- Completing a row, whose check sums begin at the exponent b, at a set of columns: the symbols outside the set are kept, and those in the set become the
+-- ones with which the first check sums, as many as the set has columns, are 0. What the row holds in the set before plays no part.
 use mathlib.Core.Bool.{cond}
 use mathlib.Core.List.{List, [], _∷_}
 use Prim.Native.Nat.{ℕ, _-_, _*_, _%_}
@@ -26,13 +26,13 @@ cleared n J x = tabulate n (λ i. cond (has J i) 0 (getD x i 0))
 
 -- The symbol at a column i of the set J of m columns, S being the check sums of the cleared row. With λ the locator polynomial of the other columns,
 -- λ_0·S_m + .. + λ_(m−1)·S_1 leaves the part of column i alone, its symbol times its weight in S_m and λ(1 / X_i), since λ vanishes at the others.
-unfoldable pub completion : (n : ℕ) (J : Columns) (x : List ℕ) (i : ℕ) → ℕ
-completion n J x i =
+unfoldable pub completion : (b n : ℕ) (J : Columns) (x : List ℕ) (i : ℕ) → ℕ
+completion b n J x i =
     let m : ℕ = length (members J) in
     let others : List ℕ = locatorPolynomial (without i (members J)) in
-    let part : ℕ = total m (λ k. getD others k 0 * checkSum n (cleared n J x) (m - k)) % 257 in
-    let scale : ℕ = times 257 (weight i m % 257) (value 257 others (inverse 257 (locatorOf i))) in
+    let part : ℕ = total m (λ k. getD others k 0 * checkSum b n (cleared n J x) (m - k)) % 257 in
+    let scale : ℕ = times 257 (weight b i m % 257) (value 257 others (inverse 257 (locatorOf i))) in
     minus 257 0 (quotient 257 part scale)
 
-unfoldable pub completed : (n : ℕ) (J : Columns) (x : List ℕ) → List ℕ
-completed n J x = tabulate n (λ i. cond (has J i) (completion n J x i) (getD x i 0))
+unfoldable pub completed : (b n : ℕ) (J : Columns) (x : List ℕ) → List ℕ
+completed b n J x = tabulate n (λ i. cond (has J i) (completion b n J x i) (getD x i 0))

@@ -17,11 +17,12 @@ use Rattle.frame.specs.declared.Shape.{Shape}
 abbrev pub BadChecks : (n k : ℕ) → Type 0
 BadChecks n k = (k < 1) ⊎ ((64 < k) ⊎ (n ≤ k))
 
-abbrev pub shapeReasons : (n : ℕ) (checks : List ℕ) → List Reason
-shapeReasons n checks =
+abbrev pub shapeReasons : (n : ℕ) (checks : List ℕ) (b : ℕ) → List Reason
+shapeReasons n checks b =
     record { number = 2; holds = (length checks < 1) ⊎ (8 < length checks) } ∷
     record { number = 5; holds = (n < 2) ⊎ (256 < n) } ∷
     record { number = 6; holds = (h : ℕ) × (h < length checks) × BadChecks n (getD checks h 0) } ∷
+    record { number = 32; holds = 255 < b } ∷
     []
 
 abbrev pub sizeReason : Shape → (f : List ℕ) → Reason
@@ -42,7 +43,8 @@ abbrev pub frameReasons : Shape → (f : List ℕ) → List Reason
 frameReasons s f = sizeReason s f ∷ record { number = 4; holds = (k : ℕ) × (k < length f) × (257 ≤ getD f k 0) } ∷ []
 
 pub record Demand1 : Type 0 where
-  pub shape : (n : ℕ) (checks : List ℕ) (k : ℕ) → (outcome (shapeTests n checks) ≡ refused k) ↔ First k (shapeReasons n checks)
+  pub shape :
+      (n : ℕ) (checks : List ℕ) (b k : ℕ) → (outcome (shapeTests n checks b) ≡ refused k) ↔ First k (shapeReasons n checks b)
   pub encode : (s : Shape) (f : List ℕ) (k : ℕ) → (outcome (encodeTests s f) ≡ refused k) ↔ First k (encodeReasons s f)
   pub frame : (s : Shape) (f : List ℕ) (k : ℕ) → (outcome (frameTests s f) ≡ refused k) ↔ First k (frameReasons s f)
 

@@ -24,7 +24,8 @@ eachRow n g zero f = f
 eachRow n g (suc h) f = let e : List ℕ = eachRow n g h f in withRow n e h (g h (row n e h))
 
 unfoldable pub encoded : Shape → (f : List ℕ) → List ℕ
-encoded s f = eachRow (s .columns) (λ h. completed (s .columns) (columnsOf (λ i. ltb i (checksOf s h)))) (s .rows) f
+encoded s f =
+    eachRow (s .columns) (λ h. completed (s .exponent) (s .columns) (columnsOf (λ i. ltb i (checksOf s h)))) (s .rows) f
 
 -- whether every data cell holds a symbol below 257
 unfoldable pub dataBelow : Shape → (f : List ℕ) → Bool

@@ -23,21 +23,22 @@ row n f h = take n (drop (h * n) f)
 abbrev pub cell : (n : ℕ) (f : List ℕ) (h i : ℕ) → ℕ
 cell n f h i = getD f (h * n + i) 0
 
--- what the symbol at column i counts in check sum j: its locator to the power j
-unfoldable pub weight : (i j : ℕ) → ℕ
-weight i j = 3 ^ (i * j)
+-- What the symbol at column i counts in check sum j, counted from 1: the column's locator to the power b + j − 1, where the check sums begin at the
+-- exponent b.
+unfoldable pub weight : (b i j : ℕ) → ℕ
+weight b i j = 3 ^ (i * (b + j - 1))
 
 -- the check sum S_j of a row x of n columns
-unfoldable pub checkSum : (n : ℕ) (x : List ℕ) (j : ℕ) → ℕ
-checkSum n x j = total n (λ i. getD x i 0 * weight i j) % 257
+unfoldable pub checkSum : (b n : ℕ) (x : List ℕ) (j : ℕ) → ℕ
+checkSum b n x j = total n (λ i. getD x i 0 * weight b i j) % 257
 
 -- the check sums S_1 .. S_m of a row
-unfoldable pub checkSums : (n m : ℕ) (x : List ℕ) → List ℕ
-checkSums n m x = tabulate m (λ j. checkSum n x (suc j))
+unfoldable pub checkSums : (b n m : ℕ) (x : List ℕ) → List ℕ
+checkSums b n m x = tabulate m (λ j. checkSum b n x (suc j))
 
 -- the check sums of row h of a frame, as many as the row has checks
 unfoldable pub rowSums : Shape → (f : List ℕ) (h : ℕ) → List ℕ
-rowSums s f h = checkSums (s .columns) (checksOf s h) (row (s .columns) f h)
+rowSums s f h = checkSums (s .exponent) (s .columns) (checksOf s h) (row (s .columns) f h)
 
 -- the sequences of a frame: the check sums of each row
 unfoldable pub sequences : Shape → (f : List ℕ) → List (List ℕ)
@@ -69,7 +70,8 @@ frameTests s f =
 
 -- every check sum of every row is 0
 abbrev pub Codeword : Shape → (f : List ℕ) → Type 0
-Codeword s f = (h j : ℕ) → h < s .rows → 1 ≤ j → j ≤ checksOf s h → checkSum (s .columns) (row (s .columns) f h) j ≡ 0
+Codeword s f =
+    (h j : ℕ) → h < s .rows → 1 ≤ j → j ≤ checksOf s h → checkSum (s .exponent) (s .columns) (row (s .columns) f h) j ≡ 0
 
 -- the specification's term: a frame that the encoder may send
 pub record Legal (s : Shape) (f : List ℕ) : Type 0 where

@@ -19,6 +19,7 @@ pub fn empty() -> Head
         rows: 0,
         columns: 0,
         checks,
+        exponent: 0,
     };
     let columns = columns::empty();
     Head {

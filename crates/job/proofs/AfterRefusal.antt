@@ -28,7 +28,7 @@ late-among b k (t ∷ ts) l (inr a) = late-among b k ts (l .1) a
 
 keeping-early : (j : Job) (c : Call) → AllLate false (describe j c .keeping)
 unfolding late shapeTests encodeTests readTests rereadTests
-keeping-early j (shape n checks) = (refl, (refl, (refl, tt)))
+keeping-early j (shape n checks b) = (refl, (refl, (refl, (refl, tt))))
 keeping-early j (encode f) = (refl, (refl, (refl, tt)))
 keeping-early j (locate words f) = (refl, (refl, (refl, (refl, tt))))
 keeping-early j (repair f) = (refl, (refl, (refl, (refl, (refl, tt)))))
@@ -38,7 +38,7 @@ early-number j c k = late-among false k (describe j c .keeping) (keeping-early j
 
 shaping-late : (j : Job) (c : Call) → AllLate true (describe j c .shaping)
 unfolding late registerTests
-shaping-late j (shape n checks) = tt
+shaping-late j (shape n checks b) = tt
 shaping-late j (encode f) = tt
 shaping-late j (locate words f) = (refl, (refl, (refl, tt)))
 shaping-late j (repair f) = tt
@@ -55,7 +55,7 @@ never-done : {k : ℕ} → done ≡ refused k → ⊥
 never-done e = let z : _≡_ {A = ℕ} 0 1 = cc in omega arith
 
 pub gives-no-refusal : (j : Job) (c : Call) {k : ℕ} → describe j c .gives .answer ≡ refused k → ⊥
-gives-no-refusal j (shape n checks) = never-done
+gives-no-refusal j (shape n checks b) = never-done
 gives-no-refusal j (encode f) = never-done
 gives-no-refusal j (locate words f) = never-columns
 gives-no-refusal j (repair f) = never-columns
@@ -63,7 +63,7 @@ gives-no-refusal j (repair f) = never-columns
 -- ---- what is left
 
 lent-frame : (j : Job) (c : Call) → describe j c .lent ≡ lentTo c
-lent-frame j (shape n checks) = refl
+lent-frame j (shape n checks b) = refl
 lent-frame j (encode f) = refl
 lent-frame j (locate words f) = refl
 lent-frame j (repair f) = refl

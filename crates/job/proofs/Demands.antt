@@ -91,12 +91,12 @@ module _ (a : Arrays) (calls : List Call) (f : List ℕ) where
       ))
 
 shape-gives : ShapeGives
-shape-gives a calls n checks =
-    by-call (run a calls) (shape n checks)
-    (λ o. Taken o → (s : Shape) × Given n checks s × (o .answer ≡ done) × LeftShaped s (run a calls .arrays) (o .job))
+shape-gives a calls n checks b =
+    by-call (run a calls) (shape n checks b)
+    (λ o. Taken o → (s : Shape) × Given n checks b s × (o .answer ≡ done) × LeftShaped s (run a calls .arrays) (o .job))
     (λ k m taken. absurd (taken (k, refl))) (λ k p m. absurd m) (λ p q taken. (
-      shapeOf n checks,
-      shape-given n checks p,
+      shapeOf n checks b,
+      shape-given n checks b p,
       refl,
       record { phase = refl; shape = refl; columns = refl; arrays = refl },
     ))

@@ -69,13 +69,13 @@ module _ (s : Shape) (D : Declared) (f : List ℕ) where
 
 -- a call that may leave the job shaped tests first that it is not empty
 shaped-before : (j : Job) (c : Call) (k : ℕ) → Pass (describe j c .keeping) → Among k (describe j c .shaping) → isShape (j .head .shape) ≡ true
-shaped-before j (shape n checks) k p a = absurd a
+shaped-before j (shape n checks b) k p a = absurd a
 shaped-before j (encode f) k p a = absurd a
 shaped-before j (locate words f) k p a = has-shape (j .head) (p .0)
 shaped-before j (repair f) k p a = absurd a
 
 gives-form : (j : Job) (c : Call) → Form j → Pass (describe j c .keeping) → Pass (describe j c .shaping) → Form (describe j c .gives .job)
-gives-form j (shape n checks) form p q = shaped (shapeOf n checks) (j .arrays) (shape-passes n checks p)
+gives-form j (shape n checks b) form p q = shaped (shapeOf n checks b) (j .arrays) (shape-passes n checks b p)
 gives-form j (encode f) form p q = form
 gives-form j (locate words f) form (e, p) q =
     let s : Shape = j .head .shape in

@@ -59,7 +59,7 @@ module _ (a : Arrays) (calls : List Call) (back : IsBack a calls (run a calls)) 
   j = run a calls
 
   gives-back : (c : Call) → step j c ≡ describe j c .gives → IsBack a (calls ++ (c ∷ [])) (describe j c .gives .job)
-  gives-back (shape n checks) e l = absurd (false≢true l)
+  gives-back (shape n checks b) e l = absurd (false≢true l)
   gives-back (encode f) e l = still-back a calls (j .arrays .declared) (back l) (encode f) (inl (f, refl))
   gives-back (locate words f) e l = record {
     before = calls;

@@ -15,17 +15,17 @@ use Rattle.job.proofs.AfterRefusal.{gives-no-refusal}
 use Rattle.job.proofs.Cases.{by-call, step-gives}
 use Rattle.job.proofs.Left.{shape-given}
 
-taken-shape : (j : Job) (n : ℕ) (checks : List ℕ) → Taken (step j (shape n checks)) → Pass (shapeTests n checks)
-taken-shape j n checks =
-    by-call j (shape n checks) (λ o. Taken o → Pass (shapeTests n checks)) (λ k a taken. absurd (taken (k, refl))) (λ k p a. absurd a) (λ p q taken. p)
+taken-shape : (j : Job) (n : ℕ) (checks : List ℕ) (b : ℕ) → Taken (step j (shape n checks b)) → Pass (shapeTests n checks b)
+taken-shape j n checks b =
+    by-call j (shape n checks b) (λ o. Taken o → Pass (shapeTests n checks b)) (λ k a taken. absurd (taken (k, refl))) (λ k p a. absurd a) (λ p q taken. p)
 
 -- a call that is no shape call, or a refused one, leaves the shape
 kept-shape : (s : Option Shape) (j : Job) (c : Call) → (IsShapeCall c → IsRefused (step j c)) → shapeAfter s c ≡ s
-kept-shape s j (shape n checks) refusal =
-    by-tests (λ k. s) (some (shapeOf n checks)) (λ o. o ≡ s) (shapeTests n checks) (λ k a. refl)
+kept-shape s j (shape n checks b) refusal =
+    by-tests (λ k. s) (some (shapeOf n checks b)) (λ o. o ≡ s) (shapeTests n checks b) (λ k a. refl)
     (λ p.
-    let (k, e) = refusal (n, checks, refl) in
-    absurd (gives-no-refusal j (shape n checks) (ap (λ o. o .answer) (sym (step-gives j (shape n checks) p tt)) ∙ e)))
+    let (k, e) = refusal (n, checks, b, refl) in
+    absurd (gives-no-refusal j (shape n checks b) (ap (λ o. o .answer) (sym (step-gives j (shape n checks b) p tt)) ∙ e)))
 kept-shape s j (encode f) refusal = refl
 kept-shape s j (locate words f) refusal = refl
 kept-shape s j (repair f) refusal = refl
@@ -40,17 +40,17 @@ unfolding lastShapeFrom
 shapes-append s [] after = refl
 shapes-append s (c ∷ cs) after = shapes-append (shapeAfter s c) cs after
 
-given-last : (a : Arrays) (before after : List Call) (n : ℕ) (checks : List ℕ) → Taken (afterCalls a before (shape n checks))
-    → NoneShapes (run a (before ++ (shape n checks ∷ []))) after
-    → (s : Shape) × Given n checks s × (lastShape (before ++ (shape n checks ∷ after)) ≡ some s)
+given-last : (a : Arrays) (before after : List Call) (n : ℕ) (checks : List ℕ) (b : ℕ) → Taken (afterCalls a before (shape n checks b))
+    → NoneShapes (run a (before ++ (shape n checks b ∷ []))) after
+    → (s : Shape) × Given n checks b s × (lastShape (before ++ (shape n checks b ∷ after)) ≡ some s)
 unfolding lastShapeFrom
-given-last a before after n checks taken refusals =
-    let p = taken-shape (run a before) n checks taken in (
-      shapeOf n checks,
-      shape-given n checks p,
-      shapes-append none before (shape n checks ∷ after)
-          ∙ ap (λ s. lastShapeFrom s after) (pass-otherwise (λ k. lastShape before) (some (shapeOf n checks)) (shapeTests n checks) p)
-          ∙ none-shapes (some (shapeOf n checks)) (run a (before ++ (shape n checks ∷ []))) after refusals,
+given-last a before after n checks b taken refusals =
+    let p = taken-shape (run a before) n checks b taken in (
+      shapeOf n checks b,
+      shape-given n checks b p,
+      shapes-append none before (shape n checks b ∷ after)
+          ∙ ap (λ s. lastShapeFrom s after) (pass-otherwise (λ k. lastShape before) (some (shapeOf n checks b)) (shapeTests n checks b) p)
+          ∙ none-shapes (some (shapeOf n checks b)) (run a (before ++ (shape n checks b ∷ []))) after refusals,
     )
 
 pub shape-is-last : ShapeIsLast

@@ -20,14 +20,15 @@ use Rattle.lists.proofs.Tabulated.{every-at}
 use Rattle.refusal.proofs.Orders.{Pass}
 use Rattle.job.specs.Left.{Given, HoldsSums, HoldsTaps}
 
-pub shape-given : (n : ℕ) (checks : List ℕ) → Pass (shapeTests n checks) → Given n checks (shapeOf n checks)
+pub shape-given : (n : ℕ) (checks : List ℕ) (b : ℕ) → Pass (shapeTests n checks b) → Given n checks b (shapeOf n checks b)
 unfolding shapeOf
-shape-given n checks p = record {
+shape-given n checks b p = record {
   rows = refl;
   columns = refl;
-  each = given-checks n checks;
-  rest = no-checks n checks;
-  places = eight-places n checks (shape-ranges (shapeOf n checks) (shape-passes n checks p) .rows-most);
+  each = given-checks n checks b;
+  rest = no-checks n checks b;
+  places = eight-places n checks b (shape-ranges (shapeOf n checks b) (shape-passes n checks b p) .rows-most);
+  exponent = refl;
 }
 
 pub sums-held : (s : Shape) (f : List ℕ) → isShape s ≡ true → HoldsSums s f (heldSums s f)

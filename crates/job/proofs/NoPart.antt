@@ -75,11 +75,11 @@ module _ (h : Head) (a b : Arrays) (none : isLocatedPhase (h .phase) ≡ false) 
 
   -- of the calls only repair reads an array, and the refusal 22 comes before it does
   same-call : (c : Call) → SameCall (describe i c) (describe j c)
-  same-call (shape n checks) = record {
+  same-call (shape n checks b) = record {
     lent = refl;
-    keeping = same-tests (shapeTests n checks);
+    keeping = same-tests (shapeTests n checks b);
     shaping = tt;
-    gives = λ p. record { answer = refl; marks = refl; frame = refl; job = shaped-alike (shapeOf n checks) };
+    gives = λ p. record { answer = refl; marks = refl; frame = refl; job = shaped-alike (shapeOf n checks b) };
   }
   same-call (encode f) = record {
     lent = refl;

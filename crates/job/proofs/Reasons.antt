@@ -149,7 +149,7 @@ module _ (s : Shape) (D : Declared) (f : List ℕ) (t : isShape s ≡ true) wher
 -- ---- the calls
 
 pub keeping-says : (j : Job) (c : Call) → SayAll (describe j c .keeping) (reasons j c .keeping)
-keeping-says j (shape n checks) = shape-says n checks
+keeping-says j (shape n checks b) = shape-says n checks b
 keeping-says j (encode f) = (empty-says j, encode-says (j .head .shape) f)
 keeping-says j (locate words f) = (empty-says j, read-says (j .head .shape) (declaredBy words) f)
 keeping-says j (repair f) = (
@@ -162,7 +162,7 @@ keeping-says j (repair f) = (
 )
 
 pub shaping-says : (j : Job) (c : Call) → Pass (describe j c .keeping) → SayInTurn (describe j c .shaping) (reasons j c .shaping)
-shaping-says j (shape n checks) p = tt
+shaping-says j (shape n checks b) p = tt
 shaping-says j (encode f) p = tt
 shaping-says j (locate words f) (e, p) =
     let s : Shape = j .head .shape in

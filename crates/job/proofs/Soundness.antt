@@ -54,7 +54,7 @@ module _ (j : Job) (c : Call) where
 
 shape-step : (j : Job) (c : Call) → shapeHeld (step j c .job) ≡ shapeAfter (shapeHeld j) c
 unfolding step
-shape-step j (shape n checks) = firstOf-map (λ o. shapeHeld (o .job)) (refusing j []) (shapeTests n checks) (shapes (j .arrays) n checks)
+shape-step j (shape n checks b) = firstOf-map (λ o. shapeHeld (o .job)) (refusing j []) (shapeTests n checks b) (shapes (j .arrays) n checks b)
 shape-step j (encode f) = kept-shape j (encode f) (λ k p a. absurd a) (λ p. refl)
 shape-step j (locate words f) = kept-shape j (locate words f) (λ k p a. p .0) (λ p. sym (not-empty-held j (p .0)))
 shape-step j (repair f) = kept-shape j (repair f) (λ k p a. absurd a) (λ p. sym (not-empty-held j (p .0)))

@@ -35,5 +35,5 @@ module _ (s : Shape) (shape : isShape s ≡ true) (words : List ℕ) (nothing : 
       ap₂ _&&_ (nothing-declarable s shape words nothing) (reach-none s shape D (rows-unmarked s shape words nothing) c ∙ reach)
 
   pub whole-mended : (M : Columns) (f : List ℕ) → Sound M
-      → eachRow (s .columns) (λ h. completed (s .columns) M) (s .rows) f ≡ mended s (declaredBy words) M f
+      → eachRow (s .columns) (λ h. completed (s .exponent) (s .columns) M) (s .rows) f ≡ mended s (declaredBy words) M f
   whole-mended M f four = sym (mended-none s shape D (rows-unmarked s shape words nothing) M f four)

@@ -19,7 +19,7 @@ use Rattle.job.specs.Job.{Arrays, Job, noColumns, shapedJob, locatedJob,
 
 -- the calls, with what is lent; to locate, 32 words of declared cells besides
 pub data Call : Type 0 where
-  shape : (n : ℕ) (checks : List ℕ) → Call
+  shape : (n : ℕ) (checks : List ℕ) (b : ℕ) → Call
   encode : (frame : List ℕ) → Call
   locate : (declared frame : List ℕ) → Call
   repair : (frame : List ℕ) → Call
@@ -86,8 +86,8 @@ registerTests s D S =
 
 -- ---- what is given
 
-abbrev pub shapes : Arrays → (n : ℕ) (checks : List ℕ) → Outcome
-shapes a n checks = record { answer = done; marks = noColumns; job = shapedJob (shapeOf n checks) a; frame = [] }
+abbrev pub shapes : Arrays → (n : ℕ) (checks : List ℕ) (b : ℕ) → Outcome
+shapes a n checks b = record { answer = done; marks = noColumns; job = shapedJob (shapeOf n checks b) a; frame = [] }
 
 abbrev pub encodes : Job → (f : List ℕ) → Outcome
 encodes j f = record { answer = done; marks = noColumns; job = j; frame = encoded (j .head .shape) f }
@@ -118,8 +118,8 @@ repairs j f =
 -- ---- the calls
 
 abbrev pub describe : Job → Call → Described
-describe j (shape n checks) =
-    record { lent = []; keeping = shapeTests n checks; shaping = []; gives = shapes (j .arrays) n checks }
+describe j (shape n checks b) =
+    record { lent = []; keeping = shapeTests n checks b; shaping = []; gives = shapes (j .arrays) n checks b }
 describe j (encode f) =
     record { lent = f; keeping = emptyTest j ∷ encodeTests (j .head .shape) f; shaping = []; gives = encodes j f }
 describe j (locate words f) =

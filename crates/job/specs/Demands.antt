@@ -41,19 +41,19 @@ pub record Reached (a : Arrays) (calls : List Call) : Type 0 where
 -- where every shape call is refused.
 pub record ShapeIsLast : Type 0 where
   pub given :
-      (a : Arrays) (before after : List Call) (n : ℕ) (checks : List ℕ) → Taken (afterCalls a before (shape n checks)) →
-      NoneShapes (run a (before ++ (shape n checks ∷ []))) after →
-      (s : Shape) × Given n checks s × (lastShape (before ++ (shape n checks ∷ after)) ≡ some s)
+      (a : Arrays) (before after : List Call) (n : ℕ) (checks : List ℕ) (b : ℕ) → Taken (afterCalls a before (shape n checks b)) →
+      NoneShapes (run a (before ++ (shape n checks b ∷ []))) after →
+      (s : Shape) × Given n checks b s × (lastShape (before ++ (shape n checks b ∷ after)) ≡ some s)
   pub none : (a : Arrays) (calls : List Call) → NoneShapes (emptyJob a) calls → lastShape calls ≡ none
 
 -- ---- shape and encode
 
--- A shape call that is not refused leaves the job shaped, with the rows, columns and checks that are given.
+-- A shape call that is not refused leaves the job shaped, with the rows, columns, checks and exponent that are given.
 abbrev pub ShapeGives : Type 0
 ShapeGives =
-    (a : Arrays) (calls : List Call) (n : ℕ) (checks : List ℕ) → Taken (afterCalls a calls (shape n checks)) →
-    (s : Shape) × Given n checks s × (afterCalls a calls (shape n checks) .answer ≡ done) ×
-    LeftShaped s (run a calls .arrays) (afterCalls a calls (shape n checks) .job)
+    (a : Arrays) (calls : List Call) (n : ℕ) (checks : List ℕ) (b : ℕ) → Taken (afterCalls a calls (shape n checks b)) →
+    (s : Shape) × Given n checks b s × (afterCalls a calls (shape n checks b) .answer ≡ done) ×
+    LeftShaped s (run a calls .arrays) (afterCalls a calls (shape n checks b) .job)
 
 -- Demand 2 of the encoder. An encode of the frame f that is not refused leaves the only legal frame that has the data of f, and the job as it was.
 pub record Encoded (s : Shape) (f : List ℕ) (before : Job) (after : Outcome) : Type 0 where

@@ -49,7 +49,11 @@ noColumns = columnsOf (λ i. false)
 
 abbrev pub emptyHead : Head
 emptyHead =
-    record { phase = Empty; shape = record { rows = 0; columns = 0; checks = replicate 8 0 }; columns = noColumns }
+    record {
+      phase = Empty;
+      shape = record { rows = 0; columns = 0; checks = replicate 8 0; exponent = 0 };
+      columns = noColumns;
+    }
 
 abbrev pub shapedHead : Shape → Head
 shapedHead s = record { phase = Shaped; shape = s; columns = noColumns }

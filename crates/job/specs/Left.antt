@@ -13,13 +13,15 @@ use Rattle.frame.specs.declared.Shape.{Shape}
 use Rattle.job.specs.Job.{Arrays, Job, noColumns}
 use Rattle.job.specs.declared.Phase.the-variants.{Shaped, Located}
 
--- The shape has n columns, a row for each of the check counts, and in each row the checks given for it. The places of the rows that it does not have hold 0.
-pub record Given (n : ℕ) (checks : List ℕ) (s : Shape) : Type 0 where
+-- The shape has n columns, a row for each of the check counts, in each row the checks given for it, and check sums that begin at the exponent b. The places
+-- of the rows that it does not have hold 0.
+pub record Given (n : ℕ) (checks : List ℕ) (b : ℕ) (s : Shape) : Type 0 where
   pub rows : s .rows ≡ length checks
   pub columns : s .columns ≡ n
   pub each : (h : ℕ) → h < length checks → checksOf s h ≡ getD checks h 0
   pub rest : (h : ℕ) → length checks ≤ h → checksOf s h ≡ 0
   pub places : length (s .checks) ≡ 8
+  pub exponent : s .exponent ≡ b
 
 -- the job is shaped, with the shape s; nothing is marked, and the arrays are as before
 pub record LeftShaped (s : Shape) (before : Arrays) (j : Job) : Type 0 where
@@ -30,7 +32,7 @@ pub record LeftShaped (s : Shape) (before : Arrays) (j : Job) : Type 0 where
 
 -- the check sum S_j of row h of a frame
 abbrev pub sumOf : Shape → (f : List ℕ) (h j : ℕ) → ℕ
-sumOf s f h j = checkSum (s .columns) (row (s .columns) f h) j
+sumOf s f h j = checkSum (s .exponent) (s .columns) (row (s .columns) f h) j
 
 -- the check sums of f, row after row, then zeros up to 512 entries
 pub record HoldsSums (s : Shape) (f sums : List ℕ) : Type 0 where

@@ -85,7 +85,7 @@ pub record Reasons : Type 1 where
   pub shaping : List Reason
 
 abbrev pub reasons : Job → Call → Reasons
-reasons j (shape n checks) = record { keeping = shapeReasons n checks; shaping = [] }
+reasons j (shape n checks b) = record { keeping = shapeReasons n checks b; shaping = [] }
 reasons j (encode f) = record { keeping = emptyReason j ∷ encodeReasons (j .head .shape) f; shaping = [] }
 reasons j (locate words f) =
     let s : Shape = j .head .shape in
@@ -100,7 +100,7 @@ reasons j (repair f) =
 
 -- the frame that is lent to a call, none to shape
 abbrev pub lentTo : Call → List ℕ
-lentTo (shape n checks) = []
+lentTo (shape n checks b) = []
 lentTo (encode f) = f
 lentTo (locate words f) = f
 lentTo (repair f) = f

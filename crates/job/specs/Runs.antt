@@ -35,7 +35,7 @@ Taken o = IsRefused o → ⊥
 
 -- the shape that a job has after the call: that of a shape call that is not refused, whatever the job, and after every other call the one given
 abbrev pub shapeAfter : Option Shape → Call → Option Shape
-shapeAfter s (shape n checks) = firstOf (λ k. s) (shapeTests n checks) (some (shapeOf n checks))
+shapeAfter s (shape n checks b) = firstOf (λ k. s) (shapeTests n checks b) (some (shapeOf n checks b))
 shapeAfter s (encode f) = s
 shapeAfter s (locate words f) = s
 shapeAfter s (repair f) = s
@@ -51,7 +51,7 @@ lastShape calls = lastShapeFrom none calls
 -- ---- calls that change little
 
 abbrev pub IsShapeCall : Call → Type 0
-IsShapeCall c = (n : ℕ) × (checks : List ℕ) × (c ≡ shape n checks)
+IsShapeCall c = (n : ℕ) × (checks : List ℕ) × (b : ℕ) × (c ≡ shape n checks b)
 
 -- calls from the job j on, each shape call among them refused
 abbrev pub NoneShapes : Job → List Call → Type 0

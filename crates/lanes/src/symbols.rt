@@ -8,32 +8,44 @@ use field::residue::difference;
 use field257::inverses::inverse;
 use field257::locator::locator_polynomial;
 use field257::montgomery::companion;
-use field257::powers::entry;
+use field257::powers::power_of_3;
 use field257::powers::powers;
+use field257::powers::wide;
 use field257::values::times;
 ghost use mathlib.Core.Path.{_≡_};
-ghost use mathlib.Core.List.{map};
 ghost use Prim.Native.Nat.{ℕ, _≤_};
 ghost use lib.ListN.{length, getD};
 ghost use Rattle.columns.specs.Columns.{members};
 ghost use Rattle.field257.specs.Montgomery.{companion as companionOf};
-ghost use Rattle.field257.specs.Powers.{locatorOf};
-ghost use Rattle.field257.specs.Table.{table};
-ghost use Rattle.lanes.specs.Symbols.{ReadableSet, symbolOf, symbolsIn, symbolsOf};
+ghost use Rattle.lanes.specs.Symbols.{Listable, ReadableSet, locatorsTo, symbolOf, symbolsIn, symbolsOf};
 ghost use Rattle.lists.specs.Tabulate.{tabulate};
 
-// The locators of the columns, and zeros after them.
-fn locators(powers: &[u16; 256], set: Columns) -> [u16; 64]
-    requires { ⌜ (now powers ≡ table) × (length (members set) ≤ 64) ⌝ }
-    ensures { λ r. ⌜ ((k : ℕ) → getD r k 0 ≡ getD (map locatorOf (members set)) k 0) ⌝ }
+// The columns of the set, rising, and zeros after them.
+fn listed(set: Columns) -> [u16; 64]
+    requires { ⌜ length (members set) ≤ 64 ⌝ }
+    ensures { λ r. ⌜ ((k : ℕ) → getD r k 0 ≡ getD (members set) k 0) ⌝ }
 {
-    let mut x = [0u16; 64];
+    let mut list = [0u16; 64];
     let mut k = 0;
     let mut i = next(set, 0);
     while i < 256 {
-        x[k] = entry(powers, i) as u16;
+        list[k] = i as u16;
         k += 1;
         i = next(set, i + 1);
+    }
+    list
+}
+
+// The locators of the first m columns of the list to the power e, and zeros after them.
+fn locators_to(powers: &[u16; 256], m: usize, list: &[u16; 64], e: u32) -> [u16; 64]
+    requires { ⌜ Listable (now powers) m e ⌝ }
+    ensures { λ r. ⌜ ((k : ℕ) → getD r k 0 ≡ getD (locatorsTo m (now (list .entry)) e) k 0) ⌝ }
+{
+    let mut x = [0u16; 64];
+    let mut k = 0;
+    while k < m {
+        x[k] = power_of_3(powers, wide(list[k]) * e);
+        k += 1;
     }
     x
 }
@@ -58,30 +70,32 @@ fn symbol(weight: u16, value: u16, total: u32) -> u16
     ((total % 257) * factor % 257) as u16
 }
 
-// The symbols of the lanes of m columns with these locators, and zeros after them.
-fn divided(m: usize, x: &[u16; 64], lanes: Lanes) -> [u16; 64]
+// The symbols of the lanes of m columns with these weights, and zeros after them.
+fn divided(m: usize, weights: &[u16; 64], lanes: Lanes) -> [u16; 64]
     requires { ⌜ m ≤ 64 ⌝ }
-    ensures { λ r. ⌜ ((k : ℕ) → getD r k 0 ≡ getD (symbolsIn m (now (x .entry)) lanes) k 0) ⌝ }
+    ensures { λ r. ⌜ ((k : ℕ) → getD r k 0 ≡ getD (symbolsIn m (now (weights .entry)) lanes) k 0) ⌝ }
 {
     let mut symbols = [0u16; 64];
     let mut k = 0;
     while k < m {
-        symbols[k] = symbol(x[k], lanes.values[k], lanes.totals[k]);
+        symbols[k] = symbol(weights[k], lanes.values[k], lanes.totals[k]);
         k += 1;
     }
     symbols
 }
 
-// The symbols of the columns of the set, rising, and zeros after them.
-pub fn symbols(set: Columns, sums: &[u16]) -> [u16; 64]
-    requires { ⌜ ReadableSet set (now sums) ⌝ }
-    ensures { λ r. ⌜ ((k : ℕ) → getD r k 0 ≡ getD (symbolsOf set (now (sums .entry))) k 0) ⌝ }
+// The symbols of the columns of the set, rising, and zeros after them. The sums begin at the exponent b.
+pub fn symbols(b: u32, set: Columns, sums: &[u16]) -> [u16; 64]
+    requires { ⌜ ReadableSet b set (now sums) ⌝ }
+    ensures { λ r. ⌜ ((k : ℕ) → getD r k 0 ≡ getD (symbolsOf b set (now (sums .entry))) k 0) ⌝ }
 {
     let powers = powers();
     let m = size(set);
     let f = locator_polynomial(&powers, set);
-    let x = locators(&powers, set);
+    let list = listed(set);
+    let x = locators_to(&powers, m, &list, 1);
+    let weights = locators_to(&powers, m, &list, b);
     let z = companions(&x);
     let lanes = run(m, &f, sums, &x, &z);
-    divided(m, &x, lanes)
+    divided(m, &weights, lanes)
 }

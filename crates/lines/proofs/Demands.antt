@@ -140,7 +140,7 @@ module _ (n : ℕ) (checks f text : List ℕ) (output : text ≡ outputOf (frame
   start = emptyJob noArrays
 
   abbrev s : Shape
-  s = shapeOf n checks
+  s = shapeOf n checks 1
 
   abbrev j : Job
   j = shapedJob s noArrays
@@ -151,19 +151,19 @@ module _ (n : ℕ) (checks f text : List ℕ) (output : text ≡ outputOf (frame
   abbrev whyLocate : List Reason
   whyLocate = readReasons s D f ++ registerReasons s D f
 
-  by-outcome : (o : Outcome) → step start (shape n checks) ≡ o → text ≡ frameLine (o .answer) o (step (o .job) (locate noWords f))
+  by-outcome : (o : Outcome) → step start (shape n checks 1) ≡ o → text ≡ frameLine (o .answer) o (step (o .job) (locate noWords f))
   unfolding outputOf
   by-outcome o e = output ∙ ap (λ (x : Outcome). frameLine (x .answer) x (step (x .job) (locate noWords f))) e
 
-  shape-refused : (k : ℕ) (i : Job) → step start (shape n checks) ≡ Calls.refusing i [] k → text ≡ refusalLine k
+  shape-refused : (k : ℕ) (i : Job) → step start (shape n checks 1) ≡ Calls.refusing i [] k → text ≡ refusalLine k
   unfolding frameLine
   shape-refused k i e = by-outcome (Calls.refusing i [] k) e
 
   -- the job has its shape
-  module _ (given : step start (shape n checks) ≡ shapes noArrays n checks) (t : isShape s ≡ true) where
+  module _ (given : step start (shape n checks 1) ≡ shapes noArrays n checks 1) (t : isShape s ≡ true) where
     by-located : (o : Outcome) → step j (locate noWords f) ≡ o → text ≡ columnsLine (o .answer) (o .marks)
     unfolding frameLine
-    by-located o e = by-outcome (shapes noArrays n checks) given ∙ ap (λ (x : Outcome). columnsLine (x .answer) (x .marks)) e
+    by-located o e = by-outcome (shapes noArrays n checks 1) given ∙ ap (λ (x : Outcome). columnsLine (x .answer) (x .marks)) e
 
     locate-refused : (k : ℕ) (i : Job) → step j (locate noWords f) ≡ Calls.refusing i f k → text ≡ refusalLine k
     unfolding columnsLine
@@ -186,7 +186,7 @@ module _ (n : ℕ) (checks f text : List ℕ) (output : text ≡ outputOf (frame
     columns-shown o c e a =
         record {
           count = c;
-          shaped = step start (shape n checks);
+          shaped = step start (shape n checks 1);
           located = o;
           written = by-located o e ∙ ap (λ (x : Calls.Answer). columnsLine x (o .marks)) a;
           shape-done = (refl, ap (λ (x : Outcome). x .answer) given);
@@ -206,17 +206,19 @@ module _ (n : ℕ) (checks f text : List ℕ) (output : text ≡ outputOf (frame
         ))
         refl
 
-  frame-either : Either (shapeReasons n checks ++ whyLocate) text (ShowsColumns n checks f text)
+  frame-either : Either (shapeReasons n checks 1 ++ whyLocate) text (ShowsColumns n checks f text)
   frame-either =
-      by-call start (shape n checks) (λ o. step start (shape n checks) ≡ o → Either (shapeReasons n checks ++ whyLocate) text (ShowsColumns n checks f text))
+      by-call start (shape n checks 1)
+      (λ o. step start (shape n checks 1) ≡ o → Either (shapeReasons n checks 1 ++ whyLocate) text (ShowsColumns n checks f text))
       (λ k _ e. inl (
         k,
-        first-before (shapeReasons n checks) whyLocate k (Refusals.demand-1 .exact start (shape n checks) k .0 (ap (λ (o : Outcome). o .answer) e)),
+        first-before (shapeReasons n checks 1) whyLocate k (Refusals.demand-1 .exact start (shape n checks 1) k .0 (ap (λ (o : Outcome). o .answer) e)),
         shape-refused k start e,
       ))
       (λ k _ a e. absurd a)
-      (λ kept _ e. after-reasons (shapeReasons n checks) whyLocate text _ (pass-none (shapeTests n checks) (shapeReasons n checks) (shape-says n checks) kept)
-      (located-either e (shape-passes n checks kept)))
+      (λ kept _ e. after-reasons (shapeReasons n checks 1) whyLocate text _
+      (pass-none (shapeTests n checks 1) (shapeReasons n checks 1) (shape-says n checks 1) kept)
+      (located-either e (shape-passes n checks 1 kept)))
       refl
 
 -- ---- records by their kind
@@ -241,9 +243,9 @@ module _ (r : List ℕ) (one : OfOneRecord r) where
 
   abbrev afterBad : List Reason
   afterBad =
-      shapeReasons (fieldOf r 3) (checkCountsOf r) ++
-      (readReasons (shapeOf (fieldOf r 3) (checkCountsOf r)) (declaredBy noWords) (frameSymbols r) ++
-      registerReasons (shapeOf (fieldOf r 3) (checkCountsOf r)) (declaredBy noWords) (frameSymbols r))
+      shapeReasons (fieldOf r 3) (checkCountsOf r) 1 ++
+      (readReasons (shapeOf (fieldOf r 3) (checkCountsOf r) 1) (declaredBy noWords) (frameSymbols r) ++
+      registerReasons (shapeOf (fieldOf r 3) (checkCountsOf r) 1) (declaredBy noWords) (frameSymbols r))
 
   frames-either : kindOf r ≡ 2 → Told r
       → Either (frameReasonsOf r) (lineOf r) (ShowsColumns (fieldOf r 3) (checkCountsOf r) (frameSymbols r) (lineOf r))
@@ -258,7 +260,22 @@ module _ (r : List ℕ) (one : OfOneRecord r) where
   frames kind =
       line-owed (frameReasonsOf r) (lineOf r) _ (
         omega arith,
-        (omega arith, (omega arith, (omega arith, (omega arith, (omega arith, (omega arith, (omega arith, (omega arith, (omega arith, tt))))))))),
+        (
+          omega arith,
+          (
+            omega arith,
+            (
+              omega arith,
+              (
+                omega arith,
+                (
+                  omega arith,
+                  (omega arith, (omega arith, (omega arith, (omega arith, (omega arith, tt))))),
+                ),
+              ),
+            ),
+          ),
+        ),
       )
       (λ s k e. other-letter 70 _ k (λ d. let z : ⊥ = omega arith in z) (sym (s .written) ∙ e)) (frames-either kind (told r one))
 

@@ -15,7 +15,7 @@ use Rattle.frame.specs.Completion.{cleared}
 use Rattle.frame.specs.DeclaredCells.{asRead, marksInside, declarable, undeclaredBelow, readTests}
 use Rattle.frame.specs.Encode.{eachRow}
 use Rattle.frame.specs.Frame.{checkSum, checkSums, rowSums, sequences, heldSums, heldSequences, weight}
-use Rattle.frame.specs.Shape.{shapeOf, rowsInRange, columnsInRange, checksInRange, isShape, shapeTests}
+use Rattle.frame.specs.Shape.{shapeOf, rowsInRange, columnsInRange, checksInRange, exponentInRange, isShape, shapeTests}
 use Rattle.job.specs.Calls.{registerTests, step}
 use Rattle.job.specs.Job.{noColumns, phaseSound, headSound, countsEmpty}
 use Rattle.lists.specs.Tabulate.{tabulate, every, joined}
@@ -32,10 +32,9 @@ use Rattle.lines.specs.Lines.{startsWhole, wholesUpTo, restUpTo, wholesO
 
 pub examples : map written table ≡ table
 unfolding table startsWhole wholesUpTo restUpTo wholesOf restOf linesOfAll wholeLines linesOf fieldOf fieldsOf refusalLine registerLine columnsLine
-    frameLine outputOf lineOf claimedBy isWhole countedOf bodyOf recordOf decimalUpTo decimal spaced line split ordered placed largest discrepancy
-    stepAt start withSaved changed turn rounds isAlone found foundAlone tabulate every joined noColumns phaseSound headSound countsEmpty step
-    registerTests shapeOf rowsInRange columnsInRange checksInRange isShape shapeTests weight checkSum checkSums rowSums sequences heldSums heldSequences
-    asRead marksInside declarable undeclaredBelow readTests eachRow cleared locatorPolynomial remaining allRemaining leftReach completable either
-    tests answer total noDivisor isPrime isModulus shifted reduced value sizeOf tapsOf aloneOf named namedColumns namesAll count
-    listed columnsOf has number
+    frameLine outputOf lineOf claimedBy isWhole countedOf bodyOf recordOf decimalUpTo decimal spaced line split ordered placed largest discrepancy stepAt
+    start withSaved changed turn rounds isAlone found foundAlone tabulate every joined noColumns phaseSound headSound countsEmpty step registerTests shapeOf
+    rowsInRange columnsInRange checksInRange exponentInRange isShape shapeTests weight checkSum checkSums rowSums sequences heldSums heldSequences asRead
+    marksInside declarable undeclaredBelow readTests eachRow cleared locatorPolynomial remaining allRemaining leftReach completable either tests answer
+    total noDivisor isPrime isModulus shifted reduced value sizeOf tapsOf aloneOf named namedColumns namesAll count listed columnsOf has number
 examples = refl

@@ -100,21 +100,21 @@ checkCountsOf r = fieldsFrom r 4 (fieldOf r 2)
 abbrev pub frameSymbols : List ℕ → List ℕ
 frameSymbols r = symbolsAfter r (fieldOf r 2)
 
--- 9, then the refusals of shape, 2, 5, 6, then those of locate on the shaped job, 7, 4, 24, 25, 26: it is not empty, so that 21 cannot be, and nothing is
--- declared, so that 31 cannot be
+-- 9, then the refusals of shape with the exponent 1, 2, 5, 6, which 32 cannot be, then those of locate on the shaped job, 7, 4, 24, 25, 26: it is not empty,
+-- so that 21 cannot be, and nothing is declared, so that 31 cannot be
 abbrev pub frameReasonsOf : List ℕ → List Reason
 frameReasonsOf r =
-    let s : Shape = shapeOf (fieldOf r 3) (checkCountsOf r) in
+    let s : Shape = shapeOf (fieldOf r 3) (checkCountsOf r) 1 in
     let f : List ℕ = frameSymbols r in
-    badReason r ∷ (shapeReasons (fieldOf r 3) (checkCountsOf r) ++ (readReasons s (declaredBy noWords) f ++ registerReasons s (declaredBy noWords) f))
+    badReason r ∷ (shapeReasons (fieldOf r 3) (checkCountsOf r) 1 ++ (readReasons s (declaredBy noWords) f ++ registerReasons s (declaredBy noWords) f))
 
--- the text is `F`, the number of columns and the columns, rising, of what locate answers on an empty job that was given its shape
+-- the text is `F`, the number of columns and the columns, rising, of what locate answers on an empty job that was given its shape, with the exponent 1
 pub record ShowsColumns (n : ℕ) (checks symbols text : List ℕ) : Type 0 where
   pub count : ℕ
   pub shaped : Outcome
   pub located : Outcome
   pub written : text ≡ line 70 (count ∷ members (located .marks))
-  pub shape-done : (shaped ≡ step (emptyJob noArrays) (shape n checks)) × (shaped .answer ≡ done)
+  pub shape-done : (shaped ≡ step (emptyJob noArrays) (shape n checks 1)) × (shaped .answer ≡ done)
   pub answered : (located ≡ step (shaped .job) (locate noWords symbols)) × (located .answer ≡ columns count)
 
 -- ---- the line

@@ -52,27 +52,27 @@ passed-symbols s f e = frame-passes s f (passed-pass (frameTests s f) e) .symbol
 
 -- ---- shape
 
-pub passed-rows : (n : ℕ) (checks : List ℕ) → outcome (shapeTests n checks) ≡ passed → length checks ≤ 8
+pub passed-rows : (n : ℕ) (checks : List ℕ) (b : ℕ) → outcome (shapeTests n checks b) ≡ passed → length checks ≤ 8
 unfolding shapeOf
-passed-rows n checks e = shape-ranges (shapeOf n checks) (shape-passes n checks (passed-pass (shapeTests n checks) e)) .rows-most
+passed-rows n checks b e = shape-ranges (shapeOf n checks b) (shape-passes n checks b (passed-pass (shapeTests n checks b) e)) .rows-most
 
-module _ (h : Head) (a : Arrays) (n : ℕ) (checks : List ℕ) where
+module _ (h : Head) (a : Arrays) (n : ℕ) (checks : List ℕ) (b : ℕ) where
   abbrev j : Job
   j = beside h a
 
-  pub shape-refused : {v : Checked} (why : Refusal) → outcomeOf v ≡ outcome (shapeTests n checks) → v ≡ Refuse why
-      → shapeOutcome (record { checked = v; head = h }) a ≡ step j (shape n checks)
+  pub shape-refused : {v : Checked} (why : Refusal) → outcomeOf v ≡ outcome (shapeTests n checks b) → v ≡ Refuse why
+      → shapeOutcome (record { checked = v; head = h }) a ≡ step j (shape n checks b)
   unfolding step
   shape-refused why e r =
       ap (λ x. shapeOutcome (record { checked = x; head = h }) a) r
-      ∙ sym (given-refused (refusing j []) _ (shapeTests n checks) (number why) (sym e ∙ ap outcomeOf r))
+      ∙ sym (given-refused (refusing j []) _ (shapeTests n checks b) (number why) (sym e ∙ ap outcomeOf r))
 
-  pub shape-given : {v : Checked} {i : Head} → outcomeOf v ≡ outcome (shapeTests n checks) → v ≡ Pass → i ≡ shapedHead (shapeOf n checks)
-      → shapeOutcome (record { checked = v; head = i }) a ≡ step j (shape n checks)
+  pub shape-given : {v : Checked} {i : Head} → outcomeOf v ≡ outcome (shapeTests n checks b) → v ≡ Pass → i ≡ shapedHead (shapeOf n checks b)
+      → shapeOutcome (record { checked = v; head = i }) a ≡ step j (shape n checks b)
   unfolding step
   shape-given e r s =
       ap₂ (λ x y. shapeOutcome (record { checked = x; head = y }) a) r s
-      ∙ sym (given-passed (refusing j []) _ (shapeTests n checks) (sym e ∙ ap outcomeOf r))
+      ∙ sym (given-passed (refusing j []) _ (shapeTests n checks b) (sym e ∙ ap outcomeOf r))
 
 -- ---- encode
 

@@ -16,7 +16,7 @@ fn is_root(powers: &[u16; 256], taps: &[u16], i: usize) -> bool
     requires { ⌜ Triable (now powers) (now taps) i ⌝ }
     ensures { λ r. ⌜ r ≡ eqb (value 257 (now (taps .entry)) (inverse 257 (locatorOf i))) 0 ⌝ }
 {
-    value_at(powers, taps, 256 - i) == 0
+    value_at(powers, taps, (256 - i) as u32) == 0
 }
 
 // The columns of the shape that a register names. One of length 0 names none, and nothing is searched.

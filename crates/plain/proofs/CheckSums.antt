@@ -29,25 +29,25 @@ in-a-term f (suc n) i l = pick (decLt i (sum n f)) (λ q. in-a-term f n i q)
     pick (yes q) below = let w = below q in (w .0, w .1, (let l = w .2 in omega arith), w .3, w .4)
     pick (no q) below = (n, i - sum n f, omega arith, (let e = sum-suc n f in omega arith), omega arith)
 
-module _ (columns : ℕ) (checks frame : List ℕ) where
-  pub summed-none : (l : List ℕ) → Summed columns checks frame 0 l l
+module _ (b columns : ℕ) (checks frame : List ℕ) where
+  pub summed-none : (l : List ℕ) → Summed b columns checks frame 0 l l
   summed-none l = record { size = refl; sums = λ h j less. absurd (let z : ⊥ = omega arith in z); after = λ k le. refl }
 
-  module _ (g at n : ℕ) (r old new next : List ℕ) (s : Summed columns checks frame g old new)
-      (w : Wrote new next at (at + n) (λ k. checkSum r (suc (k - at)))) (start : at ≡ capped (sum g (λ i. getD checks i 0)))
+  module _ (g at n : ℕ) (r old new next : List ℕ) (s : Summed b columns checks frame g old new)
+      (w : Wrote new next at (at + n) (λ k. checkSum b r (suc (k - at)))) (start : at ≡ capped (sum g (λ i. getD checks i 0)))
       (many : n ≡ getD checks g 0) (this : r ≡ row frame columns g) (fits : length old ≤ 18446744073709551615) where
     offset : ℕ → ℕ
     offset h = sum h (λ i. getD checks i 0)
 
     -- the row's own sums: its start was not cut off, since they have room
-    own : (j : ℕ) → j < getD checks g 0 → offset g + j < length old → getD next (offset g + j) 0 ≡ checkSum (row frame columns g) (suc j)
+    own : (j : ℕ) → j < getD checks g 0 → offset g + j < length old → getD next (offset g + j) 0 ≡ checkSum b (row frame columns g) (suc j)
     unfolding offset
     own j less room =
         let whole : at ≡ offset g = start ∙ capped-small (offset g) (omega arith) in
         let size = s .size in
         let inner : offset g + j - at ≡ j = omega arith in
         w .within (offset g + j) (omega arith) (omega arith) (omega arith)
-        ∙ ap (λ (k : ℕ). checkSum r (suc k)) inner ∙ ap (λ (l : List ℕ). checkSum l (suc j)) this
+        ∙ ap (λ (k : ℕ). checkSum b r (suc k)) inner ∙ ap (λ (l : List ℕ). checkSum b l (suc j)) this
 
     earlier : (h j : ℕ) → h < g → j < getD checks h 0 → offset h + j < length old → Dec (offset g ≤ 18446744073709551615) →
         getD next (offset h + j) 0 ≡ getD new (offset h + j) 0
@@ -60,7 +60,7 @@ module _ (columns : ℕ) (checks frame : List ℕ) where
         let top : at ≡ 18446744073709551615 = start ∙ capped-large (offset g) (omega arith) in
         w .before (offset h + j) (omega arith)
 
-    pub summed-more : Summed columns checks frame (g + 1) old next
+    pub summed-more : Summed b columns checks frame (g + 1) old next
     unfolding offset
     summed-more = record {
       size = w .size ∙ s .size;
@@ -72,22 +72,22 @@ module _ (columns : ℕ) (checks frame : List ℕ) where
     }
       where
         pick : (h j : ℕ) → h < g + 1 → j < getD checks h 0 → offset h + j < length old → Dec (h ≡ g) →
-            getD next (offset h + j) 0 ≡ checkSum (row frame columns h) (suc j)
+            getD next (offset h + j) 0 ≡ checkSum b (row frame columns h) (suc j)
         pick h j less inside room (yes e) =
-            subst (λ (m : ℕ). j < getD checks m 0 → offset m + j < length old → getD next (offset m + j) 0 ≡ checkSum (row frame columns m) (suc j))
+            subst (λ (m : ℕ). j < getD checks m 0 → offset m + j < length old → getD next (offset m + j) 0 ≡ checkSum b (row frame columns m) (suc j))
             (sym e) (own j) inside room
         pick h j less inside room (no e) =
             earlier h j (omega arith) inside room (decLe (offset g) 18446744073709551615) ∙ s .sums h j (omega arith) inside room
 
-  pub summed-all : (g n : ℕ) (old new : List ℕ) → Summed columns checks frame g old new → g ≤ n → n ≤ g → Summed columns checks frame n old new
-  summed-all g n old new s le ge = subst (λ (k : ℕ). Summed columns checks frame k old new) (let e : g ≡ n = omega arith in e) s
+  pub summed-all : (g n : ℕ) (old new : List ℕ) → Summed b columns checks frame g old new → g ≤ n → n ≤ g → Summed b columns checks frame n old new
+  summed-all g n old new s le ge = subst (λ (k : ℕ). Summed b columns checks frame k old new) (let e : g ≡ n = omega arith in e) s
 
   -- what `legal` tells
-  pub legal-told : (b : Bool) (n : ℕ) (new : List ℕ) → Summed columns checks frame n (replicate 512 0) new →
-      Tells b (Each 0 (length new) (λ i. getD new i 0 ≡ 0)) →
-      Tells b (Each 0 n (λ h. Each 0 (getD checks h 0) (λ j.
-      sum h (λ i. getD checks i 0) + j < 512 → checkSum (row frame columns h) (suc j) ≡ 0)))
-  legal-told b n new s t = record {
+  pub legal-told : (flag : Bool) (n : ℕ) (new : List ℕ) → Summed b columns checks frame n (replicate 512 0) new →
+      Tells flag (Each 0 (length new) (λ i. getD new i 0 ≡ 0)) →
+      Tells flag (Each 0 n (λ h. Each 0 (getD checks h 0) (λ j.
+      sum h (λ i. getD checks i 0) + j < 512 → checkSum b (row frame columns h) (suc j) ≡ 0)))
+  legal-told flag n new s t = record {
     yes = λ e h lh less j lj inside room.
         let size : length new ≡ 512 = s .size ∙ length-replicate {A = ℕ} 512 0 in
         let room' : sum h (λ i. getD checks i 0) + j < length (replicate {A = ℕ} 512 0) = rw (length-replicate {A = ℕ} 512 0) room in
@@ -95,7 +95,7 @@ module _ (columns : ℕ) (checks frame : List ℕ) where
     no = λ e all. t .no e (λ i low high. at all i high (decLt i (sum n (λ k. getD checks k 0))));
   }
     where
-      at : Each 0 n (λ h. Each 0 (getD checks h 0) (λ j. sum h (λ i. getD checks i 0) + j < 512 → checkSum (row frame columns h) (suc j) ≡ 0)) →
+      at : Each 0 n (λ h. Each 0 (getD checks h 0) (λ j. sum h (λ i. getD checks i 0) + j < 512 → checkSum b (row frame columns h) (suc j) ≡ 0)) →
           (i : ℕ) → i < length new → Dec (i < sum n (λ k. getD checks k 0)) → getD new i 0 ≡ 0
       at all i high (yes inside) =
           let w = in-a-term (λ k. getD checks k 0) n i inside in

@@ -2,7 +2,7 @@
 use mathlib.Core.Path.{_≡_}
 use mathlib.Core.Bool.{cond}
 use mathlib.Core.List.{List, []}
-use Prim.Native.Nat.{ℕ, suc, _+_, _*_, _/_, _%_, _^_, _<_, _≤_}
+use Prim.Native.Nat.{ℕ, suc, _+_, _*_, _-_, _/_, _%_, _^_, _<_, _≤_}
 use lib.Dec.{ltb}
 use lib.ListN.{length, getD}
 use Rattle.plain.specs.Plain.{part, sum}
@@ -11,9 +11,9 @@ use Rattle.plain.specs.Plain.{part, sum}
 abbrev pub row : (frame : List ℕ) (columns h : ℕ) → List ℕ
 row frame columns h = cond (ltb h 8) (part frame (h * columns) columns) []
 
--- the check sum S_j of a row: the powers of 3^j, times its symbols
-abbrev pub checkSum : (row : List ℕ) (j : ℕ) → ℕ
-checkSum row j = sum (length row) (λ i. getD row i 0 * 3 ^ (j * i)) % 257
+-- the check sum S_j of a row, j from 1 on: the powers of 3^(b + j − 1), times its symbols
+abbrev pub checkSum : (b : ℕ) (row : List ℕ) (j : ℕ) → ℕ
+checkSum b row j = sum (length row) (λ i. getD row i 0 * 3 ^ ((b + j - 1) * i)) % 257
 
 -- bit i mod 64 of word i / 64
 abbrev pub marked : (words : List ℕ) (i : ℕ) → ℕ
@@ -21,10 +21,10 @@ marked words i = getD words (i / 64) 0 / 2 ^ (i % 64) % 2
 
 -- the check sums of the first n rows stand one after the other, S_1 first in each row; what has no room is left out, and places past
 -- the last check sum are kept
-pub record Summed (columns : ℕ) (checks frame : List ℕ) (n : ℕ) (old new : List ℕ) : Type 0 where
+pub record Summed (b columns : ℕ) (checks frame : List ℕ) (n : ℕ) (old new : List ℕ) : Type 0 where
   pub size : length new ≡ length old
   pub sums : (h j : ℕ) → h < n → j < getD checks h 0 → sum h (λ i. getD checks i 0) + j < length old →
-      getD new (sum h (λ i. getD checks i 0) + j) 0 ≡ checkSum (row frame columns h) (suc j)
+      getD new (sum h (λ i. getD checks i 0) + j) 0 ≡ checkSum b (row frame columns h) (suc j)
   pub after : (k : ℕ) → sum n (λ i. getD checks i 0) ≤ k → getD new k 0 ≡ getD old k 0
 
 -- the first n entries are different numbers below `bound`

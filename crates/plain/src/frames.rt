@@ -1,6 +1,7 @@
 // Frames over the field of 257 from their definitions. Check sums take the powers of 3 by repeated multiplication.
 use crate::sequences::start;
 use crate::values::get;
+use crate::values::minus;
 use crate::values::part;
 use crate::values::plus;
 use crate::values::plus_product;
@@ -34,11 +35,11 @@ pub fn row(frame: &[u16], columns: u16, h: usize) -> &[u16]
     part(frame, 1, 0)
 }
 
-// The check sum S_j of a row.
-fn check_sum(row: &[u16], j: usize) -> u16
-    ensures { λ r. ⌜ r ≡ checkSum (now (row .entry)) j ⌝ }
+// The check sum S_j of a row, j from 1 on.
+fn check_sum(exponent: u32, row: &[u16], j: u16) -> u16
+    ensures { λ r. ⌜ r ≡ checkSum exponent (now (row .entry)) j ⌝ }
 {
-    let step = power(3, j);
+    let step = power(3, minus(exponent as usize + j as usize, 1));
     let mut weight: u16 = 1;
     let mut sum: u16 = 0;
     for i in 0..row.len() {
@@ -48,24 +49,23 @@ fn check_sum(row: &[u16], j: usize) -> u16
     sum
 }
 
-fn row_sums(row: &[u16], n: u16, sums: &mut [u16], at: usize)
-    ensures { λ r. ⌜ Wrote (now (sums .entry)) (now (sums .exit)) at (at + n) (λ k. checkSum (now (row .entry)) (suc (k - at))) ⌝ }
+fn row_sums(exponent: u32, row: &[u16], n: u16, sums: &mut [u16], at: usize)
+    ensures { λ r. ⌜ Wrote (now (sums .entry)) (now (sums .exit)) at (at + n) (λ k. checkSum exponent (now (row .entry)) (suc (k - at))) ⌝ }
 {
     for j in 0..n {
-        let i = j as usize;
-        put_at(sums, at, i, check_sum(row, i + 1));
+        put_at(sums, at, j as usize, check_sum(exponent, row, j + 1));
     }
 }
 
 // The check sums of all rows, row after row.
-pub fn check_sums(columns: u16, checks: &[u16], frame: &[u16], sums: &mut [u16])
+pub fn check_sums(exponent: u32, columns: u16, checks: &[u16], frame: &[u16], sums: &mut [u16])
     ensures { λ r. ⌜
-        Summed columns (now (checks .entry)) (now (frame .entry)) (length (now (checks .entry))) (now (sums .entry)) (now (sums .exit))
+        Summed exponent columns (now (checks .entry)) (now (frame .entry)) (length (now (checks .entry))) (now (sums .entry)) (now (sums .exit))
         ⌝ }
 {
     for h in 0..checks.len() {
         let at = start(checks, h);
-        row_sums(row(frame, columns, h), get(checks, h), sums, at);
+        row_sums(exponent, row(frame, columns, h), get(checks, h), sums, at);
     }
 }
 
@@ -81,14 +81,14 @@ fn all_zero(a: &[u16]) -> bool
 }
 
 // Every check sum of the frame is 0. There is room for 512 of them.
-pub fn legal(columns: u16, checks: &[u16], frame: &[u16]) -> bool
+pub fn legal(exponent: u32, columns: u16, checks: &[u16], frame: &[u16]) -> bool
     ensures { λ r. ⌜
         Tells r (Each 0 (length (now (checks .entry))) (λ h. Each 0 (getD (now (checks .entry)) h 0) (λ j.
-        sum h (λ i. getD (now (checks .entry)) i 0) + j < 512 → checkSum (row (now (frame .entry)) columns h) (suc j) ≡ 0)))
+        sum h (λ i. getD (now (checks .entry)) i 0) + j < 512 → checkSum exponent (row (now (frame .entry)) columns h) (suc j) ≡ 0)))
         ⌝ }
 {
     let mut sums = [0u16; 512];
-    check_sums(columns, checks, frame, &mut sums);
+    check_sums(exponent, columns, checks, frame, &mut sums);
     all_zero(&sums)
 }
 

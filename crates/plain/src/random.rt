@@ -2,7 +2,7 @@
 use crate::values::put;
 use crate::values::remainder;
 ghost use mathlib.Core.Path.{_≡_};
-ghost use Prim.Native.Nat.{suc, _+_};
+ghost use Prim.Native.Nat.{suc, _+_, _<_};
 ghost use Rattle.plain.specs.Drawn.{advanced, drawn, drawnFrom, later};
 ghost use Rattle.plain.specs.Written.{Wrote};
 
@@ -33,5 +33,20 @@ pub fn fill_from(state: &mut u64, least: u16, p: u16, a: &mut [u16], n: usize)
 {
     for i in 0..n {
         put(a, i, draw_from(state, least, p));
+    }
+}
+
+// The exponent of a shape: mostly at an edge, or any that is taken.
+pub fn draw_exponent(state: &mut u64) -> u32
+    ensures { λ r. ⌜ r < 256 ⌝ }
+{
+    match draw(state, 10) {
+        0 => 0,
+        1 => 1,
+        2 => 2,
+        3 => 127,
+        4 => 128,
+        5 => 255,
+        _ => draw(state, 256) as u32,
     }
 }

@@ -34,11 +34,13 @@ pub fn print_list(text: &[u8], a: &[u16]) {
 }
 
 // A text, a shape and a frame.
-pub fn print_frame(text: &[u8], columns: u16, checks: &[u16], frame: &[u16]) {
+pub fn print_frame(text: &[u8], exponent: u32, columns: u16, checks: &[u16], frame: &[u16]) {
     io::write_all(1, text);
     io::write_all(1, b": columns ");
     io::print_decimal(1, columns as u64);
     print_list(b", checks", checks);
+    io::write_all(1, b", exponent ");
+    io::print_decimal(1, exponent as u64);
     print_list(b", frame", frame);
     io::write_all(1, b"\n");
 }

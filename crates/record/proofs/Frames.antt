@@ -96,7 +96,7 @@ module _ (reply : Reply) (marks : Columns) where
     count-replied n h = subst (λ (x : Reply). columnCount x ≤ n) e h
 
 module _ (n : ℕ) (checks symbols : List ℕ) (h : Head) (start : h ≡ emptyHead) (shaped : Reshaped)
-    (given : (a : Arrays) → shapeOutcome shaped a ≡ step (beside h a) (shape n checks)) where
+    (given : (a : Arrays) → shapeOutcome shaped a ≡ step (beside h a) (shape n checks 1)) where
   -- beside zeros
   abbrev after : Outcome
   after = shapeOutcome shaped noArrays
@@ -105,7 +105,7 @@ module _ (n : ℕ) (checks symbols : List ℕ) (h : Head) (start : h ≡ emptyHe
   unfolding outputOf
   by-outcome =
       ap (λ (o : Outcome). frameLine (o .answer) o (step (o .job) (locate noWords symbols)))
-      (given noArrays ∙ ap (λ (i : Head). step (beside i noArrays) (shape n checks)) start)
+      (given noArrays ∙ ap (λ (i : Head). step (beside i noArrays) (shape n checks 1)) start)
 
   pub frame-refused : (k : Refusal) → shaped .checked ≡ Refuse k → refusalLine (number k) ≡ outputOf (frame n checks symbols)
   unfolding frameLine

@@ -47,7 +47,7 @@ outputOf (sequences p lengths symbols) =
     let ss : List (List ℕ) = split lengths symbols in
     registerLine (answer p lengths symbols 129) (found p ss (longest ss) .taps)
 outputOf (frame n checks symbols) =
-    let shaped : Outcome = step (emptyJob noArrays) (Calls.shape n checks) in
+    let shaped : Outcome = step (emptyJob noArrays) (Calls.shape n checks 1) in
     frameLine (shaped .answer) shaped (step (shaped .job) (Calls.locate noWords symbols))
 
 -- from the bytes got of a record, its length first, to the text of its line

@@ -28,13 +28,13 @@ fn register_line(out: &mut [u8], at: usize, p: u16, lengths: &[u16], symbols: &[
     found_line(out, at, found, &taps)
 }
 
-// The frame is located, with nothing declared, on an empty job that is given its shape. Refusals of the shape come first.
+// The frame is located, with nothing declared, on an empty job that is given its shape with the exponent 1. Refusals of the shape come first.
 fn frame_line(out: &mut [u8], at: usize, n: u16, checks: &[u16], symbols: &[u16]) -> usize
     requires { ⌜ at + 1024 ≤ length (now out) ⌝ }
     ensures { λ r. ⌜ Written (now (out .entry)) at (outputOf (frame n (now (checks .entry)) (now (symbols .entry)))) (now (out .exit)) r ⌝ }
     ensures { λ r. ⌜ r ≤ at + 1024 ⌝ }
 {
-    let shaped = shape(empty(), n as usize, checks);
+    let shaped = shape(empty(), n as usize, checks, 1);
     let checked = shaped.checked;
     if let Checked::Refuse(k) = checked {
         return refusal_line(out, at, k);

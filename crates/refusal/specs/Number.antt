@@ -18,6 +18,7 @@ use Rattle.refusal.specs.declared.Refusal.the-variants.{
   ShortRow,
   NoFrame,
   BadCells,
+  Exponent,
 }
 
 abbrev pub number : Refusal → ℕ
@@ -37,3 +38,4 @@ number NotAlone = 24
 number ShortRow = 25
 number NoFrame = 26
 number BadCells = 31
+number Exponent = 32

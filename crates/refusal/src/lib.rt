@@ -19,6 +19,7 @@ pub enum Refusal {
     ShortRow,
     NoFrame,
     BadCells,
+    Exponent,
 }
 
 // What a test of the input finds: nothing to refuse, or the refusal.
@@ -48,5 +49,6 @@ pub fn number_of(r: Refusal) -> u32
         Refusal::ShortRow => 25,
         Refusal::NoFrame => 26,
         Refusal::BadCells => 31,
+        Refusal::Exponent => 32,
     }
 }

@@ -6,7 +6,7 @@ use refusal::Refusal;
 ghost use mathlib.Core.Path.{_≡_};
 ghost use Prim.Native.Nat.{_≤_};
 ghost use lib.ListN.{length};
-ghost use Rattle.frame.specs.Shape.{checksInRange, columnsInRange, isShape, rowsInRange, shapeOf, shapeTests};
+ghost use Rattle.frame.specs.Shape.{checksInRange, columnsInRange, exponentInRange, isShape, rowsInRange, shapeOf, shapeTests};
 ghost use Rattle.refusal.specs.Outcome.{outcome, outcomeOf};
 
 // Whether there are 1 to 8 rows.
@@ -57,9 +57,16 @@ fn checks_in_range(columns: usize, rows: usize, checks: &[u16]) -> bool
     true
 }
 
+// Whether an exponent is 0 to 255.
+fn exponent_in_range(exponent: u32) -> bool
+    ensures { λ r. ⌜ r ≡ exponentInRange exponent ⌝ }
+{
+    exponent <= 255
+}
+
 // The refusals of a shape.
-pub fn check_shape(columns: usize, checks: &[u16]) -> Checked
-    ensures { λ r. ⌜ outcomeOf r ≡ outcome (shapeTests columns (now (checks .entry))) ⌝ }
+pub fn check_shape(columns: usize, checks: &[u16], exponent: u32) -> Checked
+    ensures { λ r. ⌜ outcomeOf r ≡ outcome (shapeTests columns (now (checks .entry)) exponent) ⌝ }
 {
     let rows = checks.len();
     if !rows_in_range(rows) {
@@ -71,13 +78,16 @@ pub fn check_shape(columns: usize, checks: &[u16]) -> Checked
     if !checks_in_range(columns, rows, checks) {
         return Checked::Refuse(Refusal::Checks);
     }
+    if !exponent_in_range(exponent) {
+        return Checked::Refuse(Refusal::Exponent);
+    }
     Checked::Pass
 }
 
-// The shape of the columns and check counts given, of which there are not too many.
-pub fn shape_of(columns: usize, checks: &[u16]) -> Shape
+// The shape of the columns, check counts and exponent given; there are not too many check counts.
+pub fn shape_of(columns: usize, checks: &[u16], exponent: u32) -> Shape
     requires { ⌜ length (now checks) ≤ 8 ⌝ }
-    ensures { λ r. ⌜ r ≡ shapeOf columns (now (checks .entry)) ⌝ }
+    ensures { λ r. ⌜ r ≡ shapeOf columns (now (checks .entry)) exponent ⌝ }
 {
     let rows = checks.len();
     let mut held = [0u16; 8];
@@ -90,6 +100,7 @@ pub fn shape_of(columns: usize, checks: &[u16]) -> Shape
         rows,
         columns,
         checks: held,
+        exponent,
     }
 }
 
@@ -105,5 +116,8 @@ pub fn is_shape(s: Shape) -> bool
     if !columns_in_range(columns) {
         return false;
     }
-    checks_in_range(columns, rows, &s.checks)
+    if !checks_in_range(columns, rows, &s.checks) {
+        return false;
+    }
+    exponent_in_range(s.exponent)
 }

@@ -109,9 +109,15 @@ fn tally(number: u32, kind: usize, counts: &mut [u64]) {
     count(counts, number as usize, true);
 }
 
-pub(crate) fn shape(pair: Pair, columns: u16, checks: &[u16], counts: &mut [u64]) -> Pair {
-    let due = model::shape(pair.model, columns, checks);
-    let answer = whole_job::shape(pair.job, columns as usize, checks);
+pub(crate) fn shape(
+    pair: Pair,
+    columns: u16,
+    checks: &[u16],
+    exponent: u32,
+    counts: &mut [u64],
+) -> Pair {
+    let due = model::shape(pair.model, columns, checks, exponent);
+    let answer = whole_job::shape(pair.job, columns as usize, checks, exponent);
     let checked = answer.checked;
     let number = of_checked(checked);
     tally(number, RESHAPED, counts);
@@ -132,7 +138,7 @@ fn encoded(model: Model, before: &[u16], after: &[u16]) -> bool {
     if !same_data(model.columns, checks, before, after) {
         return false;
     }
-    legal(model.columns, checks, after)
+    legal(model.exponent, model.columns, checks, after)
 }
 
 // A refused encode leaves the frame.
@@ -193,7 +199,7 @@ pub(crate) fn locate(pair: Pair, frame: &[u16], counts: &mut [u64]) -> Pair {
 fn mended(model: Model, before: &[u16], after: &[u16]) -> bool {
     let room = model.checks;
     let checks = part(&room, 0, model.rows as usize);
-    if !legal(model.columns, checks, after) {
+    if !legal(model.exponent, model.columns, checks, after) {
         return false;
     }
     let named = model.named;

@@ -8,6 +8,7 @@ use crate::model::size;
 use crate::tallies::LISTS;
 use plain::damage::damage;
 use plain::random::draw;
+use plain::random::draw_exponent;
 use plain::random::draw_from;
 use plain::random::fill_from;
 use plain::tally::count;
@@ -70,6 +71,16 @@ fn draw_checks(state: &mut u64, columns: u16) -> u16 {
     }
 }
 
+// Seldom an exponent that is refused, also one whose lower bits would be taken.
+fn draw_any_exponent(state: &mut u64) -> u32 {
+    match draw(state, 32) {
+        0 => 256,
+        1 => 65537,
+        2 => 4294967295,
+        _ => draw_exponent(state),
+    }
+}
+
 // A shape of up to eight rows and mostly few columns, or one that is refused.
 fn call_shape(state: &mut u64, pair: Pair, counts: &mut [u64]) -> Pair {
     let columns = draw_columns(state);
@@ -79,7 +90,9 @@ fn call_shape(state: &mut u64, pair: Pair, counts: &mut [u64]) -> Pair {
     fill_from(state, 1, spread, &mut checks, rows as usize);
     let h = draw(state, rows);
     put(&mut checks, h as usize, draw_checks(state, columns));
-    against::shape(pair, columns, part(&checks, 0, rows as usize), counts)
+    let exponent = draw_any_exponent(state);
+    let lent = part(&checks, 0, rows as usize);
+    against::shape(pair, columns, lent, exponent, counts)
 }
 
 // Damages up to `most` columns of the frame.
@@ -166,7 +179,13 @@ fn call_lent(
 fn show(model: Model, frame: &[u16]) {
     let checks = model.checks;
     let lent = part(&checks, 0, model.rows as usize);
-    print_frame(b"calls disagree", model.columns, lent, frame);
+    print_frame(
+        b"calls disagree",
+        model.exponent,
+        model.columns,
+        lent,
+        frame,
+    );
 }
 
 fn next(state: &mut u64, pair: Pair, room: &mut [u16], counts: &mut [u64]) -> Pair {

@@ -14,46 +14,53 @@ use plain::values::set;
 use whole_job::Job;
 
 // What shape answers for rows of `checks` checks, but for the last row.
-fn shapes(rows: usize, columns: usize, checks: u16, last: u16) -> u32 {
+fn shapes(rows: usize, columns: usize, checks: u16, last: u16, exponent: u32) -> u32 {
     let mut room = [0u16; 9];
     set(&mut room, 9, checks);
     put(&mut room, minus(rows, 1), last);
-    let shaped = whole_job::shape(whole_job::empty(), columns, part(&room, 0, rows));
+    let shaped = whole_job::shape(whole_job::empty(), columns, part(&room, 0, rows), exponent);
     let checked = shaped.checked;
     of_checked(checked)
 }
 
 fn shape_edge(i: usize) -> bool {
     match i {
-        0 => shapes(0, 4, 1, 1) == 2,
-        1 => shapes(1, 4, 1, 1) == 0,
-        2 => shapes(8, 4, 1, 1) == 0,
-        3 => shapes(9, 4, 1, 1) == 2,
-        4 => shapes(2, 0, 1, 1) == 5,
-        5 => shapes(2, 1, 1, 1) == 5,
-        6 => shapes(2, 2, 1, 1) == 0,
-        7 => shapes(8, 256, 64, 64) == 0,
-        8 => shapes(8, 257, 64, 64) == 5,
-        9 => shapes(2, 65, 64, 64) == 0,
-        10 => shapes(2, 64, 64, 64) == 6,
-        11 => shapes(2, 256, 64, 65) == 6,
-        12 => shapes(2, 4, 1, 0) == 6,
-        13 => shapes(2, 4, 0, 1) == 6,
-        14 => shapes(2, 4, 3, 4) == 6,
-        15 => shapes(0, 1, 1, 1) == 2,
-        16 => shapes(9, 257, 0, 0) == 2,
-        17 => shapes(2, 257, 65, 0) == 5,
+        0 => shapes(0, 4, 1, 1, 1) == 2,
+        1 => shapes(1, 4, 1, 1, 1) == 0,
+        2 => shapes(8, 4, 1, 1, 1) == 0,
+        3 => shapes(9, 4, 1, 1, 1) == 2,
+        4 => shapes(2, 0, 1, 1, 1) == 5,
+        5 => shapes(2, 1, 1, 1, 1) == 5,
+        6 => shapes(2, 2, 1, 1, 1) == 0,
+        7 => shapes(8, 256, 64, 64, 1) == 0,
+        8 => shapes(8, 257, 64, 64, 1) == 5,
+        9 => shapes(2, 65, 64, 64, 1) == 0,
+        10 => shapes(2, 64, 64, 64, 1) == 6,
+        11 => shapes(2, 256, 64, 65, 1) == 6,
+        12 => shapes(2, 4, 1, 0, 1) == 6,
+        13 => shapes(2, 4, 0, 1, 1) == 6,
+        14 => shapes(2, 4, 3, 4, 1) == 6,
+        15 => shapes(0, 1, 1, 1, 256) == 2,
+        16 => shapes(9, 257, 0, 0, 256) == 2,
+        17 => shapes(2, 257, 65, 0, 256) == 5,
+        18 => shapes(2, 4, 3, 4, 256) == 6,
+        19 => shapes(2, 4, 1, 1, 0) == 0,
+        20 => shapes(2, 4, 1, 1, 255) == 0,
+        21 => shapes(2, 4, 1, 1, 256) == 32,
+        22 => shapes(2, 4, 1, 1, 65536) == 32,
+        23 => shapes(2, 4, 1, 1, 65537) == 32,
+        24 => shapes(2, 4, 1, 1, 4294967295) == 32,
         _ => false,
     }
 }
 
-fn shape(job: Job, columns: usize, upper: u16, lower: u16) -> Job {
+fn shape(job: Job, columns: usize, upper: u16, lower: u16, exponent: u32) -> Job {
     let checks = [upper, lower];
-    whole_job::shape(job, columns, &checks).job
+    whole_job::shape(job, columns, &checks, exponent).job
 }
 
 fn shaped() -> Job {
-    shape(whole_job::empty(), 4, 3, 2)
+    shape(whole_job::empty(), 4, 3, 2, 1)
 }
 
 fn locate(job: Job, n: usize, v: u16, k: usize) -> Job {
@@ -134,6 +141,7 @@ fn encode_edge(i: usize) -> bool {
     }
 }
 
+// Edges 10 and 11 have one frame: its rows 5 5 are legal for the exponent 128, since 3^128 is −1, and not for 127.
 fn locate_edge(i: usize) -> bool {
     match i {
         0 => locates(whole_job::empty(), 8, 5, 1) == 21,
@@ -143,11 +151,19 @@ fn locate_edge(i: usize) -> bool {
         4 => locates(shaped(), 7, 257, 1) == 7,
         5 => locates(shaped(), 9, 5, 1) == 7,
         6 => locates(shaped(), 8, 0, 0) == 0,
-        7 => locates(shape(whole_job::empty(), 4, 1, 1), 8, 5, 1) == 24,
-        8 => locates(shape(whole_job::empty(), 6, 4, 1), 12, 1, 2) == 25,
-        9 => locates(shape(whole_job::empty(), 4, 2, 2), 8, 1, 2) == 26,
+        7 => locates(shape(whole_job::empty(), 4, 1, 1, 1), 8, 5, 1) == 24,
+        8 => locates(shape(whole_job::empty(), 6, 4, 1, 1), 12, 1, 2) == 25,
+        9 => locates(shape(whole_job::empty(), 4, 2, 2, 1), 8, 1, 2) == 26,
+        10 => locates(shape(whole_job::empty(), 2, 1, 1, 127), 4, 5, 4) == 24,
+        11 => locates(shape(whole_job::empty(), 2, 1, 1, 128), 4, 5, 4) == 0,
         _ => false,
     }
+}
+
+// Two columns that are damaged come back.
+fn comes_back(exponent: u32) -> bool {
+    let job = shape(whole_job::empty(), 6, 4, 4, exponent);
+    repairs(locate(job, 12, 5, 2), 12, 5, 2) == 0
 }
 
 fn repair_edge(i: usize) -> bool {
@@ -161,6 +177,12 @@ fn repair_edge(i: usize) -> bool {
         6 => repairs(located(), 9, 5, 1) == 7,
         7 => repairs(located(), 8, 257, 1) == 4,
         8 => repairs(located(), 8, 6, 1) == 23,
+        9 => comes_back(0),
+        10 => comes_back(1),
+        11 => comes_back(2),
+        12 => comes_back(127),
+        13 => comes_back(128),
+        14 => comes_back(255),
         _ => false,
     }
 }
@@ -175,8 +197,10 @@ fn state_edge(i: usize) -> bool {
         4 => repairs(mend(located(), 7, 5, 1), 8, 5, 1) == 0,
         5 => repairs(mend(located(), 8, 6, 1), 8, 5, 1) == 0,
         6 => repairs(mend(located(), 8, 5, 1), 8, 5, 1) == 22,
-        7 => repairs(shape(located(), 4, 4, 2), 8, 5, 1) == 0,
-        8 => repairs(shape(located(), 4, 3, 2), 8, 5, 1) == 22,
+        7 => repairs(shape(located(), 4, 4, 2, 1), 8, 5, 1) == 0,
+        8 => repairs(shape(located(), 4, 3, 2, 1), 8, 5, 1) == 22,
+        9 => repairs(shape(located(), 4, 3, 2, 2), 8, 5, 1) == 22,
+        10 => repairs(shape(located(), 4, 3, 2, 256), 8, 5, 1) == 0,
         _ => false,
     }
 }
@@ -195,10 +219,11 @@ fn edge(kind: u16, i: u16) -> bool {
 // How many edges of a kind there are.
 fn edges_of(kind: u16) -> u16 {
     match kind {
-        0 => 18,
+        0 => 25,
         1 => 8,
-        2 => 10,
-        _ => 9,
+        2 => 12,
+        3 => 15,
+        _ => 11,
     }
 }
 

@@ -22,6 +22,7 @@ pub(crate) struct Model {
     pub(crate) columns: u16,
     pub(crate) rows: u16,
     pub(crate) checks: [u16; 8],
+    pub(crate) exponent: u32,
     pub(crate) sums: [u16; 512],
     pub(crate) length: usize,
     pub(crate) named: [u16; 256],
@@ -33,7 +34,13 @@ pub(crate) struct Step {
     pub(crate) model: Model,
 }
 
-pub(crate) fn shaped(planted: bool, phase: u16, columns: u16, list: &[u16]) -> Model {
+pub(crate) fn shaped(
+    planted: bool,
+    phase: u16,
+    columns: u16,
+    list: &[u16],
+    exponent: u32,
+) -> Model {
     let mut checks = [0u16; 8];
     copy(list, &mut checks, 0);
     let sums = [0u16; 512];
@@ -44,6 +51,7 @@ pub(crate) fn shaped(planted: bool, phase: u16, columns: u16, list: &[u16]) -> M
         columns,
         rows: (list.len() % 65536) as u16,
         checks,
+        exponent,
         sums,
         length: 0,
         named,
@@ -52,7 +60,7 @@ pub(crate) fn shaped(planted: bool, phase: u16, columns: u16, list: &[u16]) -> M
 
 pub(crate) fn empty(planted: bool) -> Model {
     let none = [0u16; 0];
-    shaped(planted, EMPTY, 0, &none)
+    shaped(planted, EMPTY, 0, &none, 0)
 }
 
 // How many symbols a frame has.
@@ -79,7 +87,7 @@ fn bad_counts(columns: u16, checks: &[u16]) -> bool {
     false
 }
 
-fn shape_reason(columns: u16, checks: &[u16]) -> u32 {
+fn shape_reason(columns: u16, checks: &[u16], exponent: u32) -> u32 {
     if checks.len() == 0 {
         return 2;
     }
@@ -95,15 +103,18 @@ fn shape_reason(columns: u16, checks: &[u16]) -> u32 {
     if bad_counts(columns, checks) {
         return 6;
     }
+    if exponent > 255 {
+        return 32;
+    }
     0
 }
 
-pub(crate) fn shape(model: Model, columns: u16, checks: &[u16]) -> Step {
-    let number = shape_reason(columns, checks);
+pub(crate) fn shape(model: Model, columns: u16, checks: &[u16], exponent: u32) -> Step {
+    let number = shape_reason(columns, checks, exponent);
     if number != 0 {
         return Step { number, model };
     }
-    let next = shaped(model.planted, SHAPED, columns, checks);
+    let next = shaped(model.planted, SHAPED, columns, checks, exponent);
     Step {
         number,
         model: next,
@@ -162,7 +173,7 @@ fn search(model: Model, frame: &[u16]) -> Step {
     let room = model.checks;
     let checks = part(&room, 0, model.rows as usize);
     let mut sums = [0u16; 512];
-    check_sums(model.columns, checks, frame, &mut sums);
+    check_sums(model.exponent, model.columns, checks, frame, &mut sums);
     let mut named = [0u16; 256];
     let expected = locate(model.columns, checks, &sums, &mut named);
     let number = expected.number;
@@ -170,13 +181,19 @@ fn search(model: Model, frame: &[u16]) -> Step {
         if model.planted {
             return Step { number, model };
         }
-        let refused = shaped(false, SHAPED, model.columns, checks);
+        let refused = shaped(false, SHAPED, model.columns, checks, model.exponent);
         return Step {
             number,
             model: refused,
         };
     }
-    let mut next = shaped(model.planted, LOCATED, model.columns, checks);
+    let mut next = shaped(
+        model.planted,
+        LOCATED,
+        model.columns,
+        checks,
+        model.exponent,
+    );
     next.sums = sums;
     next.length = expected.length;
     next.named = named;
@@ -203,7 +220,7 @@ fn sums_differ(model: Model, frame: &[u16]) -> bool {
     let held = model.sums;
     let mut sums = [0u16; 512];
     let lent = part(&checks, 0, model.rows as usize);
-    check_sums(model.columns, lent, frame, &mut sums);
+    check_sums(model.exponent, model.columns, lent, frame, &mut sums);
     !plain::compare::same(&held, &sums, 0)
 }
 
@@ -231,7 +248,7 @@ pub(crate) fn repaired(model: Model, frame: &[u16]) -> Step {
     }
     let checks = model.checks;
     let lent = part(&checks, 0, model.rows as usize);
-    let next = shaped(model.planted, SHAPED, model.columns, lent);
+    let next = shaped(model.planted, SHAPED, model.columns, lent, model.exponent);
     Step {
         number,
         model: next,

@@ -36,10 +36,16 @@ pub(crate) fn empty(planted: u16) -> Pair {
 }
 
 // The job with another shape, and a frame that it encodes. Declared cells play no part in either: `trial_calls` compares them.
-pub(crate) fn shape(pair: Pair, columns: u16, checks: &[u16], frame: &mut [u16]) -> Pair {
+pub(crate) fn shape(
+    pair: Pair,
+    columns: u16,
+    checks: &[u16],
+    exponent: u32,
+    frame: &mut [u16],
+) -> Pair {
     let held = pair.model;
-    let model = model::shaped(held.planted, model::SHAPED, columns, checks);
-    let job = whole_job::shape(pair.job, columns as usize, checks).job;
+    let model = model::shaped(held.planted, model::SHAPED, columns, checks, exponent);
+    let job = whole_job::shape(pair.job, columns as usize, checks, exponent).job;
     let number = of_checked(whole_job::encode(job, frame));
     Pair {
         agree: number == 0,
@@ -147,13 +153,14 @@ pub(crate) fn locate(pair: Pair, words: &[u64; 32], frame: &[u16]) -> Pair {
 
 // Read with 0 in the declared cells, the frames differ in just the named columns.
 fn changed(model: Model, before: &[u16], after: &[u16]) -> bool {
+    let marks = model.named;
+    let named = part(&marks, 0, 256);
     let words = model.words;
     let mut old = [0u16; 2048];
     model::read(&words, model.columns, before, &mut old);
     let mut new = [0u16; 2048];
     model::read(&words, model.columns, after, &mut new);
-    let named = model.named;
-    differ_in(model.columns, model.rows as usize, &old, &new, &named)
+    differ_in(model.columns, model.rows as usize, &old, &new, named)
 }
 
 // Repair leaves a legal frame. A refused one leaves the frame.
@@ -162,7 +169,8 @@ fn mended(model: Model, number: u32, before: &[u16], after: &[u16]) -> bool {
         return same(before, after, 0);
     }
     let room = model.checks;
-    if !legal(model.columns, part(&room, 0, model.rows as usize), after) {
+    let checks = part(&room, 0, model.rows as usize);
+    if !legal(model.exponent, model.columns, checks, after) {
         return false;
     }
     changed(model, before, after)

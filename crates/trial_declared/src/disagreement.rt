@@ -24,6 +24,12 @@ pub(crate) fn show_unless(agree: bool, model: Model, words: &[u64; 32], frame: &
     show_cells(words);
     let checks = model.checks;
     let lent = part(&checks, 0, model.rows as usize);
-    print_frame(b"calls disagree", model.columns, lent, frame);
+    print_frame(
+        b"calls disagree",
+        model.exponent,
+        model.columns,
+        lent,
+        frame,
+    );
     false
 }

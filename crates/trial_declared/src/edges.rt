@@ -1,6 +1,6 @@
 // Calls with declared cells at the edges (SPECIFICATION.md, "Declared cells"): what is just taken and what is just refused, which of two reasons comes first,
-// and the state that is left. The shape has four columns and the checks 3 and 2; the frame of zeros is legal. The cell of column i in row h has mark
-// 256·h + i.
+// and the state that is left. The shape has four columns, the checks 3 and 2 and mostly the exponent 1; the frame of zeros is legal. The cell of
+// column i in row h has mark 256·h + i.
 use crate::cells::declare;
 use crate::tallies::EDGES;
 use plain::answers::columns_of;
@@ -38,9 +38,9 @@ fn locate(job: Job, edge: &[u16]) -> Answered {
     whole_job::locate(job, &words, part(&room, 0, get(edge, 4) as usize))
 }
 
-fn shaped() -> Job {
+fn shaped(exponent: u32) -> Job {
     let checks = [3u16, 2];
-    whole_job::shape(whole_job::empty(), 4, &checks).job
+    whole_job::shape(whole_job::empty(), 4, &checks, exponent).job
 }
 
 // An empty job; a shaped one; one located with a declared cell and damage in the column after it; one located with as many declared cells as checks.
@@ -49,9 +49,9 @@ fn job_of(kind: u16) -> Job {
     let full = [0u16, 3, 256, 2, 8, 0, 0];
     match kind {
         0 => whole_job::empty(),
-        1 => shaped(),
-        2 => locate(shaped(), &one).job,
-        _ => locate(shaped(), &full).job,
+        1 => shaped(1),
+        2 => locate(shaped(1), &one).job,
+        _ => locate(shaped(1), &full).job,
     }
 }
 
@@ -188,18 +188,29 @@ fn still_locates() -> bool {
 // row, where another one is damaged.
 fn smallest_refused() -> bool {
     let checks = [2u16, 2];
-    let job = whole_job::shape(whole_job::empty(), 3, &checks).job;
+    let job = whole_job::shape(whole_job::empty(), 3, &checks, 1).job;
     let edge = [0u16, 0, 256, 1];
     let words = cells(&edge);
     let frame = [1u16, 0, 0, 65535, 1, 0];
     number_of(whole_job::locate(job, &words, &frame)) == 26
 }
 
+// A declared cell and damage in the column after it come back.
+fn comes_back(exponent: u32) -> bool {
+    let edge = [0u16, 1, 0, 0, 8, 5, 2, 8, 5, 2];
+    repairs(locate(shaped(exponent), &edge).job, &edge) == 0
+}
+
 fn other_edge(i: usize) -> bool {
     match i {
         0 => still_encodes(),
         1 => still_locates(),
-        _ => smallest_refused(),
+        2 => smallest_refused(),
+        3 => comes_back(0),
+        4 => comes_back(2),
+        5 => comes_back(127),
+        6 => comes_back(128),
+        _ => comes_back(255),
     }
 }
 
@@ -217,7 +228,7 @@ fn edges_of(kind: u16) -> u16 {
     match kind {
         0 => 19,
         1 => 17,
-        _ => 3,
+        _ => 8,
     }
 }
 

@@ -51,16 +51,17 @@ fn confirmed(tiny: bool, model: Model, words: &[u64; 32], damaged: &[u16]) -> bo
     let mut frame = [0u16; 2048];
     model::read(words, model.columns, damaged, &mut frame);
     let mut sums = [0u16; 512];
-    check_sums(model.columns, checks, &frame, &mut sums);
+    let exponent = model.exponent;
+    check_sums(exponent, model.columns, checks, &frame, &mut sums);
     let mut marks = [0u16; 256];
     let expected = model::search(model, words, &sums, &mut marks);
-    if !sets_agree(words, model.columns, checks, &sums, expected) {
+    if !sets_agree(exponent, words, model.columns, checks, &sums, expected) {
         return false;
     }
     if !tiny {
         return true;
     }
-    frames_agree(words, model.rows as usize, &frame, expected)
+    frames_agree(exponent, words, model.rows as usize, &frame, expected)
 }
 
 // Locate agrees, what it answers is confirmed, and it does not refuse where the original is due.

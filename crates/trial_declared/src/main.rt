@@ -1,6 +1,6 @@
 // Runs locate and repair with declared cells: at the edges of what is taken, on random frames against all legal frames, all sets of columns and elimination,
 // and in random lists against a simple model of the job. Prints how often each answer occurred, and the first call that disagrees. Then the calls are held to
-// two planted models that are wrong, and must disagree with each.
+// three planted models that are wrong, and must disagree with each.
 mod against;
 mod call_lists;
 mod cells;
@@ -63,7 +63,7 @@ fn report(counts: &[u64]) {
 
 fn main() {
     let mut state = 1u64;
-    let mut counts = [0u64; 39];
+    let mut counts = [0u64; 47];
     let agreed = run(&mut state, &mut counts);
     report(&counts);
     print_end(agreed);
@@ -71,4 +71,6 @@ fn main() {
     print_end(call_lists::random(&mut state, model::NOT_COMPLETED, 300, &mut counts));
     io::write_all(1, b"planted, cells kept: ");
     print_end(call_lists::random(&mut state, model::CELLS_KEPT, 300, &mut counts));
+    io::write_all(1, b"planted, exponent left out: ");
+    print_end(call_lists::random(&mut state, model::EXPONENT_LEFT_OUT, 300, &mut counts));
 }

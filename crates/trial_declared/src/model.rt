@@ -16,12 +16,14 @@ pub(crate) const SHAPED: u16 = 1;
 
 pub(crate) const LOCATED: u16 = 2;
 
-// What a planted model does wrong: it does not ask whether rows can be completed, or it keeps the cells of the locate before.
+// What a planted model does wrong: it does not ask whether rows can be completed, it keeps the cells of the locate before, or it takes 1 for each exponent.
 pub(crate) const RIGHT: u16 = 0;
 
 pub(crate) const NOT_COMPLETED: u16 = 1;
 
 pub(crate) const CELLS_KEPT: u16 = 2;
+
+pub(crate) const EXPONENT_LEFT_OUT: u16 = 3;
 
 // The phase, the shape and, of a located job, the check sums of the frame as read, the declared cells, the length of the register and a mark for each column
 // that it names.
@@ -31,6 +33,7 @@ pub(crate) struct Model {
     pub(crate) columns: u16,
     pub(crate) rows: u16,
     pub(crate) checks: [u16; 8],
+    pub(crate) exponent: u32,
     pub(crate) sums: [u16; 512],
     pub(crate) words: [u64; 32],
     pub(crate) length: usize,
@@ -43,7 +46,15 @@ pub(crate) struct Step {
     pub(crate) model: Model,
 }
 
-pub(crate) fn shaped(planted: u16, phase: u16, columns: u16, list: &[u16]) -> Model {
+// What the model takes for the exponent.
+fn taken(planted: u16, exponent: u32) -> u32 {
+    if planted == EXPONENT_LEFT_OUT {
+        return 1;
+    }
+    exponent
+}
+
+pub(crate) fn shaped(planted: u16, phase: u16, columns: u16, list: &[u16], exponent: u32) -> Model {
     let mut checks = [0u16; 8];
     copy(list, &mut checks, 0);
     let sums = [0u16; 512];
@@ -55,6 +66,7 @@ pub(crate) fn shaped(planted: u16, phase: u16, columns: u16, list: &[u16]) -> Mo
         columns,
         rows: (list.len() % 65536) as u16,
         checks,
+        exponent: taken(planted, exponent),
         sums,
         words,
         length: 0,
@@ -64,7 +76,7 @@ pub(crate) fn shaped(planted: u16, phase: u16, columns: u16, list: &[u16]) -> Mo
 
 pub(crate) fn empty(planted: u16) -> Model {
     let none = [0u16; 0];
-    shaped(planted, EMPTY, 0, &none)
+    shaped(planted, EMPTY, 0, &none, 0)
 }
 
 // How many symbols a frame has.
@@ -99,7 +111,7 @@ pub(crate) fn search(model: Model, words: &[u64; 32], sums: &[u16], marks: &mut 
     if model.planted == NOT_COMPLETED {
         return found;
     }
-    if all_completable(words, checks, sums, marks) {
+    if all_completable(model.exponent, words, checks, sums, marks) {
         return found;
     }
     Expected {
@@ -124,18 +136,24 @@ fn settle(model: Model, words: &[u64; 32], frame: &[u16]) -> Step {
     let room = model.checks;
     let checks = part(&room, 0, model.rows as usize);
     let mut sums = [0u16; 512];
-    check_sums(model.columns, checks, frame, &mut sums);
+    check_sums(model.exponent, model.columns, checks, frame, &mut sums);
     let mut named = [0u16; 256];
     let expected = search(model, words, &sums, &mut named);
     let number = expected.number;
     if number != 0 {
-        let refused = shaped(model.planted, SHAPED, model.columns, checks);
+        let refused = shaped(model.planted, SHAPED, model.columns, checks, model.exponent);
         return Step {
             number,
             model: refused,
         };
     }
-    let mut next = shaped(model.planted, LOCATED, model.columns, checks);
+    let mut next = shaped(
+        model.planted,
+        LOCATED,
+        model.columns,
+        checks,
+        model.exponent,
+    );
     next.sums = sums;
     let cells = held(model, *words);
     next.words = cells;
@@ -181,7 +199,7 @@ fn sums_differ(model: Model, frame: &[u16]) -> bool {
     let held = model.sums;
     let mut sums = [0u16; 512];
     let lent = part(&checks, 0, model.rows as usize);
-    check_sums(model.columns, lent, frame, &mut sums);
+    check_sums(model.exponent, model.columns, lent, frame, &mut sums);
     !plain::compare::same(&held, &sums, 0)
 }
 
@@ -214,7 +232,7 @@ pub(crate) fn repaired(model: Model, frame: &[u16]) -> Step {
     }
     let checks = model.checks;
     let lent = part(&checks, 0, model.rows as usize);
-    let next = shaped(model.planted, SHAPED, model.columns, lent);
+    let next = shaped(model.planted, SHAPED, model.columns, lent, model.exponent);
     Step {
         number,
         model: next,

@@ -40,21 +40,28 @@ fn all_left(
     }
 }
 
-fn row_completable(words: &[u64; 32], h: usize, marks: &[u16], sums: &[u16]) -> bool {
+fn row_completable(
+    exponent: u32,
+    words: &[u64; 32],
+    h: usize,
+    marks: &[u16],
+    sums: &[u16],
+) -> bool {
     let mut columns = [0u16; 256];
     let n = list(words, h, marks, &mut columns);
-    completable(part(&columns, 0, n), sums)
+    completable(exponent, part(&columns, 0, n), sums)
 }
 
 // Each row can be completed at its declared columns and the marked ones.
 pub(crate) fn all_completable(
+    exponent: u32,
     words: &[u64; 32],
     checks: &[u16],
     sums: &[u16],
     marks: &[u16],
 ) -> bool {
     for h in 0..checks.len() {
-        if !row_completable(words, h, marks, sequence(checks, sums, h)) {
+        if !row_completable(exponent, words, h, marks, sequence(checks, sums, h)) {
             return false;
         }
     }

@@ -1,6 +1,7 @@
 // Random shapes, and frames of them.
 use crate::against;
 use crate::against::Pair;
+use plain::random::draw_exponent;
 use plain::random::draw_from;
 use plain::random::fill_from;
 use plain::values::first;
@@ -87,5 +88,6 @@ pub(crate) fn draw_frame(state: &mut u64, pair: Pair, size: Size, room: &mut [u1
     let n = product(drawn.rows, drawn.columns) as usize;
     fill_from(state, 0, 257, room, n);
     let lent = part(&checks, 0, drawn.rows as usize);
-    against::shape(pair, drawn.columns, lent, first(room, n))
+    let exponent = draw_exponent(state);
+    against::shape(pair, drawn.columns, lent, exponent, first(room, n))
 }

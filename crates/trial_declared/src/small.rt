@@ -4,6 +4,7 @@ use crate::cells::is_declared;
 use crate::search::all_completable;
 use brute::locator::Expected;
 use plain::counting::advance;
+use plain::frames::power;
 use plain::frames::row;
 use plain::frames::size;
 use plain::values::get;
@@ -11,20 +12,35 @@ use plain::values::part;
 use plain::values::times;
 
 // These columns are at most c, and with the declared cells they explain the check sums.
-fn explain(words: &[u64; 32], checks: &[u16], sums: &[u16], marks: &[u16], c: usize) -> bool {
+fn explain(
+    c: usize,
+    exponent: u32,
+    words: &[u64; 32],
+    checks: &[u16],
+    sums: &[u16],
+    marks: &[u16],
+) -> bool {
     if size(marks) > c {
         return false;
     }
-    all_completable(words, checks, sums, marks)
+    all_completable(exponent, words, checks, sums, marks)
 }
 
 // How many sets of at most c columns explain the check sums. There are at most eight columns.
-fn sets_within(c: usize, words: &[u64; 32], columns: usize, checks: &[u16], sums: &[u16]) -> usize {
+fn sets_within(
+    c: usize,
+    exponent: u32,
+    words: &[u64; 32],
+    columns: usize,
+    checks: &[u16],
+    sums: &[u16],
+) -> usize {
     let mut room = [0u16; 8];
     let marks: &mut [u16] = &mut room;
     let mut n: usize = 0;
     for _ in 0..256usize {
-        let found = explain(words, checks, sums, part(marks, 0, columns), c);
+        let tried = part(marks, 0, columns);
+        let found = explain(c, exponent, words, checks, sums, tried);
         n = std::num::wrapping_add_usize(n, found as usize);
         if !advance(2, marks, 0, columns) {
             return n;
@@ -33,17 +49,18 @@ fn sets_within(c: usize, words: &[u64; 32], columns: usize, checks: &[u16], sums
     0
 }
 
-// Symbol i of the legal row of three symbols, two of them checks, whose data symbol is v: it is a multiple of the row 27 245 1.
-fn legal_symbol(v: u16, i: usize) -> u16 {
-    let base = [27u16, 245, 1];
-    times(257, v, get(&base, i))
+// The legal row of three symbols, two of them checks, whose data symbol is 1: as a polynomial it is the product of x − 3^b and x − 3^(b + 1).
+fn legal_row(exponent: u32) -> [u16; 3] {
+    let y = power(3, exponent as usize);
+    [times(257, times(257, y, y), 3), times(257, 253, y), 1]
 }
 
 // The frame differs in column i from the legal one with these data symbols, one in each row.
-fn differs(words: &[u64; 32], data: &[u16], frame: &[u16], i: u16) -> bool {
+fn differs(base: &[u16], words: &[u64; 32], data: &[u16], frame: &[u16], i: u16) -> bool {
     for h in 0..data.len() {
         if !is_declared(words, h, i) {
-            if get(row(frame, 3, h), i as usize) != legal_symbol(get(data, h), i as usize) {
+            let symbol = times(257, get(data, h), get(base, i as usize));
+            if get(row(frame, 3, h), i as usize) != symbol {
                 return true;
             }
         }
@@ -51,21 +68,21 @@ fn differs(words: &[u64; 32], data: &[u16], frame: &[u16], i: u16) -> bool {
     false
 }
 
-fn distance(words: &[u64; 32], data: &[u16], frame: &[u16]) -> usize {
+fn distance(base: &[u16], words: &[u64; 32], data: &[u16], frame: &[u16]) -> usize {
     let mut n: usize = 0;
     for i in 0..3u16 {
-        n = std::num::wrapping_add_usize(n, differs(words, data, frame, i) as usize);
+        n = std::num::wrapping_add_usize(n, differs(base, words, data, frame, i) as usize);
     }
     n
 }
 
 // How many legal frames lie at distance c or less. The frame has at most two rows.
-fn frames_within(c: usize, words: &[u64; 32], rows: usize, frame: &[u16]) -> usize {
+fn frames_within(c: usize, base: &[u16], words: &[u64; 32], rows: usize, frame: &[u16]) -> usize {
     let mut room = [0u16; 2];
     let data: &mut [u16] = &mut room;
     let mut n: usize = 0;
     for _ in 0..66049usize {
-        let near = distance(words, part(data, 0, rows), frame) <= c;
+        let near = distance(base, words, part(data, 0, rows), frame) <= c;
         n = std::num::wrapping_add_usize(n, near as usize);
         if !advance(257, data, 0, rows) {
             return n;
@@ -84,6 +101,7 @@ fn due(number: u32) -> usize {
 
 // All sets of columns say the same as the number that is expected.
 pub(crate) fn sets_agree(
+    exponent: u32,
     words: &[u64; 32],
     columns: u16,
     checks: &[u16],
@@ -98,11 +116,13 @@ pub(crate) fn sets_agree(
             return true;
         }
     }
-    sets_within(expected.length, words, columns as usize, checks, sums) == due(expected.number)
+    let n = columns as usize;
+    sets_within(expected.length, exponent, words, n, checks, sums) == due(expected.number)
 }
 
 // All legal frames do.
 pub(crate) fn frames_agree(
+    exponent: u32,
     words: &[u64; 32],
     rows: usize,
     frame: &[u16],
@@ -113,5 +133,6 @@ pub(crate) fn frames_agree(
             return true;
         }
     }
-    frames_within(expected.length, words, rows, frame) == due(expected.number)
+    let base = legal_row(exponent);
+    frames_within(expected.length, &base, words, rows, frame) == due(expected.number)
 }

@@ -24,6 +24,12 @@ use plain::values::part;
 use whole_job::Answered;
 use whole_job::Job;
 
+// What the rows of a frame have in common: how many columns they have, and the exponent at which their check sums begin.
+pub(crate) struct RowShape {
+    pub(crate) columns: u16,
+    pub(crate) exponent: u32,
+}
+
 // A refused locate is one after which no frame is due, and the job is shaped: a repair is refused by 22 and leaves the frame.
 fn stays(job: Job, damaged: &[u16], due: &[u16]) -> bool {
     if due.len() != 0 {
@@ -42,7 +48,7 @@ fn stays(job: Job, damaged: &[u16], due: &[u16]) -> bool {
 // Repair answers the named columns and leaves a legal frame that differs from the damaged one in just these. Where a frame is due, it is that.
 fn mends(
     job: Job,
-    columns: u16,
+    shape: RowShape,
     checks: &[u16],
     damaged: &[u16],
     due: &[u16],
@@ -63,38 +69,40 @@ fn mends(
         return false;
     }
     let mended = part(&room, 0, damaged.len());
-    if !legal(columns, checks, mended) {
+    if !legal(shape.exponent, shape.columns, checks, mended) {
         return false;
     }
     if !same(due, mended, 0) {
         return false;
     }
-    differ_in(columns, checks.len(), damaged, mended, named)
+    differ_in(shape.columns, checks.len(), damaged, mended, named)
 }
 
 // By trying all sets of columns: one set of c columns and no smaller one explains the check sums of a located frame, and none of
 // c columns or fewer those of a frame refused by 26.
 fn sets_agree(
-    columns: usize,
+    shape: RowShape,
     checks: &[u16],
     sums: &[u16],
     expected: Expected,
     named: &[u16],
 ) -> bool {
+    let exponent = shape.exponent;
+    let columns = shape.columns as usize;
     let c = expected.length;
     if expected.number == 26 {
-        return c < nearest(columns, checks, sums);
+        return c < nearest(exponent, columns, checks, sums);
     }
     if expected.number != 0 {
         return true;
     }
-    if nearest(columns, checks, sums) != c {
+    if nearest(exponent, columns, checks, sums) != c {
         return false;
     }
-    if ways(c, columns, checks, sums) != 1 {
+    if ways(c, exponent, columns, checks, sums) != 1 {
         return false;
     }
-    explain(part(named, 0, columns), checks, sums)
+    explain(exponent, part(named, 0, columns), checks, sums)
 }
 
 // By trying all legal frames: one lies within c columns of a located frame, and none of a frame refused by 26.
@@ -111,7 +119,7 @@ fn frames_agree(base: &[u16], rows: usize, damaged: &[u16], expected: Expected) 
 
 // What is expected is right by the ways that small frames allow.
 fn confirmed(
-    columns: u16,
+    shape: RowShape,
     checks: &[u16],
     sums: &[u16],
     damaged: &[u16],
@@ -119,10 +127,10 @@ fn confirmed(
     named: &[u16],
     base: &[u16],
 ) -> bool {
-    if columns > 8 {
+    if shape.columns > 8 {
         return true;
     }
-    if !sets_agree(columns as usize, checks, sums, expected, named) {
+    if !sets_agree(shape, checks, sums, expected, named) {
         return false;
     }
     if base.len() == 0 {
@@ -156,7 +164,7 @@ fn answers(answer: Answered, expected: Expected, named: &[u16]) -> bool {
 // All answers about the damaged frame are right. What is due is the frame that must be restored, or nothing.
 pub(crate) fn agrees(
     job: Job,
-    columns: u16,
+    shape: RowShape,
     checks: &[u16],
     damaged: &[u16],
     due: &[u16],
@@ -164,11 +172,11 @@ pub(crate) fn agrees(
     counts: &mut [u64],
 ) -> bool {
     let mut sums = [0u16; 512];
-    check_sums(columns, checks, damaged, &mut sums);
+    check_sums(shape.exponent, shape.columns, checks, damaged, &mut sums);
     let mut marks = [0u16; 256];
-    let expected = locate(columns, checks, &sums, &mut marks);
+    let expected = locate(shape.columns, checks, &sums, &mut marks);
     let named = part(&marks, 0, 256);
-    if !confirmed(columns, checks, &sums, damaged, expected, named, base) {
+    if !confirmed(shape, checks, &sums, damaged, expected, named, base) {
         return false;
     }
     let none = [0u64; 32];
@@ -182,7 +190,7 @@ pub(crate) fn agrees(
     }
     mends(
         answer.job,
-        columns,
+        shape,
         checks,
         damaged,
         due,

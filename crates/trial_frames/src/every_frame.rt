@@ -9,11 +9,11 @@ use plain::values::put;
 use plain::values::times;
 
 // Finds the legal row whose data symbol is 1 by trying all check symbols.
-pub(crate) fn find_base(base: &mut [u16]) -> bool {
+pub(crate) fn find_base(exponent: u32, base: &mut [u16]) -> bool {
     put(base, 2, 1);
     let checks = [2u16];
     for _ in 0..66049usize {
-        if legal(3, &checks, part(base, 0, 3)) {
+        if legal(exponent, 3, &checks, part(base, 0, 3)) {
             return true;
         }
         if !advance(257, base, 0, 2) {

@@ -1,4 +1,5 @@
 // The four calls on a job against the definitions, on random frames with damage below, at and above half of the checks.
+use crate::agreement::RowShape;
 use crate::agreement::agrees;
 use crate::every_frame::find_base;
 use crate::tallies::ABOVE_HALF;
@@ -9,6 +10,7 @@ use plain::compare::same_data;
 use plain::damage::damage;
 use plain::frames::legal;
 use plain::random::draw;
+use plain::random::draw_exponent;
 use plain::random::draw_from;
 use plain::random::fill_from;
 use plain::tally::count;
@@ -21,26 +23,26 @@ use plain::values::product;
 use whole_job::Job;
 
 // How large random frames are: of full size, of any size from 65 columns on, of at most seven columns, or of three columns with two checks
-// in each of at most two rows; or, for the planted model, of six columns and two rows.
+// in each of at most two rows, these with a given exponent; or, for the planted model, of six columns and two rows.
 pub(crate) enum Size {
     Full,
     Large,
     Small,
-    Tiny,
+    Tiny(u32),
     Planted,
 }
 
 // Encoding leaves the data and makes the frame legal.
-fn encodes(job: Job, columns: u16, checks: &[u16], frame: &mut [u16], n: usize) -> bool {
+fn encodes(job: Job, shape: RowShape, checks: &[u16], frame: &mut [u16], n: usize) -> bool {
     let mut data = [0u16; 2048];
     copy(frame, &mut data, 0);
     if of_checked(whole_job::encode(job, first(frame, n))) != 0 {
         return false;
     }
-    if !same_data(columns, checks, &data, frame) {
+    if !same_data(shape.columns, checks, &data, frame) {
         return false;
     }
-    legal(columns, checks, frame)
+    legal(shape.exponent, shape.columns, checks, frame)
 }
 
 fn smaller(a: u16, b: u16) -> u16 {
@@ -85,11 +87,21 @@ fn due(original: &[u16], w: u16, half: u16) -> &[u16] {
     part(original, 0, 0)
 }
 
+fn show(shape: RowShape, checks: &[u16], frame: &[u16]) {
+    print_frame(
+        b"frames disagree",
+        shape.exponent,
+        shape.columns,
+        checks,
+        frame,
+    );
+}
+
 // Damages a legal frame and compares the answers about it.
 fn compare_damaged(
     state: &mut u64,
     job: Job,
-    columns: u16,
+    shape: RowShape,
     checks: &[u16],
     original: &[u16],
     base: &[u16],
@@ -100,20 +112,20 @@ fn compare_damaged(
     tally_damage(w, half, counts);
     let mut room = [0u16; 2048];
     copy(original, &mut room, 0);
-    damage(state, columns, checks.len(), w, &mut room);
+    damage(state, shape.columns, checks.len(), w, &mut room);
     let damaged = part(&room, 0, original.len());
     let due = due(original, w, half);
-    if agrees(job, columns, checks, damaged, due, base, counts) {
+    if agrees(job, shape, checks, damaged, due, base, counts) {
         return true;
     }
-    print_frame(b"frames disagree", columns, checks, damaged);
+    show(shape, checks, damaged);
     false
 }
 
 // A random frame, encoded, damaged and compared. Each row has one of `spread` numbers of checks from `few` on.
 fn compare_random(
     state: &mut u64,
-    columns: u16,
+    shape: RowShape,
     rows: u16,
     few: u16,
     spread: u16,
@@ -123,52 +135,70 @@ fn compare_random(
     let mut list = [0u16; 8];
     fill_from(state, few, spread, &mut list, rows as usize);
     let checks = part(&list, 0, rows as usize);
-    let shaped = whole_job::shape(whole_job::empty(), columns as usize, checks);
+    let columns = shape.columns;
+    let shaped = whole_job::shape(whole_job::empty(), columns as usize, checks, shape.exponent);
     let n = product(rows, columns) as usize;
     let mut room = [0u16; 2048];
     fill_from(state, 0, 257, &mut room, n);
-    if !encodes(shaped.job, columns, checks, &mut room, n) {
-        print_frame(b"frames disagree", columns, checks, part(&room, 0, n));
+    if !encodes(shaped.job, shape, checks, &mut room, n) {
+        show(shape, checks, part(&room, 0, n));
         return false;
     }
     let original = part(&room, 0, n);
-    compare_damaged(state, shaped.job, columns, checks, original, base, counts)
+    compare_damaged(state, shaped.job, shape, checks, original, base, counts)
 }
 
 // A frame of two rows with three and two checks against a model that takes both for rows with three.
 fn compare_planted(state: &mut u64, counts: &mut [u64]) -> bool {
+    let shape = RowShape {
+        columns: 6,
+        exponent: 1,
+    };
     let checks = [3u16, 2];
-    let shaped = whole_job::shape(whole_job::empty(), 6, &checks);
+    let shaped = whole_job::shape(whole_job::empty(), 6, &checks, 1);
     let mut room = [0u16; 12];
     damage(state, 6, 2, 2, &mut room);
     let taken = [3u16, 3];
     let none = [0u16; 0];
-    if agrees(shaped.job, 6, &taken, &room, &none, &none, counts) {
+    if agrees(shaped.job, shape, &taken, &room, &none, &none, counts) {
         return true;
     }
-    print_frame(b"frames disagree", 6, &checks, &room);
+    show(shape, &checks, &room);
     false
 }
 
 fn compare_drawn(state: &mut u64, size: Size, base: &[u16], counts: &mut [u64]) -> bool {
+    let exponent = draw_exponent(state);
     match size {
-        Size::Full => compare_random(state, 256, 8, 64, 1, base, counts),
+        Size::Full => {
+            let shape = RowShape {
+                columns: 256,
+                exponent,
+            };
+            compare_random(state, shape, 8, 64, 1, base, counts)
+        }
         Size::Large => {
             let columns = draw_from(state, 65, 192);
             let rows = draw_from(state, 1, 8);
             let few = draw_from(state, 33, 32);
             let spread = std::num::wrapping_sub_u16(65, few);
-            compare_random(state, columns, rows, few, spread, base, counts)
+            let shape = RowShape { columns, exponent };
+            compare_random(state, shape, rows, few, spread, base, counts)
         }
         Size::Small => {
             let most = draw_from(state, 1, 6);
             let columns = std::num::wrapping_add_u16(most, 1);
             let rows = draw_from(state, 1, 4);
-            compare_random(state, columns, rows, 1, most, base, counts)
+            let shape = RowShape { columns, exponent };
+            compare_random(state, shape, rows, 1, most, base, counts)
         }
-        Size::Tiny => {
+        Size::Tiny(exponent) => {
             let rows = draw_from(state, 1, 2);
-            compare_random(state, 3, rows, 2, 1, base, counts)
+            let shape = RowShape {
+                columns: 3,
+                exponent,
+            };
+            compare_random(state, shape, rows, 2, 1, base, counts)
         }
         Size::Planted => compare_planted(state, counts),
     }
@@ -189,11 +219,22 @@ pub(crate) fn random(
     true
 }
 
-// Frames of three columns against all legal frames.
-pub(crate) fn tiny(state: &mut u64, n: usize, counts: &mut [u64]) -> bool {
+// n frames of three columns against all legal frames.
+fn tiny(state: &mut u64, exponent: u32, n: usize, counts: &mut [u64]) -> bool {
     let mut base = [0u16; 3];
-    if !find_base(&mut base) {
+    if !find_base(exponent, &mut base) {
         return false;
     }
-    random(state, Size::Tiny, n, &base, counts)
+    random(state, Size::Tiny(exponent), n, &base, counts)
+}
+
+// The same for the first exponents, the last, and those around 128, where 3^b is −1.
+pub(crate) fn tiny_each(state: &mut u64, n: usize, counts: &mut [u64]) -> bool {
+    let exponents = [0u16, 1, 2, 127, 128, 255];
+    for k in 0..6 {
+        if !tiny(state, get(&exponents, k) as u32, n, counts) {
+            return false;
+        }
+    }
+    true
 }

@@ -13,7 +13,7 @@ use plain::tally::print_end;
 // Runs everything up to the first disagreement.
 fn run(state: &mut u64, counts: &mut [u64]) -> bool {
     let none = [0u16; 0];
-    if !frames::tiny(state, 100, counts) {
+    if !frames::tiny_each(state, 20, counts) {
         return false;
     }
     if !frames::random(state, Size::Small, 2000, &none, counts) {

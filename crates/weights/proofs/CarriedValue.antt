@@ -1,12 +1,12 @@
 -- The quotient divided once more by the factor of its column is evaluated: what is carried last, times the weight of the column in the first check sum, is the
 -- weight in the last one times the value at the inverse of the locator.
 use mathlib.Core.Path.{_≡_, sym, ap, ap₂, _∙_}
-use mathlib.Core.List.{List, [], _∷_}
-use Prim.Native.Nat.{ℕ, suc, _+_, _*_, _%_}
+use mathlib.Core.List.{List}
+use Prim.Native.Nat.{ℕ, suc, _+_, _%_}
 use native.Mathlib.Nat.{mod-lt}
 use native.Mathlib.Omega.{arith}
 use lib.Dec.{lit<}
-use lib.ListN.{length, getD}
+use lib.ListN.{length}
 use Rattle.algebra.specs.Polynomial.{eval}
 use Rattle.algebra.specs.Ring.{CRing, Field}
 use Rattle.algebra.specs.Sum.{pow}
@@ -22,7 +22,7 @@ use Rattle.field257.proofs.Field257.{F257, R257, res257, res-tells, symbols, lo
 use Rattle.field257.proofs.LocatorPolynomial.{res-value}
 use Rattle.field257.proofs.Locators.{locator-nonzero}
 use Rattle.frame.specs.Frame.{weight}
-use Rattle.frame.proofs.Weights.{firstExponent, weightAt, res-weight}
+use Rattle.frame.proofs.Weights.{weightAt, res-weight}
 use Rattle.weights.specs.Weights.{carried}
 use Rattle.weights.proofs.Division.{carried-zero, carried-suc}
 open Field F257 using (inv, mul-inv)
@@ -43,15 +43,15 @@ module _ (i : ℕ) (f : List ℕ) where
       ∙ mul-zero R257 (locatorAt i)) ∙ add-zero (symbols f 0))
       (λ k. res-carried (suc k))
 
-  pub carried-scale : (d : ℕ) → length f ≡ suc d
-      → times 257 (weight i 1 % 257) (carried f (locatorOf i) (suc d)) ≡ times 257 (weight i (suc d) % 257) (value 257 f (inverse 257 (locatorOf i)))
-  carried-scale d sized =
+  pub carried-scale : (b d : ℕ) → length f ≡ suc d
+      → times 257 (weight b i 1 % 257) (carried f (locatorOf i) (suc d)) ≡ times 257 (weight b i (suc d) % 257) (value 257 f (inverse 257 (locatorOf i)))
+  carried-scale b d sized =
       res-tells _ _ (mod-lt _ (lit< tt)) (mod-lt _ (lit< tt))
-      (res-times 257 prime-257 _ _ ∙ ap₂ _⊗_ (res-mod 257 prime-257 (weight i 1) ∙ res-weight i 0) (carried-value d)
-      ∙ sym (mul-assoc (weightAt i 0) (pow R257 (locatorAt i) d) there)
-      ∙ ap (λ w. w ⊗ there) (sym (pow-add R257 (locatorAt i) (firstExponent + 0) d)
-      ∙ ap (pow R257 (locatorAt i)) (let q : firstExponent + 0 + d ≡ firstExponent + d = omega arith in q))
-      ∙ sym (res-times 257 prime-257 _ _ ∙ ap₂ _⊗_ (res-mod 257 prime-257 (weight i (suc d)) ∙ res-weight i d)
+      (res-times 257 prime-257 _ _ ∙ ap₂ _⊗_ (res-mod 257 prime-257 (weight b i 1) ∙ res-weight b i 0) (carried-value d)
+      ∙ sym (mul-assoc (weightAt b i 0) (pow R257 (locatorAt i) d) there)
+      ∙ ap (λ w. w ⊗ there) (sym (pow-add R257 (locatorAt i) (b + 0) d)
+      ∙ ap (pow R257 (locatorAt i)) (let q : b + 0 + d ≡ b + d = omega arith in q))
+      ∙ sym (res-times 257 prime-257 _ _ ∙ ap₂ _⊗_ (res-mod 257 prime-257 (weight b i (suc d)) ∙ res-weight b i d)
       (res-value d f (inverse 257 (locatorOf i)) sized
       ∙ ap (eval R257 d (symbols f)) (res-inverse 257 prime-257 (locatorOf i) ∙ ap inv (res-locator i)))))
     where

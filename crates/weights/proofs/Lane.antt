@@ -47,7 +47,8 @@ module _ (f : List ℕ) (x : ℕ) (sums : List ℕ) (m : ℕ) where
     next-coefficient : q′ % 257 ≡ coefficient k
     next-coefficient =
         ap (λ (u : ℕ). u % 257) next
-        ∙ same-sums c (montgomery q x) (getD f k 0) (x * carried f x k) 257 (ap (λ (u : ℕ). u % 257) dividend) (montgomery-residue q x (carried f x k) (lane .last))
+        ∙ same-sums c (montgomery q x) (getD f k 0) (x * carried f x k) 257 (ap (λ (u : ℕ). u % 257) dividend)
+        (montgomery-residue q x (carried f x k) (lane .last))
         ∙ sym (carried-suc f x k)
 
     pub lane-more : Lane (k + 1) q′ v′ t′

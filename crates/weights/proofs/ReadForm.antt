@@ -18,7 +18,7 @@ use Rattle.lists.proofs.Totals.{total-ext, total-mod, total-mul}
 use Rattle.frame.proofs.ClosedForm.{otherColumns, symbolFor}
 use Rattle.field257.proofs.Field257.{R257, res257, res-tells}
 use Rattle.weights.specs.Weights.{coefficient, factorOf, readOff}
-open CRing R257 using (zero as 𝟘, add as _⊕_, mul as _⊗_, neg)
+open CRing R257 using (add as _⊕_, mul as _⊗_, neg)
 
 infixl 60 _⊕_
 infixl 70 _⊗_
@@ -44,11 +44,12 @@ factored m c f s =
         mod-mul-mod (f k * c) 257 (s k)
         ∙ ap (λ (t : ℕ). t % 257) (mul-assoc (f k) c (s k) ∙ ap (λ (t : ℕ). f k * t) (mul-comm c (s k)) ∙ sym (mul-assoc (f k) (s k) c))
 
-pub symbol-form : (J : Columns) (s : ℕ → ℕ) (i : ℕ)
-    → (let m = length (members J) in total m (λ k. coefficient J i k * s (m - k)) % 257) ≡ symbolFor J s (length (members J)) i
+pub symbol-form : (b : ℕ) (J : Columns) (s : ℕ → ℕ) (i : ℕ)
+    → (let m = length (members J) in total m (λ k. coefficient b J i k * s (m - k)) % 257) ≡ symbolFor b J s (length (members J)) i
 unfolding coefficient readOff factorOf
-symbol-form J s i =
-    factored m (factorOf m i (otherColumns J s i)) (λ k. getD (otherColumns J s i) k 0) (λ k. s (m - k)) ∙ sym (negated _ _ (le-of-lt (mod-lt _ (lit< tt))))
+symbol-form b J s i =
+    factored m (factorOf b m i (otherColumns b J s i)) (λ k. getD (otherColumns b J s i) k 0) (λ k. s (m - k))
+    ∙ sym (negated _ _ (le-of-lt (mod-lt _ (lit< tt))))
   where
     m : ℕ
     m = length (members J)

@@ -5,10 +5,12 @@ use Prim.Native.Nat.{ℕ, _≤_, _<_}
 use lib.ListN.{length, getD}
 use Rattle.field257.specs.Table.{table}
 
--- the table of powers, a column of a frame, and no more coefficients than a set has columns
-pub record Weighable (powers : List ℕ) (i : ℕ) (row : List ℕ) : Type 0 where
+-- the table of powers, an exponent of a shape, a column of a frame, and coefficients, no more than a set has columns
+pub record Weighable (powers : List ℕ) (b i : ℕ) (row : List ℕ) : Type 0 where
   pub powers-known : powers ≡ table
+  pub exponent : b ≤ 255
   pub column : i < 256
+  pub some : 1 ≤ length row
   pub few : length row ≤ 64
 
 -- a symbol is read off the sums, one for each coefficient

@@ -4,7 +4,7 @@ pub mod read;
 use field::residue::difference;
 use field::residue::product;
 use field257::inverses::inverse;
-use field257::powers::entry;
+use field257::powers::power_of_3;
 use field257::powers::wide;
 use field257::values::value_at;
 ghost use mathlib.Core.Path.{_≡_};
@@ -43,26 +43,26 @@ fn scale(row: &mut [u16], c: u32)
 }
 
 // What the coefficients of column i are multiples of, for the locator polynomial of the other columns of its set.
-fn factor(powers: &[u16; 256], others: &[u16], i: usize) -> u32
-    requires { ⌜ Weighable (now powers) i (now others) ⌝ }
-    ensures equals { λ r. ⌜ r ≡ factorOf (length (now (others .entry))) i (now (others .entry)) ⌝ }
+fn factor(powers: &[u16; 256], b: u32, others: &[u16], i: usize) -> u32
+    requires { ⌜ Weighable (now powers) b i (now others) ⌝ }
+    ensures equals { λ r. ⌜ r ≡ factorOf b (length (now (others .entry))) i (now (others .entry)) ⌝ }
     ensures below { λ r. ⌜ r < 257 ⌝ }
 {
-    let there = value_at(powers, others, 256 - i);
-    let weight = entry(powers, (i * others.len()) % 256);
-    let part = product(weight, wide(there), 257);
+    let there = value_at(powers, others, (256 - i) as u32);
+    let weight = power_of_3(powers, (i as u32) * (b + others.len() as u32 - 1));
+    let part = product(wide(weight), wide(there), 257);
     difference(0, inverse(part), 257)
 }
 
 // The coefficients of column i of a set with the locator polynomial f, as many as the set has columns.
-pub fn weigh(powers: &[u16; 256], f: &[u16; 65], i: usize, row: &mut [u16])
-    requires { ⌜ Weighable (now powers) i (now row) ⌝ }
+pub fn weigh(powers: &[u16; 256], b: u32, f: &[u16; 65], i: usize, row: &mut [u16])
+    requires { ⌜ Weighable (now powers) b i (now row) ⌝ }
     ensures { λ r. ⌜
         now (row .exit) ≡ tabulate (length (now (row .entry)))
-        (readOff (length (now (row .entry))) i (tabulate (length (now (row .entry))) (λ k. carried (now (f .entry)) (locatorOf i) (suc k))))
+        (readOff b (length (now (row .entry))) i (tabulate (length (now (row .entry))) (λ k. carried (now (f .entry)) (locatorOf i) (suc k))))
         ⌝ }
 {
-    divide(f, entry(powers, i), row);
-    let c = factor(powers, row, i);
+    divide(f, wide(power_of_3(powers, i as u32)), row);
+    let c = factor(powers, b, row, i);
     scale(row, c);
 }

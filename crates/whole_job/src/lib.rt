@@ -47,10 +47,10 @@ pub fn empty() -> Job
     }
 }
 
-pub fn shape(j: Job, columns: usize, checks: &[u16]) -> Reshaped
-    ensures { λ r. ⌜ shapeOutcome (reshapedOf r) (arraysOf (r .job)) ≡ step (jobOf j) (shape columns (now (checks .entry))) ⌝ }
+pub fn shape(j: Job, columns: usize, checks: &[u16], exponent: u32) -> Reshaped
+    ensures { λ r. ⌜ shapeOutcome (reshapedOf r) (arraysOf (r .job)) ≡ step (jobOf j) (shape columns (now (checks .entry)) exponent) ⌝ }
 {
-    let answer = calls::shape::shape(j.head, columns, checks);
+    let answer = calls::shape::shape(j.head, columns, checks, exponent);
     let checked = answer.checked;
     let head = answer.head;
     let sums = j.sums;

@@ -2,14 +2,16 @@
 //! from a frame. Nothing is solved but the first check sum for the first symbol.
 
 use std::collections::{BTreeMap, HashMap};
+use std::ops::Range;
 
 use common::interface::Declared;
 
 use super::frames::{Shape, cells_of, weights};
 
-/// The legal rows by the numbers of columns and checks, listed where they are first asked for.
+/// The legal rows by the number of columns and the exponents of the check sums, listed where they are
+/// first asked for.
 #[derive(Default)]
-pub struct LegalRows(HashMap<(usize, usize), Vec<Vec<u16>>>);
+pub struct LegalRows(HashMap<(usize, Range<usize>), Vec<Vec<u16>>>);
 
 /// Legal frames that differ alike: how many, and one of them.
 #[derive(Clone, Debug, PartialEq)]
@@ -29,9 +31,12 @@ fn count_in(all: &mut Counted, key: usize, count: u128, frame: impl Fn() -> Vec<
     all.entry(key).or_insert_with(one).count += count;
 }
 
-/// Every row whose check sums are 0. The first symbol has the weight 1 in each sum.
-fn list(columns: usize, checks: usize) -> Vec<Vec<u16>> {
-    let weights: Vec<Vec<u64>> = (1..=checks).map(|j| weights(columns, j)).collect();
+/// Every row of at most four columns whose check sums are 0. The first symbol has the weight 1 in each
+/// sum.
+fn list(columns: usize, exponents: Range<usize>) -> Vec<Vec<u16>> {
+    let weights: Vec<Vec<u64>> = exponents
+        .map(|exponent| weights(columns, exponent))
+        .collect();
     let sum = |row: &[u16], weights: &[u64]| {
         let products = row
             .iter()
@@ -40,7 +45,7 @@ fn list(columns: usize, checks: usize) -> Vec<Vec<u16>> {
         products.sum::<u64>() % 257
     };
     let all = (0..257usize.pow(columns as u32 - 1)).map(|number| {
-        let mut row = vec![0; columns];
+        let mut row = [0; 4];
         let mut rest = number;
         for symbol in &mut row[1..] {
             *symbol = (rest % 257) as u16;
@@ -50,6 +55,7 @@ fn list(columns: usize, checks: usize) -> Vec<Vec<u16>> {
         row
     });
     all.filter(|row| weights[1..].iter().all(|weights| sum(row, weights) == 0))
+        .map(|row| row[..columns].to_vec())
         .collect()
 }
 
@@ -88,11 +94,12 @@ impl LegalRows {
     /// The legal rows by the set of columns in which they differ from the row at place h in a cell
     /// that is not declared.
     fn by_columns(&mut self, shape: &Shape, declared: &Declared, h: usize, row: &[u16]) -> Counted {
-        let kind = (shape.columns, usize::from(shape.checks[h]));
+        let exponents = shape.exponents(usize::from(shape.checks[h]));
+        let listed = self.0.entry((shape.columns, exponents.clone()));
         let cells = cells_of(declared, h);
         let seen: Vec<usize> = (0..shape.columns).filter(|i| !cells.contains(i)).collect();
         let mut rows = Counted::new();
-        for legal in self.0.entry(kind).or_insert_with(|| list(kind.0, kind.1)) {
+        for legal in listed.or_insert_with(|| list(shape.columns, exponents)) {
             let differing = seen.iter().filter(|&&i| legal[i] != row[i]);
             let set = differing.fold(0, |set, i| set | 1 << i);
             count_in(&mut rows, set, 1, || legal.clone());

@@ -2,6 +2,8 @@
 //! distance by counting, and the legal frames that differ in given columns by solving for the symbols
 //! there.
 
+use std::ops::Range;
+
 use common::interface::{Declared, Marks, NOTHING};
 
 use super::elimination::System;
@@ -10,6 +12,7 @@ use super::elimination::System;
 pub struct Shape {
     pub columns: usize,
     pub checks: Vec<u16>,
+    pub exponent: u32,
 }
 
 impl Shape {
@@ -31,6 +34,12 @@ impl Shape {
         rows.map(left).min().unwrap_or(0)
     }
 
+    /// The exponents of the locators in the first `count` check sums: b + j − 1 for j from 1.
+    pub fn exponents(&self, count: usize) -> Range<usize> {
+        let first = self.exponent as usize;
+        first..first + count
+    }
+
     fn rows<'a>(&'a self, frame: &'a [u16]) -> impl Iterator<Item = (&'a [u16], usize)> {
         frame
             .chunks(self.columns)
@@ -38,17 +47,17 @@ impl Shape {
     }
 }
 
-/// The powers 3^(i·j) modulo 257 of the columns i below n.
-pub fn weights(n: usize, j: usize) -> Vec<u64> {
+/// The powers 3^(i·exponent) modulo 257 of the columns i below n.
+pub fn weights(n: usize, exponent: usize) -> Vec<u64> {
     let times = |base: u64, count: usize| (0..count).fold(1, |value, _| value * base % 257);
-    let step = times(3, j);
+    let step = times(3, exponent);
     std::iter::successors(Some(1), |weight| Some(weight * step % 257))
         .take(n)
         .collect()
 }
 
-fn check_sum(row: &[u16], j: usize) -> u16 {
-    let sum: u64 = weights(row.len(), j)
+fn check_sum(row: &[u16], exponent: usize) -> u16 {
+    let sum: u64 = weights(row.len(), exponent)
         .iter()
         .zip(row)
         .map(|(weight, &symbol)| weight * u64::from(symbol))
@@ -60,7 +69,10 @@ fn check_sum(row: &[u16], j: usize) -> u16 {
 pub fn check_sums(shape: &Shape, frame: &[u16]) -> Vec<u16> {
     shape
         .rows(frame)
-        .flat_map(|(row, checks)| (1..=checks).map(|j| check_sum(row, j)))
+        .flat_map(|(row, checks)| {
+            let exponents = shape.exponents(checks);
+            exponents.map(|exponent| check_sum(row, exponent))
+        })
         .collect()
 }
 
@@ -131,12 +143,13 @@ pub fn open_columns(declared: &Declared, h: usize, columns: &[usize]) -> Vec<usi
     open
 }
 
-/// The row that agrees with the given one outside the columns and whose check sums 1 .. count are
-/// 0, if there is one. At most as many columns as sums, so that there is no more than one.
-pub fn completed(row: &[u16], columns: &[usize], count: usize) -> Option<Vec<u16>> {
+/// The row that agrees with the given one outside the columns and whose check sums with these
+/// exponents are 0, if there is one. At most as many columns as sums, so that there is no more than
+/// one.
+pub fn completed(row: &[u16], columns: &[usize], exponents: Range<usize>) -> Option<Vec<u16>> {
     let mut system = System::new(257, columns.len());
-    for j in 1..=count {
-        let weights = weights(row.len(), j);
+    for exponent in exponents {
+        let weights = weights(row.len(), exponent);
         let kept = |i: &usize| !columns.contains(i);
         let rest: u64 = (0..row.len())
             .filter(kept)
@@ -166,7 +179,10 @@ pub fn legal_at_columns(
     let rows: Option<Vec<_>> = shape
         .rows(frame)
         .enumerate()
-        .map(|(h, (row, checks))| completed(row, &open_columns(declared, h, columns), checks))
+        .map(|(h, (row, checks))| {
+            let open = open_columns(declared, h, columns);
+            completed(row, &open, shape.exponents(checks))
+        })
         .collect();
     Some(rows?.concat())
 }

@@ -61,13 +61,14 @@ fn is_bad_count(columns: usize, count: u16) -> bool {
     !(1..=64).contains(&count) || usize::from(count) >= columns
 }
 
-fn shape_refusal(columns: usize, checks: &[u16]) -> u32 {
+fn shape_refusal(columns: usize, checks: &[u16], exponent: u32) -> u32 {
     first(&[
         (2, &|| checks.is_empty() || checks.len() > 8),
         (5, &|| !(2..=256).contains(&columns)),
         (6, &|| {
             checks.iter().any(|&count| is_bad_count(columns, count))
         }),
+        (32, &|| exponent > 255),
     ])
 }
 
@@ -79,8 +80,9 @@ pub fn shape_of(head: &Head) -> Option<Shape> {
     let shape = Shape {
         columns,
         checks: head.checks.get(..rows)?.to_vec(),
+        exponent: head.exponent,
     };
-    let shaped = shape_refusal(columns, &shape.checks) == 0;
+    let shaped = shape_refusal(columns, &shape.checks, shape.exponent) == 0;
     let marked = columns_of(&head.marks);
     let found = head.alone == 1
         && marked.len() as u64 == head.length
@@ -100,7 +102,7 @@ fn held_sums(shape: &Shape, frame: &[u16]) -> [u16; 512] {
 fn mended(shape: &Shape, declared: &Declared, frame: &[u16], columns: &[usize]) -> Vec<u16> {
     let complete = |(h, row)| {
         let open = open_columns(declared, h, columns);
-        frames::completed(row, &open, open.len()).expect("as many sums as columns")
+        frames::completed(row, &open, shape.exponents(open.len())).expect("as many sums as columns")
     };
     let rows = frame.chunks(shape.columns).enumerate();
     rows.flat_map(complete).collect()
@@ -209,10 +211,10 @@ impl Calls for Independent {
         *job = Job::EMPTY;
     }
 
-    fn shape(&self, job: &mut Job, columns: usize, checks: &[u16]) -> u32 {
-        let refusal = shape_refusal(columns, checks);
+    fn shape(&self, job: &mut Job, columns: usize, checks: &[u16], exponent: u32) -> u32 {
+        let refusal = shape_refusal(columns, checks, exponent);
         if refusal == 0 {
-            job.head = Head::shaped(columns, checks);
+            job.head = Head::shaped(columns, checks, exponent);
         }
         refusal
     }
@@ -230,8 +232,9 @@ impl Calls for Independent {
         }
         for (row, &checks) in frame.chunks_mut(shape.columns).zip(&shape.checks) {
             let columns: Vec<usize> = (0..usize::from(checks)).collect();
+            let exponents = shape.exponents(columns.len());
             let legal =
-                frames::completed(row, &columns, columns.len()).expect("as many sums as columns");
+                frames::completed(row, &columns, exponents).expect("as many sums as columns");
             row.copy_from_slice(&legal);
         }
         0

@@ -11,12 +11,15 @@ use crate::independent::register_of;
 use crate::judge::{FILLED, Judge};
 use crate::trials::frames::mend;
 use crate::trials::{
-    bad_cells, damaged, malformed, refilled, shaped, some_cells, some_legal_frame, some_shape,
+    EXPONENTS, bad_cells, damaged, malformed, refilled, shaped, some_cells, some_exponent,
+    some_legal_frame, some_shape,
 };
 
 pub fn run(judge: &mut Judge) {
     let mut random = Random::new(9);
-    smallest(judge);
+    for exponent in EXPONENTS {
+        smallest(judge, exponent);
+    }
     order(judge);
     every_mark(judge);
     for _ in 0..2_500 {
@@ -34,9 +37,13 @@ pub fn run(judge: &mut Judge) {
         let shape = some_shape(&mut random, 256);
         frames(judge, &mut random, &shape);
     }
-    for columns in [65, 256] {
+    for (columns, exponent) in [(65, 128), (256, 1)] {
         let checks = vec![64; 8];
-        let shape = Shape { columns, checks };
+        let shape = Shape {
+            columns,
+            checks,
+            exponent,
+        };
         frames(judge, &mut random, &shape);
         all_checks(judge, &mut random, &shape);
         for count in [1, 8, 20, 32] {
@@ -48,11 +55,12 @@ pub fn run(judge: &mut Judge) {
 }
 
 /// The smallest frame with c columns named, checks enough and no legal frame at distance c, whatever
-/// its declared cell holds; and one beside it that is mended.
-fn smallest(judge: &mut Judge) {
+/// its declared cell holds and the exponent is; and one beside it that is mended.
+fn smallest(judge: &mut Judge, exponent: u32) {
     let shape = Shape {
         columns: 3,
         checks: vec![2, 2],
+        exponent,
     };
     let declared = declaring(&[vec![], vec![0]]);
     for lost in [0, 1, 256, 257, 65535] {
@@ -83,6 +91,7 @@ fn order(judge: &mut Judge) {
     let shape = Shape {
         columns: 5,
         checks: vec![2, 3],
+        exponent: 1,
     };
     let declared = declaring(&[vec![1, 4], vec![]]);
     let bad = declaring(&[vec![1, 2, 4], vec![]]);
@@ -111,6 +120,7 @@ fn every_mark(judge: &mut Judge) {
     let shape = Shape {
         columns: 66,
         checks: vec![2, 1, 5],
+        exponent: 255,
     };
     let sent = vec![0; shape.size()];
     for k in 0..2048 {
@@ -227,6 +237,7 @@ fn full_set(judge: &mut Judge, random: &mut Random, columns: usize, count: usize
     let shape = Shape {
         columns,
         checks: vec![64, 64],
+        exponent: some_exponent(random),
     };
     let sent = some_legal_frame(random, &shape);
     let hit = random.subset(columns, count);
@@ -295,6 +306,7 @@ fn marked_and_declared(judge: &mut Judge, random: &mut Random) {
         let shape = Shape {
             columns: random.from_to(least, least + 4),
             checks: vec![2 * count as u16, (count + lost) as u16],
+            exponent: some_exponent(random),
         };
         let sent = some_legal_frame(random, &shape);
         let (mut first, mut second) = (
@@ -329,7 +341,11 @@ fn enumerated(judge: &mut Judge, random: &mut Random) {
         let checks = (0..random.from_to(1, 4))
             .map(|_| random.from_to(least, columns - 1) as u16)
             .collect();
-        let shape = Shape { columns, checks };
+        let shape = Shape {
+            columns,
+            checks,
+            exponent: random.pick(&EXPONENTS),
+        };
         let declared = some_cells(random, &shape);
         let sent = some_legal_frame(random, &shape);
         let count = random.below(columns);

@@ -1,4 +1,5 @@
-//! The marked examples (SPECIFICATION.md, "Examples"), with the answers that stand there.
+//! The marked examples (SPECIFICATION.md, "Examples"), with the answers that stand there, and some
+//! beside them, worked out by hand.
 
 use common::interface::{Marks, NOTHING};
 
@@ -19,10 +20,11 @@ const REGISTERS: [Sequences; 8] = [
     (2, &[&[0, 1], &[1, 1]], &[1, 0, 0], false),
 ];
 
-/// Columns, checks, the cells that are not 0, and the answer.
+/// The shape, the cells that are not 0, and the answer.
 struct Frame {
     columns: usize,
     checks: &'static [u16],
+    exponent: u32,
     cells: &'static [(usize, u16)],
     located: Result<Located, u32>,
 }
@@ -32,10 +34,11 @@ struct Located {
     marks: Marks,
 }
 
-const FRAMES: [Frame; 5] = [
+const FRAMES: [Frame; 10] = [
     Frame {
         columns: 4,
         checks: &[3, 2],
+        exponent: 1,
         cells: &[(2, 5), (6, 7)],
         located: Ok(Located {
             sums: &[45, 148, 47, 63, 53],
@@ -45,18 +48,21 @@ const FRAMES: [Frame; 5] = [
     Frame {
         columns: 4,
         checks: &[2, 2],
+        exponent: 1,
         cells: &[(0, 1), (1, 1)],
         located: Err(26),
     },
     Frame {
         columns: 4,
         checks: &[1, 1],
+        exponent: 1,
         cells: &[(0, 5)],
         located: Err(24),
     },
     Frame {
         columns: 6,
         checks: &[4, 1],
+        exponent: 1,
         cells: &[(0, 1), (1, 1)],
         located: Err(25),
     },
@@ -64,11 +70,60 @@ const FRAMES: [Frame; 5] = [
     Frame {
         columns: 256,
         checks: &[2],
+        exponent: 1,
         cells: &[(255, 1)],
         located: Ok(Located {
             sums: &[86, 200],
             marks: [0, 0, 0, 1 << 63],
         }),
+    },
+    // Other exponents. The weights of the first sum are 1 in every column; −1 in the odd ones, as 3^128
+    // is −1; and the inverses of the locators, after which they are 1.
+    Frame {
+        columns: 4,
+        checks: &[3, 2],
+        exponent: 0,
+        cells: &[(2, 5), (6, 7)],
+        located: Ok(Located {
+            sums: &[5, 45, 148, 7, 63],
+            marks: [1 << 2, 0, 0, 0],
+        }),
+    },
+    Frame {
+        columns: 4,
+        checks: &[3, 2],
+        exponent: 128,
+        cells: &[(1, 1), (5, 2)],
+        located: Ok(Located {
+            sums: &[256, 254, 248, 255, 251],
+            marks: [1 << 1, 0, 0, 0],
+        }),
+    },
+    Frame {
+        columns: 4,
+        checks: &[3, 2],
+        exponent: 255,
+        cells: &[(2, 9), (6, 18)],
+        located: Ok(Located {
+            sums: &[1, 9, 81, 2, 18],
+            marks: [1 << 2, 0, 0, 0],
+        }),
+    },
+    // Sums 2 4 and 0 0; taps 1 255, and no column below 4 has the locator 2.
+    Frame {
+        columns: 4,
+        checks: &[2, 2],
+        exponent: 0,
+        cells: &[(0, 1), (1, 1)],
+        located: Err(26),
+    },
+    // The row of the last example below, which is legal for the exponent 1: 245 + 1 + 1 is not 0.
+    Frame {
+        columns: 3,
+        checks: &[1],
+        exponent: 0,
+        cells: &[(0, 245), (1, 1), (2, 1)],
+        located: Err(24),
     },
 ];
 
@@ -98,7 +153,7 @@ pub fn run(judge: &mut Judge) {
             frame[place] = symbol;
         }
         let mut job = judge.empty();
-        judge.shape(&mut job, example.columns, example.checks);
+        judge.shape(&mut job, example.columns, example.checks, example.exponent);
         let answer = judge.locate(&mut job, &NOTHING, &frame);
         match example.located {
             Err(number) => judge.compare(
@@ -123,8 +178,12 @@ pub fn run(judge: &mut Judge) {
             }
         }
     }
-    let mut job = judge.empty();
-    judge.shape(&mut job, 3, &[1]);
-    let (_, frame) = judge.encode(&job, &[0, 1, 1]);
-    judge.compare("the check of an example", &(), &[245, 1, 1][..], &frame);
+    // −(3 + 9); −(1 + 1); −(9 + 81); −(−1 + 1); minus the inverses of 3 and 9, which are 86 and 200
+    for (exponent, check) in [(1, 245), (0, 255), (2, 167), (128, 0), (255, 228)] {
+        let mut job = judge.empty();
+        judge.shape(&mut job, 3, &[1], exponent);
+        let (_, frame) = judge.encode(&job, &[0, 1, 1]);
+        let expected = [check, 1, 1];
+        judge.compare("the check of an example", &exponent, &expected[..], &frame);
+    }
 }

@@ -8,7 +8,8 @@ use common::random::Random;
 use crate::independent::frames::{Shape, as_read, marks_of};
 use crate::judge::Judge;
 use crate::trials::{
-    bad_cells, damaged, malformed, refilled, shaped, some_cells, some_legal_frame, some_shape,
+    bad_cells, damaged, malformed, refilled, shaped, some_cells, some_exponent, some_legal_frame,
+    some_shape,
 };
 
 pub fn run(judge: &mut Judge) {
@@ -26,6 +27,7 @@ pub fn run(judge: &mut Judge) {
             judge.locate(&mut job, &declared, &received);
             other_arrays(judge, &mut random, &job, &shape, &received);
         }
+        other_exponents(judge, &job, &declared, &received);
         for _ in 0..random.from_to(1, 3) {
             forge(&mut random, &mut job, &shape);
         }
@@ -66,6 +68,23 @@ fn other_arrays(
     }
 }
 
+/// A job whose head has an exponent above 255 counts as empty, shaped or located.
+fn other_exponents(judge: &mut Judge, job: &Job, declared: &Declared, received: &[u16]) {
+    for exponent in [256, 257, 511, 65_536, 65_537, u32::MAX] {
+        let mut job = *job;
+        job.head.exponent = exponent;
+        let (encoded, _) = judge.encode(&job, received);
+        let located = judge.locate(&mut { job }, declared, received).refusal;
+        let repaired = judge.repair(&mut { job }, received).0.refusal;
+        judge.compare(
+            "the refusals of another exponent",
+            &(job, received),
+            [21; 3],
+            [encoded, located, repaired],
+        );
+    }
+}
+
 fn some_number(random: &mut Random) -> u64 {
     let any = random.bits();
     random.pick(&[
@@ -89,7 +108,7 @@ fn some_number(random: &mut Random) -> u64 {
 
 fn forge(random: &mut Random, job: &mut Job, shape: &Shape) {
     let number = some_number(random);
-    match random.below(16) {
+    match random.below(18) {
         0 => job.head.phase = random.pick(&[EMPTY, SHAPED, LOCATED]),
         1 => job.head.phase = number as u32,
         2 => job.head.alone = number as u32,
@@ -105,6 +124,8 @@ fn forge(random: &mut Random, job: &mut Job, shape: &Shape) {
         12 => job.declared[random.below(32)] = number,
         13 => job.declared = some_cells(random, shape),
         14 => job.declared = bad_cells(random, shape),
+        15 => job.head.exponent = number as u32,
+        16 => job.head.exponent = some_exponent(random),
         _ => random_fields(random, job),
     }
 }
@@ -124,6 +145,7 @@ fn random_fields(random: &mut Random, job: &mut Job) {
     job.sums.fill_with(|| random.bits() as u16);
     job.taps.fill_with(|| random.bits() as u16);
     job.head.checks.fill_with(|| random.bits() as u16);
+    job.head.exponent = random.bits() as u32;
 }
 
 /// Each call on the forged job, and on what the call left; frames with the sums that it holds too.
@@ -147,9 +169,9 @@ fn calls(
         let (_, left) = judge.repair(&mut job, frame);
         judge.locate(&mut job, declared, &left);
     }
-    for columns in [1, 9] {
+    for (columns, exponent) in [(1, 1), (9, 128), (9, 256)] {
         let mut job = *forged;
-        judge.shape(&mut job, columns, &[1, 2]);
+        judge.shape(&mut job, columns, &[1, 2], exponent);
         judge.locate(&mut job, declared, received);
         judge.encode(&job, &[0; 18]);
     }

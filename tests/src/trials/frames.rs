@@ -7,7 +7,7 @@ use common::random::Random;
 use crate::independent::frames::{Shape, differing, is_legal, legal_at};
 use crate::independent::register_of;
 use crate::judge::{FILLED, Judge};
-use crate::trials::{damaged, malformed, shaped, some_legal_frame, some_shape};
+use crate::trials::{EXPONENTS, damaged, malformed, shaped, some_legal_frame, some_shape};
 
 pub fn run(judge: &mut Judge) {
     let mut random = Random::new(3);
@@ -23,17 +23,18 @@ pub fn run(judge: &mut Judge) {
         let shape = some_shape(&mut random, 256);
         frames(judge, &mut random, &shape);
     }
-    for columns in [65, 256] {
-        frames(
-            judge,
-            &mut random,
-            &Shape {
-                columns,
-                checks: vec![64; 8],
-            },
-        );
+    for (columns, exponent) in [(65, 255), (256, 1)] {
+        let checks = vec![64; 8];
+        let shape = Shape {
+            columns,
+            checks,
+            exponent,
+        };
+        frames(judge, &mut random, &shape);
     }
-    every_column(judge, &mut random);
+    for exponent in EXPONENTS {
+        every_column(judge, &mut random, exponent);
+    }
 }
 
 fn frames(judge: &mut Judge, random: &mut Random, shape: &Shape) {
@@ -147,10 +148,11 @@ fn refusals(judge: &mut Judge, random: &mut Random, shaped: &Job, shape: &Shape,
 }
 
 /// One damaged column after the other, in the largest frame.
-fn every_column(judge: &mut Judge, random: &mut Random) {
+fn every_column(judge: &mut Judge, random: &mut Random, exponent: u32) {
     let shape = Shape {
         columns: 256,
         checks: vec![2],
+        exponent,
     };
     let sent = some_legal_frame(random, &shape);
     for i in 0..256 {
@@ -159,6 +161,6 @@ fn every_column(judge: &mut Judge, random: &mut Random) {
         let mut job = shaped(&shape);
         judge.locate(&mut job, &NOTHING, &received);
         let (_, mended) = judge.repair(&mut job, &received);
-        judge.compare("the sent frame comes back", &i, &sent, &mended);
+        judge.compare("the sent frame comes back", &(exponent, i), &sent, &mended);
     }
 }

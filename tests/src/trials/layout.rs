@@ -26,7 +26,7 @@ unsafe extern "C" {
     static tomkhadi_layout: [usize; RUST.len()];
 }
 
-const RUST: [usize; 33] = [
+const RUST: [usize; 34] = [
     size_of::<Register>(),
     align_of::<Register>(),
     offset_of!(Register, refusal),
@@ -41,6 +41,7 @@ const RUST: [usize; 33] = [
     offset_of!(Head, columns),
     offset_of!(Head, marks),
     offset_of!(Head, checks),
+    offset_of!(Head, exponent),
     size_of::<Job>(),
     align_of::<Job>(),
     offset_of!(Job, head),

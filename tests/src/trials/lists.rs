@@ -49,10 +49,10 @@ pub fn run(judge: &mut Judge) {
 
 impl List<'_, '_> {
     fn call(&mut self) {
-        match self.random.below(16) {
-            0 => self.shape(),
-            1..3 => self.encode(),
-            3..9 => self.locate(),
+        match self.random.below(17) {
+            0..2 => self.shape(),
+            2..4 => self.encode(),
+            4..10 => self.locate(),
             _ => self.repair(),
         }
     }
@@ -63,16 +63,28 @@ impl List<'_, '_> {
         self.shape.clone().unwrap_or(other)
     }
 
+    /// Any shape, or the one in force with another exponent; now and then one that is refused.
     fn shape(&mut self) {
         let most = self.random.pick(&[4, 7, 7, 7, 30]);
         let mut shape = some_shape(self.random, most);
-        if self.random.once_in(4) {
-            let place = self.random.below(shape.checks.len());
-            shape.checks[place] = self.random.pick(&[0, shape.columns as u16, 65]);
+        if self.random.once_in(2) {
+            let exponent = shape.exponent;
+            shape = Shape {
+                exponent,
+                ..self.shape_in_force()
+            };
+        }
+        match self.random.below(8) {
+            0..2 => {
+                let place = self.random.below(shape.checks.len());
+                shape.checks[place] = self.random.pick(&[0, shape.columns as u16, 65]);
+            }
+            2 => shape.exponent += self.random.pick(&[256, 65_536]),
+            _ => {}
         }
         let refusal = self
             .judge
-            .shape(&mut self.job, shape.columns, &shape.checks);
+            .shape(&mut self.job, shape.columns, &shape.checks, shape.exponent);
         if refusal == 0 {
             self.shape = Some(shape);
             self.pending = None;
@@ -148,7 +160,8 @@ impl List<'_, '_> {
             }
             let places = self.random.subset(others.len(), checks);
             let places: Vec<usize> = places.iter().map(|&place| others[place]).collect();
-            row.copy_from_slice(&completed(row, &places, checks).expect("as many sums as columns"));
+            let legal = completed(row, &places, shape.exponents(checks));
+            row.copy_from_slice(&legal.expect("as many sums as columns"));
         }
         frame
     }

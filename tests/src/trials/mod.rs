@@ -2,6 +2,7 @@
 
 pub mod declared;
 pub mod examples;
+pub mod exponents;
 pub mod finder;
 pub mod forged;
 pub mod frames;
@@ -19,6 +20,16 @@ use crate::independent::Independent;
 use crate::independent::frames::{Shape, cells_of, declaring};
 use crate::judge::FILLED;
 
+/// The least exponents and the largest, and those around the sign: 3^128 is −1.
+const EXPONENTS: [u32; 6] = [0, 1, 2, 127, 128, 255];
+
+/// 1, one of those above, or any.
+fn some_exponent(random: &mut Random) -> u32 {
+    let edge = random.pick(&EXPONENTS);
+    let any = random.below(256) as u32;
+    random.pick(&[1, edge, edge, any])
+}
+
 /// A shape of at most so many columns, with the same number of checks in all rows half of the time.
 fn some_shape(random: &mut Random, most_columns: usize) -> Shape {
     let columns = random.from_to(2, most_columns);
@@ -30,13 +41,17 @@ fn some_shape(random: &mut Random, most_columns: usize) -> Shape {
     if random.once_in(2) {
         checks = vec![checks[0]; rows];
     }
-    Shape { columns, checks }
+    Shape {
+        columns,
+        checks,
+        exponent: some_exponent(random),
+    }
 }
 
 /// The job of the shape. What its arrays hold plays no part.
 fn shaped(shape: &Shape) -> Job {
     let mut job = FILLED;
-    Independent.shape(&mut job, shape.columns, &shape.checks);
+    Independent.shape(&mut job, shape.columns, &shape.checks, shape.exponent);
     job
 }
 

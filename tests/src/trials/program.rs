@@ -11,6 +11,7 @@ use std::time::Duration;
 
 use common::random::Random;
 
+use crate::independent::frames::Shape;
 use crate::judge::Judge;
 use crate::records::lines;
 use crate::trials::vectors::VECTORS;
@@ -130,8 +131,12 @@ fn some_sequences(random: &mut Random) -> Vec<u8> {
     record(&[&head, &lengths[..], &symbols].concat())
 }
 
+/// A record of a frame, whose check sums begin at the exponent 1.
 fn some_frame(random: &mut Random) -> Vec<u8> {
-    let shape = some_shape(random, 30);
+    let shape = Shape {
+        exponent: 1,
+        ..some_shape(random, 30)
+    };
     let sent = some_legal_frame(random, &shape);
     let count = random.below(shape.least_checks() + 1);
     let mut frame = damaged(random, &shape, &sent, count.min(shape.columns));

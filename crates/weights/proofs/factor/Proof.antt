@@ -1,36 +1,49 @@
 -- `weights::factor` meets its contract.
-use mathlib.Core.Path.{ap, _∙_}
-use Prim.Native.Nat.{_≤_}
+use mathlib.Core.Path.{_≡_, ap₂, _∙_}
+use Prim.Native.Nat.{_+_, _-_, _*_, _≤_}
 use native.Mathlib.Nat.{mul-le-mul}
 use native.Mathlib.Omega.{arith}
 use lib.ListN.{length}
 use Rattle.field.specs.Residue.{times}
+use Rattle.field257.specs.Powers.{powerOf3}
 use Rattle.weights.proofs.ReadOff.{factor-is}
 use borrow.Author.Needs.{needs}
 use Rattle.weights.proofs.factor.Statement.{statement}
 use Rattle.weights.proofs.factor.Tie as tie
 
-mul-entry : tie.Need-mul-entry
-mul-entry c =
-    let start = c .before .before in
-    let less : start .args .i ≤ 255 = omega (arith, start .pre .column) in
-    let few : length (start .args .others .now) ≤ 64 = start .pre .few in
-    omega (arith, mul-le-mul less few)
-
 -- the way back
-abbrev start-of : tie.After-difference → tie.Start
-start-of c = c .before .before .before .before .before .before .before
+abbrev start-of : tie.After-value-at → tie.Start
+start-of c = c .before .before
+
+mul-power-of-3 : tie.Need-mul-power-of-3
+mul-power-of-3 c =
+    let start = start-of c in
+    let m = length (start .args .others .now) in
+    let less : start .args .i ≤ 255 = omega (arith, start .pre .column) in
+    let most : start .args .b + m - 1 ≤ 318 = omega (arith, start .pre .exponent, start .pre .few) in
+    omega (arith, mul-le-mul less most)
+
+-- the weight in the last check sum
+weight : (c : tie.After-power-of-3) →
+    let args = start-of (c .before) .args in
+    c .power-of-3 .result ≡ powerOf3 (args .i * (args .b + length (args .others .now) - 1))
+weight c = c .power-of-3 .ensures .0 (start-of (c .before) .pre .powers-known)
+
+product-requires : tie.Need-product-requires
+product-requires c κs =
+    let w = weight (c .before .before) in
+    search needs
 
 returns : tie.Need-returns
 returns c =
-    let start = start-of c in
-    let wide = c .before .before .before in (
-      factor-is (length (start .args .others .now)) (start .args .i) _ (wide .before .before .value-at .result) (wide .before .entry .result)
-          (c .before .before .product .result)
-          (c .before .inverse .result) (c .difference .result) (omega (arith, start .pre .column)) (wide .before .before .value-at .ensures .0)
-          (wide .before .entry .ensures)
-          (c .before .before .product .ensures .0 ∙ ap (times 257 (wide .before .entry .result)) (wide .wide .ensures .0)) (c .before .inverse .ensures .0)
-          (c .difference .ensures .0),
+    let part = c .before .before in
+    let powered = part .before .before .before in
+    let there = powered .before .value-at in
+    let start = start-of (powered .before) in (
+      factor-is (start .args .b) (length (start .args .others .now)) (start .args .i) _ (there .result) (powered .power-of-3 .result) (part .product .result)
+          (c .before .inverse .result) (c .difference .result) (omega (arith, start .pre .column)) (there .ensures .0) (weight powered)
+          (part .product .ensures .0 ∙ ap₂ (times 257) (part .before .before .wide .ensures .0) (part .before .wide2 .ensures .0))
+          (c .before .inverse .ensures .0) (c .difference .ensures .0),
       c .difference .ensures .1,
     )
 
@@ -39,11 +52,17 @@ factor-spec =
     tie.close
     (tie.spec
     (λ c. search needs)
+    (λ c. search needs)
     (λ c κs. search needs)
-    mul-entry
+    (λ c. search needs)
+    (λ c. search needs)
+    (λ c. search needs)
+    (λ c. search needs)
+    mul-power-of-3
     (λ c κs. search needs)
     (λ c κs. search needs)
     (λ c κs. search needs)
+    product-requires
     (λ c κs. search needs)
     (λ c κs. search needs)
     returns)

@@ -12,15 +12,12 @@ use Rattle.brute.proofs.erasures.pose_sum.Statement.{statement}
 use Rattle.brute.proofs.erasures.pose_sum.Tie as tie
 
 abbrev Inv-loop : tie.InvT-loop
-Inv-loop table₀ list sum j k₀ k-end table k = (k ≤ k-end) × (k-end ≡ length list) × Wrote table₀ table 1 (k + 1) (sumEquation list sum j)
+Inv-loop table₀ list sum step k₀ k-end table k = (k ≤ k-end) × (k-end ≡ length list) × Wrote table₀ table 1 (k + 1) (sumEquation list sum step)
 
 abbrev μ-loop : tie.MeasureT-loop
-μ-loop table₀ list sum j k₀ k-end table k = k-end - k
+μ-loop table₀ list sum step k₀ k-end table k = k-end - k
 
-abbrev powered-of : tie.After-put2 Inv-loop μ-loop → tie.After-power2 Inv-loop μ-loop
-powered-of c = c .before
-
-abbrev got-of : tie.After-power2 Inv-loop μ-loop → tie.After-get Inv-loop μ-loop
+abbrev got-of : tie.After-put2 Inv-loop μ-loop → tie.After-get Inv-loop μ-loop
 got-of c = c .before .before
 
 abbrev loop-of : tie.After-get Inv-loop μ-loop → tie.At-loop Inv-loop μ-loop
@@ -35,12 +32,11 @@ loop-holds c = (omega arith, refl, wrote-none _ 1 _)
 loop-again : tie.Need-loop-again Inv-loop μ-loop
 loop-again c =
     let put = c .before .before in
-    let powered = powered-of put in
-    let at = loop-of (got-of powered) in (
+    let at = loop-of (got-of put) in (
       omega arith,
       refl,
       wrote-put 1 (at .loop .k + 1) _ (at .loop .inv .2) (omega arith) (put .put2 .ensures)
-          (weight-posed _ _ _ (at .loop .k) (got-of powered .get .ensures) (powered .before .power .ensures) (powered .power2 .ensures)),
+          (weight-posed _ _ _ (at .loop .k) (got-of put .get .ensures) (put .before .power .ensures)),
     )
 
 returns : tie.Need-returns Inv-loop μ-loop
@@ -59,7 +55,6 @@ pose-sum-spec =
     (λ c. search needs)
     (λ c κs. search needs)
     (λ c. search needs)
-    (λ c κs. search needs)
     (λ c κs. search needs)
     (λ c κs. search needs)
     (λ c. search needs)

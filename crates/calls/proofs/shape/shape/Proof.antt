@@ -8,14 +8,14 @@ use Rattle.calls.proofs.shape.shape.Statement.{statement}
 use Rattle.calls.proofs.shape.shape.Tie as tie
 
 shape-of-requires : tie.Need-shape-of-requires
-shape-of-requires c κs = passed-rows _ _ (sym (c .before .before .check-shape .ensures) ∙ ap outcomeOf (c .enum-told2 .given .1))
+shape-of-requires c κs = passed-rows _ _ _ (sym (c .before .before .check-shape .ensures) ∙ ap outcomeOf (c .enum-told2 .given .1))
 
 returns : tie.Need-returns
-returns c = λ a. shape-refused _ a _ _ _ (c .before .before .check-shape .ensures) (c .enum-told .given .1)
+returns c = λ a. shape-refused _ a _ _ _ _ (c .before .before .check-shape .ensures) (c .enum-told .given .1)
 
 returns-2 : tie.Need-returns-2
 returns-2 c =
-    λ a. shape-given _ a _ _ (c .before .before .before .before .check-shape .ensures) (c .before .before .enum-told2 .given .1)
+    λ a. shape-given _ a _ _ _ (c .before .before .before .before .check-shape .ensures) (c .before .before .enum-told2 .given .1)
     (c .shaped .ensures ∙ ap shapedHead (c .before .shape-of .ensures))
 
 pub shape-spec : {M : Type 1} → statement M

@@ -24,7 +24,8 @@ returns : tie.Need-returns
 returns c = λ a.
     let called = c .before .before in
     let args = called .before .before .before .args in
-    let made = called .shape .ensures a ∙ ap (λ (h : Head). step (beside h a) (shape (args .columns) (args .checks .now))) (called .before .head-of .ensures) in
+    let made = called .shape .ensures a
+    ∙ ap (λ (h : Head). step (beside h a) (shape (args .columns) (args .checks .now) (args .exponent))) (called .before .head-of .ensures) in
     record { answers = (cc) ∙ ap shapedOf made; arrays = sym (ap (λ (o : Outcome). o .job .arrays) made) }
 
 pub tomkhadi-head-shape-spec : {M : Type 1} → statement M

@@ -13,10 +13,10 @@ use Rattle.codec.proofs.stages.fold.Statement.{statement}
 use Rattle.codec.proofs.stages.fold.Tie as tie
 
 abbrev Inv-loop : tie.InvT-loop
-Inv-loop powers x blocks j y₀ cells a₀ y a = Filled (λ k. gathered blocks x j k % 257) y₀ a y
+Inv-loop powers x blocks e y₀ cells a₀ y a = Filled (λ k. gathered blocks x e k % 257) y₀ a y
 
 abbrev μ-loop : tie.MeasureT-loop
-μ-loop powers x blocks j y₀ cells a₀ y a = length y₀ - a
+μ-loop powers x blocks e y₀ cells a₀ y a = length y₀ - a
 
 loop-holds : tie.Need-loop-holds Inv-loop μ-loop
 loop-holds c = filled-none _ _
@@ -33,7 +33,7 @@ unfolding folded
 returns c =
     let start = c .before .before .before .before .before in
     filled-all _ _ _ _ (c .before .loop .inv) (omega arith)
-    ∙ ap (λ (n : ℕ). tabulate n (λ k. gathered (start .args .blocks) (start .args .x .now) (start .args .j) k % 257))
+    ∙ ap (λ (n : ℕ). tabulate n (λ k. gathered (start .args .blocks) (start .args .x .now) (start .args .e) k % 257))
     (let q : length (start .args .y .now) ≡ 16 = omega arith in q)
 
 pub fold-spec : {M : Type 1} → statement M

@@ -11,10 +11,18 @@ use Rattle.codec.proofs.stages.staged_sums.Statement.{statement}
 use Rattle.codec.proofs.stages.staged_sums.Tie as tie
 
 abbrev Inv-loop : tie.InvT-loop
-Inv-loop powers x sums₀ rows k₀ sums k = Filled (λ i. checkSum (length x) x (suc i)) sums₀ k sums
+Inv-loop powers b x sums₀ rows k₀ sums k = Filled (λ i. checkSum b (length x) x (suc i)) sums₀ k sums
 
 abbrev μ-loop : tie.MeasureT-loop
-μ-loop powers x sums₀ rows k₀ sums k = length sums₀ - k
+μ-loop powers b x sums₀ rows k₀ sums k = length sums₀ - k
+
+fold-each-requires : tie.Need-fold-each-requires Inv-loop μ-loop
+fold-each-requires c κs =
+    let asked = c .before .before .before .before .before .pre in
+    record {
+      foldable = record { powers-known = asked .powers-known; whole = omega arith; few-blocks = omega arith; exponent = omega arith };
+      few-ways = c .at-most-16 .ensures .0;
+    }
 
 loop-holds : tie.Need-loop-holds Inv-loop μ-loop
 loop-holds c = filled-none _ _
@@ -27,7 +35,7 @@ loop-again c =
     let k = at .loop .k in
     filled-more _ _ k (c .value-at .result) (at .loop .sums) (at .loop .inv) (omega arith)
     (c .value-at .ensures .0
-    ∙ staged-sum _ k (padded .before .before .before .args .x .now) _ (folds .fold-each .result) (padded .padded .ensures) (omega arith)
+    ∙ staged-sum _ _ k (padded .before .before .before .args .x .now) _ (folds .fold-each .result) (padded .padded .ensures) (omega arith)
     (folds .fold-each .ensures (k % 16) (folds .before .at-most-16 .ensures .1 k (omega arith))))
 
 returns : tie.Need-returns Inv-loop μ-loop
@@ -44,8 +52,9 @@ staged-sums-spec =
     (λ c. omega arith)
     (λ c. omega arith)
     (λ c κs. search needs)
-    (λ c κs. search needs)
+    fold-each-requires
     loop-holds
+    (λ c. omega arith)
     (λ c. omega arith)
     (λ c. omega arith)
     (λ c. omega arith)

@@ -1,9 +1,10 @@
 -- `codec::sums::frame_sums` meets its contract.
 use Prim.Native.Nat.{_-_}
 use native.Mathlib.Omega.{arith}
-use lib.ListN.{length}
+use lib.ListN.{length, length-take}
 use Rattle.frame.proofs.Held.{Held, held-none, held-more, held-all, length-row}
 use Rattle.frame.proofs.RowPlace.{RowPlace, row-place}
+use Rattle.frame.proofs.Shapes.{shape-ranges}
 use borrow.Author.Needs.{needs}
 use Rattle.codec.proofs.sums.frame_sums.Statement.{statement}
 use Rattle.codec.proofs.sums.frame_sums.Tie as tie
@@ -65,8 +66,14 @@ part-sums-end c = let p = place (c .before .before .before) in omega arith
 row-sums-requires : tie.Need-row-sums-requires Inv-loop μ-loop
 row-sums-requires c κs =
     let at = c .before .before .before .before in
+    let start = at .before .before .before .before in
     let p = place at in
-    (at .before .before .powers .ensures, omega (arith, length-row _ _ _ _ _ (at .before .loop .inv) p))
+    record {
+      powers-known = at .before .before .powers .ensures;
+      exponent = omega (arith, shape-ranges (start .args .t1) (start .pre .0) .exponent-most);
+      narrow = omega (arith, length-row _ _ _ _ _ (at .before .loop .inv) p);
+      few = simp length-take (omega arith);
+    }
 
 loop-again : tie.Need-loop-again Inv-loop μ-loop
 loop-again c =

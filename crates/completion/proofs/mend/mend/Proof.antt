@@ -4,7 +4,7 @@ use Prim.Native.Nat.{ℕ, _+_, _-_, _≤_}
 use native.Mathlib.Omega.{arith}
 use lib.ListN.{length}
 use borrow.Rule.Slice.PartMut.{mid-len}
-use Rattle.columns.proofs.Walk.{walk-rises}
+use Rattle.columns.proofs.Walk.{walk-member, walk-rises}
 use Rattle.weights.proofs.ColumnWeights.{Weighed, weighed-column}
 use Rattle.completion.proofs.ColumnMending.{still-lent}
 use Rattle.completion.proofs.MendableFrames.{MendableRows, held-mendable}
@@ -53,17 +53,26 @@ weigh-requires c κs =
     let at = inside .before in
     let small = few (sized at) in
     let part = mid-len 0 (sized at .size .result) (at .loop .coefficients) (let s = at .loop .inv .1 in omega arith) in
-    record { powers-known = sized at .before .powers .ensures; column = inside .loop-test .taken; few = omega arith }
+    let member = walk-member _ _ _ (at .loop .inv .2 .walk) (inside .loop-test .taken) .0 in
+    let count = sized at .size .ensures in
+    record {
+      powers-known = sized at .before .powers .ensures;
+      exponent = rows-of (start-of (sized at)) .exponent;
+      column = inside .loop-test .taken;
+      some = omega arith;
+      few = omega arith;
+    }
 
 -- the coefficients that are lent on
 weighed : (c : tie.After-weigh Inv-loop μ-loop) →
     let at = in-loop c .before in
-    Weighed (start-of (sized at) .args .set) (at .loop .i) (sized at .size .result) (at .loop .coefficients) (c .weigh .last .1 .1 .1 .0)
+    let args = start-of (sized at) .args in
+    Weighed (args .s .exponent) (args .set) (at .loop .i) (sized at .size .result) (at .loop .coefficients) (c .weigh .last .1 .1 .1 .1 .0)
 weighed c =
     let at = in-loop c .before in
     let named = at .before .before .locator-polynomial in
     let (d, size, mending) = at .loop .inv in
-    weighed-column _ d (at .loop .i) (mending .walk) (in-loop c .loop-test .taken) (named .result) (named .ensures) (sized at .size .result)
+    weighed-column _ _ d (at .loop .i) (mending .walk) (in-loop c .loop-test .taken) (named .result) (named .ensures) (sized at .size .result)
     (at .loop .coefficients) _ (sized at .size .ensures) (few (sized at)) size (c .weigh .ensures)
 
 part-mend-column-end : tie.Need-part-mend-column-end Inv-loop μ-loop

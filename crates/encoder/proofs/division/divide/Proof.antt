@@ -5,13 +5,13 @@ use Rattle.encoder.proofs.division.divide.Statement.{statement}
 use Rattle.encoder.proofs.division.divide.Tie as tie
 
 abbrev Inv-loop : tie.InvT-loop
-Inv-loop cells₀ generator m i₀ cells i = Divided m cells₀ i cells
+Inv-loop cells₀ generator m i₀ cells i = Divided m generator cells₀ i cells
 
 abbrev μ-loop : tie.MeasureT-loop
 μ-loop cells₀ generator m i₀ cells i = i
 
 loop-holds : tie.Need-loop-holds Inv-loop μ-loop
-loop-holds c = divided-none _ _ (c .before .before .pre .reach) (c .before .before .pre .small)
+loop-holds c = divided-none _ _ _ (c .before .before .pre .reach) (c .before .before .pre .small)
 
 -- the ways back
 abbrev in-loop : tie.After-add-multiple-arg2 Inv-loop μ-loop → tie.In-loop Inv-loop μ-loop
@@ -40,7 +40,7 @@ same-length : tie.Need-same-length Inv-loop μ-loop
 same-length c = c .before .loop .inv .size
 
 returns : tie.Need-returns Inv-loop μ-loop
-returns c = divided-all _ _ _ _ (c .before .loop .inv) (c .loop-test .left)
+returns c = divided-all _ _ _ _ _ (c .before .loop .inv) (c .loop-test .left)
 
 pub divide-spec : {M : Type 1} → statement M
 divide-spec =

@@ -48,9 +48,10 @@ returns c =
     let divided = lent .before .before .before in
     let made = divided .before .before in
     let start = made .before .before .before .before in
+    λ b of.
     completed-by-remainder (start .args .m) (start .args .row .now) (made .data-cells .result) (start .pre .reach) (start .pre .narrow) (omega arith)
-    (made .data-cells .ensures) (divided .divide .last .0) _ (divided .divide .kept .0)
-    (c .before .before .put-negatives .ensures) (start .pre .small) (divided .divide .ensures)
+    (made .data-cells .ensures) b (divided .divide .last .0) _ (divided .divide .kept .0)
+    (c .before .before .put-negatives .ensures) (start .pre .small) (divided .divide .ensures b of)
 
 pub encode-row-spec : {M : Type 1} → statement M
 encode-row-spec =

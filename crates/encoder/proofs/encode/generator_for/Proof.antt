@@ -7,7 +7,7 @@ use Rattle.encoder.proofs.encode.generator_for.Statement.{statement}
 use Rattle.encoder.proofs.encode.generator_for.Tie as tie
 
 returns : tie.Need-returns
-returns c = let start = c .before in subst (λ (m : ℕ). GeneratorPolynomial m (start .args .held)) (sym (c .if1 .taken)) (start .pre .0)
+returns c = let start = c .before in subst (λ (m : ℕ). GeneratorPolynomial (start .args .b) m (start .args .held)) (sym (c .if1 .taken)) (start .pre .0)
 
 generator-requires : tie.Need-generator-requires
 generator-requires c κs = search needs

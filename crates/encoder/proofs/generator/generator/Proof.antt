@@ -1,35 +1,57 @@
 -- `encoder::generator::generator` meets its contract.
-use Prim.Native.Nat.{_-_, _≤_}
+use mathlib.Core.Path.{_≡_, subst, _∙_}
+use Prim.Native.Nat.{ℕ, _+_, _-_, _≤_}
 use native.Mathlib.Omega.{arith}
-use Rattle.encoder.proofs.GeneratorBuilding.{Building, building-none, building-more, generator-built}
+use lib.ListN.{length}
+use Rattle.field257.specs.Powers.{powerOf3}
+use Rattle.encoder.specs.GeneratorPolynomial.{GeneratorPolynomial}
+use Rattle.encoder.proofs.GeneratorBuilding.{generator-none, generator-more, same-length}
+use borrow.Author.Needs.{needs}
 use Rattle.encoder.proofs.generator.generator.Statement.{statement}
 use Rattle.encoder.proofs.generator.generator.Tie as tie
 
 abbrev Inv-loop : tie.InvT-loop
-Inv-loop m f₀ root₀ j₀ f root j = (j ≤ m) × Building j root f
+Inv-loop powers b m f₀ j₀ f j = (j ≤ m) × (length f ≡ 65) × GeneratorPolynomial b j f
 
 abbrev μ-loop : tie.MeasureT-loop
-μ-loop m f₀ root₀ j₀ f root j = m - j
+μ-loop powers b m f₀ j₀ f j = m - j
 
 loop-holds : tie.Need-loop-holds Inv-loop μ-loop
-loop-holds c = (omega arith, building-none)
+loop-holds c = (omega arith, omega arith, generator-none _)
 
-mul-root : tie.Need-mul-root Inv-loop μ-loop
-mul-root c = let p = c .before .loop .inv .1 .power in omega arith
+-- the ways back
+abbrev at-loop : tie.After-wide Inv-loop μ-loop → tie.At-loop Inv-loop μ-loop
+at-loop c = c .before .before .before .before
 
-part-f-end : tie.Need-part-f-end Inv-loop μ-loop
-part-f-end c = let s = c .before .loop .inv .1 .size in omega arith
+abbrev start-of : tie.At-loop Inv-loop μ-loop → tie.Start Inv-loop μ-loop
+start-of c = c .before
+
+-- the root of the factor
+looked-up : (c : tie.After-wide Inv-loop μ-loop) → c .wide .result ≡ powerOf3 (start-of (at-loop c) .args .b + at-loop c .loop .j)
+looked-up c = c .wide .ensures .0 ∙ c .before .before .power-of-3 .ensures .0 (start-of (at-loop c) .pre .powers-known)
+
+sub-multiply-2 : tie.Need-sub-multiply-2 Inv-loop μ-loop
+sub-multiply-2 c = omega (arith, looked-up c)
 
 multiply-requires : tie.Need-multiply-requires Inv-loop μ-loop
 multiply-requires c κs = (omega arith, omega arith)
 
 loop-again : tie.Need-loop-again Inv-loop μ-loop
 loop-again c =
-    let at = c .before .before .before .before in
-    (omega arith, building-more _ _ _ (at .loop .inv .1) (omega arith) _ (c .before .multiply .ensures))
+    let known = c .before .before in
+    let at = at-loop known in
+    let f = at .loop .f in
+    let polynomial = at .loop .inv .2 in
+    let made = c .before .multiply .ensures in (
+      omega arith,
+      same-length _ _ _ f polynomial (omega arith) (looked-up known) _ made ∙ at .loop .inv .1,
+      generator-more _ _ _ f polynomial (omega arith) (looked-up known) _ made,
+    )
 
 returns : tie.Need-returns Inv-loop μ-loop
-returns c = generator-built _ _ _ _ (c .before .loop .inv .1) (omega arith) (omega arith)
+returns c =
+    let at = c .before in
+    subst (λ (m : ℕ). GeneratorPolynomial (start-of at .args .b) m (at .loop .f)) (omega arith) (at .loop .inv .2)
 
 pub generator-spec : {M : Type 1} → statement M
 generator-spec =
@@ -39,12 +61,15 @@ generator-spec =
     μ-loop
     (λ c. omega arith)
     loop-holds
-    mul-root
+    (λ c. omega arith)
+    (λ c. omega arith)
+    (λ c κs. search needs)
     (λ c. omega arith)
     (λ c. omega arith)
     (λ c. omega arith)
-    part-f-end
     (λ c. omega arith)
+    (λ c κs. search needs)
+    sub-multiply-2
     multiply-requires
     (λ c. omega arith)
     (λ c. omega arith)

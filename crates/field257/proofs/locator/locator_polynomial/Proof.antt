@@ -7,6 +7,7 @@ use borrow.Rule.Slice.PartMut.{midOf}
 use Rattle.columns.proofs.Walk.{Walk, walk-start, walk-next, walk-member, walk-end, walk-rises}
 use Rattle.field.proofs.Multiplication.{made}
 use Rattle.lists.specs.Tabulate.{tabulate}
+use Rattle.field257.specs.Powers.{locatorOf}
 use Rattle.field257.proofs.LocatorBuilding.{Building, building-none, building-more, building-all}
 use borrow.Author.Needs.{needs}
 use Rattle.field257.proofs.locator.locator_polynomial.Statement.{statement}
@@ -17,6 +18,10 @@ Inv-loop powers set f₀ e₀ i₀ f e i = (d : ℕ) × (e ≡ d + 1) × Walk se
 
 abbrev μ-loop : tie.MeasureT-loop
 μ-loop powers set f₀ e₀ i₀ f e i = 256 - i
+
+-- the way back
+abbrev in-loop : tie.After-wide Inv-loop μ-loop → tie.In-loop Inv-loop μ-loop
+in-loop c = c .before .before .before
 
 -- one coefficient more has its place
 room : (c : tie.In-loop Inv-loop μ-loop) → (1 ≤ c .before .loop .e) × (c .before .loop .e + 1 ≤ 65)
@@ -41,26 +46,30 @@ part-f-start c = let r = room c in omega arith
 part-f-end : tie.Need-part-f-end Inv-loop μ-loop
 part-f-end c = let r = room c in omega arith
 
-entry-requires : tie.Need-entry-requires Inv-loop μ-loop
-entry-requires c κs = (c .before .before .before .before .pre .0, c .before .loop-test .taken)
+cast-power-of-3 : tie.Need-cast-power-of-3 Inv-loop μ-loop
+cast-power-of-3 c = let t = c .before .loop-test .taken in omega arith
+
+-- the locator of the member
+looked-up : (c : tie.After-wide Inv-loop μ-loop) → c .wide .result ≡ locatorOf (in-loop c .before .loop .i)
+looked-up c = c .wide .ensures .0 ∙ c .before .power-of-3 .ensures .0 (in-loop c .before .before .before .pre .0)
 
 sub-multiply-2 : tie.Need-sub-multiply-2 Inv-loop μ-loop
-sub-multiply-2 c = omega (arith, c .entry .ensures)
+sub-multiply-2 c = omega (arith, looked-up c)
 
 multiply-requires : tie.Need-multiply-requires Inv-loop μ-loop
 multiply-requires c κs = (omega arith, omega arith)
 
 loop-less : tie.Need-loop-less Inv-loop μ-loop
 loop-less c =
-    let inside = c .before .before .before .before .before in
+    let inside = in-loop (c .before .before .before) in
     let r = walk-rises _ _ _ (inside .before .loop .inv .2) _ (inside .loop-test .taken) (c .next2 .ensures) in
     let w = c .before in
     omega arith
 
 loop-again : tie.Need-loop-again Inv-loop μ-loop
 loop-again c =
-    let entered = c .before .before .before in
-    let inside = entered .before .before in
+    let known = c .before .before .before in
+    let inside = in-loop known in
     let at = inside .before in
     let set = at .before .before .args .set in
     let front = midOf 0 (at .loop .e + 1 - 0) (at .loop .f) in
@@ -72,7 +81,7 @@ loop-again c =
       walk-next set d (at .loop .i) walk (c .next2 .result) taken (c .next2 .ensures),
       building-more set d (at .loop .f) building (at .loop .i) (at .loop .e + 1) (c .before .before .multiply .last .0)
           (at .before .before .pre .1) less here (omega arith)
-          (c .before .before .multiply .ensures ∙ ap (λ (x : ℕ). tabulate (length front) (made 257 (257 - x) 1 front)) (entered .entry .ensures)),
+          (c .before .before .multiply .ensures ∙ ap (λ (x : ℕ). tabulate (length front) (made 257 (257 - x) 1 front)) (looked-up known)),
     )
 
 returns : tie.Need-returns Inv-loop μ-loop
@@ -93,7 +102,9 @@ locator-polynomial-spec =
     sub-multiply
     part-f-start
     part-f-end
-    entry-requires
+    cast-power-of-3
+    (λ c κs. search needs)
+    (λ c κs. search needs)
     sub-multiply-2
     multiply-requires
     (λ c. omega arith)

@@ -1,21 +1,20 @@
 -- `field257::powers::power_of_3` meets its contract.
-use mathlib.Core.Path.{sym, _∙_}
+use mathlib.Core.List.{List}
+use mathlib.Core.Path.{refl, sym, ap, _∙_}
+use Prim.Native.Nat.{ℕ, _%_}
+use native.Mathlib.Nat.{mod-lt}
+use native.Mathlib.Omega.{arith}
+use lib.ListN.{getD}
 use Rattle.field257.proofs.Locators.{power-mod}
+use Rattle.field257.proofs.PowerTable.{table-power}
 use borrow.Author.Needs.{needs}
 use Rattle.field257.proofs.powers.power_of_3.Statement.{statement}
 use Rattle.field257.proofs.powers.power_of_3.Tie as tie
 
-powers-requires : tie.Need-powers-requires
-powers-requires c κs = search needs
-
-cast-entry : tie.Need-cast-entry
-cast-entry c = search needs
-
-entry-requires : tie.Need-entry-requires
-entry-requires c κs = search needs
-
 returns : tie.Need-returns
-returns c = c .entry .ensures ∙ sym (power-mod (c .before .before .before .args .e))
+returns c =
+    let e = c .before .args .e in
+    ((λ known. ap (λ (l : List ℕ). getD l (e % 256) 0) known ∙ table-power (e % 256) (mod-lt e (omega arith)) ∙ sym (power-mod e)), refl)
 
 pub power-of-3-spec : {M : Type 1} → statement M
-power-of-3-spec = tie.close (tie.spec powers-requires cast-entry entry-requires returns)
+power-of-3-spec = tie.close (tie.spec (λ c. search needs) (λ c. search needs) (λ c. search needs) returns)

@@ -12,10 +12,10 @@ use Rattle.lanes.proofs.symbols.divided.Statement.{statement}
 use Rattle.lanes.proofs.symbols.divided.Tie as tie
 
 abbrev Inv-loop : tie.InvT-loop
-Inv-loop m x lanes symbols₀ k₀ symbols k = Filled (λ k. getD (symbolsIn m x lanes) k 0) (zeros 64) k symbols
+Inv-loop m weights lanes symbols₀ k₀ symbols k = Filled (λ k. getD (symbolsIn m weights lanes) k 0) (zeros 64) k symbols
 
 abbrev μ-loop : tie.MeasureT-loop
-μ-loop m x lanes symbols₀ k₀ symbols k = m - k
+μ-loop m weights lanes symbols₀ k₀ symbols k = m - k
 
 loop-holds : tie.Need-loop-holds Inv-loop μ-loop
 loop-holds c = filled-none _ (zeros 64)

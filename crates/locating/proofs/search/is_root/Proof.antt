@@ -12,6 +12,9 @@ use Rattle.locating.proofs.search.is_root.Tie as tie
 sub-value-at : tie.Need-sub-value-at
 sub-value-at c = search needs
 
+cast-value-at : tie.Need-cast-value-at
+cast-value-at c = search needs
+
 value-at-requires : tie.Need-value-at-requires
 value-at-requires c κs = search needs
 
@@ -22,4 +25,4 @@ returns c =
     (c .value-at .ensures .0 ∙ ap (value 257 (now (a .taps))) (sym (inverse-power (a .i) (c .before .before .pre .column))))
 
 pub is-root-spec : {M : Type 1} → statement M
-is-root-spec = tie.close (tie.spec sub-value-at value-at-requires returns)
+is-root-spec = tie.close (tie.spec sub-value-at cast-value-at value-at-requires returns)

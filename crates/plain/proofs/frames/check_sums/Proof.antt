@@ -10,10 +10,10 @@ use Rattle.plain.proofs.frames.check_sums.Statement.{statement}
 use Rattle.plain.proofs.frames.check_sums.Tie as tie
 
 abbrev Inv-loop : tie.InvT-loop
-Inv-loop columns checks frame sums₀ h₀ h-end sums h = (h ≤ h-end) × (h-end ≡ length checks) × Summed columns checks frame h sums₀ sums
+Inv-loop exponent columns checks frame sums₀ h₀ h-end sums h = (h ≤ h-end) × (h-end ≡ length checks) × Summed exponent columns checks frame h sums₀ sums
 
 abbrev μ-loop : tie.MeasureT-loop
-μ-loop columns checks frame sums₀ h₀ h-end sums h = h-end - h
+μ-loop exponent columns checks frame sums₀ h₀ h-end sums h = h-end - h
 
 abbrev got-of : tie.After-row-sums Inv-loop μ-loop → tie.After-get Inv-loop μ-loop
 got-of c = c .before .before
@@ -22,7 +22,7 @@ abbrev loop-of : tie.After-get Inv-loop μ-loop → tie.At-loop Inv-loop μ-loop
 loop-of c = c .before .before .before .before
 
 loop-holds : tie.Need-loop-holds Inv-loop μ-loop
-loop-holds c = (omega arith, refl, summed-none _ _ _ _)
+loop-holds c = (omega arith, refl, summed-none _ _ _ _ _)
 
 loop-again : tie.Need-loop-again Inv-loop μ-loop
 loop-again c =
@@ -30,6 +30,7 @@ loop-again c =
       omega arith,
       refl,
       summed-more
+          _
           _
           _
           _
@@ -49,7 +50,7 @@ loop-again c =
     )
 
 returns : tie.Need-returns Inv-loop μ-loop
-returns c = summed-all _ _ _ _ _ _ _ (c .before .loop .inv .2) (omega arith) (omega arith)
+returns c = summed-all _ _ _ _ _ _ _ _ (c .before .loop .inv .2) (omega arith) (omega arith)
 
 pub check-sums-spec : {M : Type 1} → statement M
 check-sums-spec =

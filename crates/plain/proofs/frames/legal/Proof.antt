@@ -5,7 +5,7 @@ use Rattle.plain.proofs.frames.legal.Statement.{statement}
 use Rattle.plain.proofs.frames.legal.Tie as tie
 
 returns : tie.Need-returns
-returns c = legal-told _ _ _ _ _ _ (c .before .before .before .check-sums .ensures) (c .all-zero .ensures)
+returns c = legal-told _ _ _ _ _ _ _ (c .before .before .before .check-sums .ensures) (c .all-zero .ensures)
 
 pub legal-spec : {M : Type 1} → statement M
 legal-spec =

@@ -10,10 +10,10 @@ use Rattle.plain.proofs.frames.row_sums.Statement.{statement}
 use Rattle.plain.proofs.frames.row_sums.Tie as tie
 
 abbrev Inv-loop : tie.InvT-loop
-Inv-loop row n sums₀ at j₀ sums j = (j ≤ n) × Wrote sums₀ sums at (at + j) (λ k. checkSum row (suc (k - at)))
+Inv-loop exponent row n sums₀ at j₀ sums j = (j ≤ n) × Wrote sums₀ sums at (at + j) (λ k. checkSum exponent row (suc (k - at)))
 
 abbrev μ-loop : tie.MeasureT-loop
-μ-loop row n sums₀ at j₀ sums j = n - j
+μ-loop exponent row n sums₀ at j₀ sums j = n - j
 
 loop-holds : tie.Need-loop-holds Inv-loop μ-loop
 loop-holds c = (omega arith, wrote-all _ _ _ (wrote-none _ _ _) (omega arith) (omega arith))
@@ -36,7 +36,7 @@ loop-again c =
           (at .loop .inv .1)
           (omega arith)
           (c .before .before .put-at .ensures)
-          (c .before .before .before .check-sum .ensures ∙ ap (λ (k : ℕ). checkSum (start .args .row .now) k) own))
+          (c .before .before .before .check-sum .ensures ∙ ap (λ (k : ℕ). checkSum (start .args .exponent) (start .args .row .now) k) own))
           (omega arith)
           (omega arith),
     )

@@ -10,10 +10,10 @@ use Rattle.shapes.proofs.shape.shape_of.Statement.{statement}
 use Rattle.shapes.proofs.shape.shape_of.Tie as tie
 
 abbrev Inv-loop : tie.InvT-loop
-Inv-loop columns checks rows held₀ h₀ held h = Filled (λ k. getD checks k 0) (zeros 8) h held
+Inv-loop columns checks exponent rows held₀ h₀ held h = Filled (λ k. getD checks k 0) (zeros 8) h held
 
 abbrev μ-loop : tie.MeasureT-loop
-μ-loop columns checks rows held₀ h₀ held h = rows - h
+μ-loop columns checks exponent rows held₀ h₀ held h = rows - h
 
 loop-holds : tie.Need-loop-holds Inv-loop μ-loop
 loop-holds c = filled-none _ _
@@ -27,7 +27,7 @@ returns : tie.Need-returns Inv-loop μ-loop
 returns c =
     let start = c .before .before in
     let a = c .before .loop .inv in
-    shape-held _ (start .args .checks .now) _ (start .pre)
+    shape-held _ (start .args .checks .now) _ _ (start .pre)
     (filled-zeros _ 8 _ _ a (λ k h. List·getD-eq-default (start .args .checks .now) 0 (omega arith))) (a .size)
 
 pub shape-of-spec : {M : Type 1} → statement M

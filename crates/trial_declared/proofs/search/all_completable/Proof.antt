@@ -5,10 +5,10 @@ use Rattle.trial_declared.proofs.search.all_completable.Statement.{stat
 use Rattle.trial_declared.proofs.search.all_completable.Tie as tie
 
 abbrev Inv-loop : tie.InvT-loop
-Inv-loop words checks sums marks h₀ h-end h = Unit
+Inv-loop exponent words checks sums marks h₀ h-end h = Unit
 
 abbrev μ-loop : tie.MeasureT-loop
-μ-loop words checks sums marks h₀ h-end h = h-end - h
+μ-loop exponent words checks sums marks h₀ h-end h = h-end - h
 
 pub all-completable-spec : {M : Type 1} → statement M
 all-completable-spec =

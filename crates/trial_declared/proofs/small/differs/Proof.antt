@@ -5,10 +5,10 @@ use Rattle.trial_declared.proofs.small.differs.Statement.{statement}
 use Rattle.trial_declared.proofs.small.differs.Tie as tie
 
 abbrev Inv-loop : tie.InvT-loop
-Inv-loop words «data» frame i h₀ h-end h = Unit
+Inv-loop base words «data» frame i h₀ h-end h = Unit
 
 abbrev μ-loop : tie.MeasureT-loop
-μ-loop words «data» frame i h₀ h-end h = h-end - h
+μ-loop base words «data» frame i h₀ h-end h = h-end - h
 
 pub differs-spec : {M : Type 1} → statement M
 differs-spec =
@@ -17,6 +17,7 @@ differs-spec =
     Inv-loop
     μ-loop
     (λ c. search needs)
+    (λ c κs. search needs)
     (λ c κs. search needs)
     (λ c κs. search needs)
     (λ c κs. search needs)

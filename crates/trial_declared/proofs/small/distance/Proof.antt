@@ -5,10 +5,10 @@ use Rattle.trial_declared.proofs.small.distance.Statement.{statement}
 use Rattle.trial_declared.proofs.small.distance.Tie as tie
 
 abbrev Inv-loop : tie.InvT-loop
-Inv-loop words «data» frame n₀ i₀ n i = Unit
+Inv-loop base words «data» frame n₀ i₀ n i = Unit
 
 abbrev μ-loop : tie.MeasureT-loop
-μ-loop words «data» frame n₀ i₀ n i = 3 - i
+μ-loop base words «data» frame n₀ i₀ n i = 3 - i
 
 pub distance-spec : {M : Type 1} → statement M
 distance-spec =

@@ -5,10 +5,10 @@ use Rattle.trial_declared.proofs.small.frames_within.Statement.{stateme
 use Rattle.trial_declared.proofs.small.frames_within.Tie as tie
 
 abbrev Inv-loop : tie.InvT-loop
-Inv-loop c words rows frame data₀ n₀ counter₀ «data» n counter = Unit
+Inv-loop c base words rows frame data₀ n₀ counter₀ «data» n counter = Unit
 
 abbrev μ-loop : tie.MeasureT-loop
-μ-loop c words rows frame data₀ n₀ counter₀ «data» n counter = 66049 - counter
+μ-loop c base words rows frame data₀ n₀ counter₀ «data» n counter = 66049 - counter
 
 pub frames-within-spec : {M : Type 1} → statement M
 frames-within-spec =

@@ -7,10 +7,10 @@ use Rattle.trial_declared.proofs.small.sets_within.Statement.{statement
 use Rattle.trial_declared.proofs.small.sets_within.Tie as tie
 
 abbrev Inv-loop : tie.InvT-loop
-Inv-loop c words columns checks sums marks₀ n₀ counter₀ marks n counter = length marks ≡ length marks₀
+Inv-loop c exponent words columns checks sums marks₀ n₀ counter₀ marks n counter = length marks ≡ length marks₀
 
 abbrev μ-loop : tie.MeasureT-loop
-μ-loop c words columns checks sums marks₀ n₀ counter₀ marks n counter = 256 - counter
+μ-loop c exponent words columns checks sums marks₀ n₀ counter₀ marks n counter = 256 - counter
 
 pub sets-within-spec : {M : Type 1} → statement M
 sets-within-spec =

@@ -7,10 +7,10 @@ use Rattle.trial_frames.proofs.every_frame.find_base.Statement.{stateme
 use Rattle.trial_frames.proofs.every_frame.find_base.Tie as tie
 
 abbrev Inv-loop : tie.InvT-loop
-Inv-loop base₀ checks counter₀ base counter = length base ≡ length base₀
+Inv-loop exponent base₀ checks counter₀ base counter = length base ≡ length base₀
 
 abbrev μ-loop : tie.MeasureT-loop
-μ-loop base₀ checks counter₀ base counter = 66049 - counter
+μ-loop exponent base₀ checks counter₀ base counter = 66049 - counter
 
 pub find-base-spec : {M : Type 1} → statement M
 find-base-spec =

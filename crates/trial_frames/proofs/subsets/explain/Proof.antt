@@ -7,10 +7,10 @@ use Rattle.trial_frames.proofs.subsets.explain.Statement.{statement}
 use Rattle.trial_frames.proofs.subsets.explain.Tie as tie
 
 abbrev Inv-loop : tie.InvT-loop
-Inv-loop marks checks sums table₀ h₀ h-end table h = length table ≡ length table₀
+Inv-loop exponent marks checks sums table₀ h₀ h-end table h = length table ≡ length table₀
 
 abbrev μ-loop : tie.MeasureT-loop
-μ-loop marks checks sums table₀ h₀ h-end table h = h-end - h
+μ-loop exponent marks checks sums table₀ h₀ h-end table h = h-end - h
 
 pub explain-spec : {M : Type 1} → statement M
 explain-spec =

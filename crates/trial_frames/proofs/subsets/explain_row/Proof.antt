@@ -7,10 +7,10 @@ use Rattle.trial_frames.proofs.subsets.explain_row.Statement.{statement
 use Rattle.trial_frames.proofs.subsets.explain_row.Tie as tie
 
 abbrev Inv-loop : tie.InvT-loop
-Inv-loop table₀ marks sums n j₀ j-end table j = length table ≡ length table₀
+Inv-loop table₀ exponent marks sums n step₀ j₀ j-end table step j = length table ≡ length table₀
 
 abbrev μ-loop : tie.MeasureT-loop
-μ-loop table₀ marks sums n j₀ j-end table j = j-end - j
+μ-loop table₀ exponent marks sums n step₀ j₀ j-end table step j = j-end - j
 
 pub explain-row-spec : {M : Type 1} → statement M
 explain-row-spec =
@@ -20,14 +20,15 @@ explain-row-spec =
     μ-loop
     (λ c κs. search needs)
     (λ c κs. search needs)
-    (λ c. search needs)
     (λ c κs. search needs)
     (λ c. search needs)
     (λ c κs. search needs)
     (λ c κs. search needs)
     (λ c κs. search needs)
+    (λ c κs. search needs)
     (λ c. search needs)
     (λ c. search needs)
+    (λ c κs. search needs)
     (λ c. search needs)
     (λ c. search needs)
     (λ c. search needs)

@@ -5,10 +5,10 @@ use Rattle.trial_frames.proofs.subsets.nearest.Statement.{statement}
 use Rattle.trial_frames.proofs.subsets.nearest.Tie as tie
 
 abbrev Inv-loop : tie.InvT-loop
-Inv-loop columns checks sums d₀ d = Unit
+Inv-loop exponent columns checks sums d₀ d = Unit
 
 abbrev μ-loop : tie.MeasureT-loop
-μ-loop columns checks sums d₀ d = 9 - d
+μ-loop exponent columns checks sums d₀ d = 9 - d
 
 pub nearest-spec : {M : Type 1} → statement M
 nearest-spec =

@@ -7,10 +7,10 @@ use Rattle.trial_frames.proofs.subsets.pose.Statement.{statement}
 use Rattle.trial_frames.proofs.subsets.pose.Tie as tie
 
 abbrev Inv-loop : tie.InvT-loop
-Inv-loop table₀ marks sum j i₀ i-end table i = length table ≡ length table₀
+Inv-loop table₀ marks sum step i₀ i-end table i = length table ≡ length table₀
 
 abbrev μ-loop : tie.MeasureT-loop
-μ-loop table₀ marks sum j i₀ i-end table i = i-end - i
+μ-loop table₀ marks sum step i₀ i-end table i = i-end - i
 
 pub pose-spec : {M : Type 1} → statement M
 pose-spec =
@@ -20,9 +20,8 @@ pose-spec =
     μ-loop
     (λ c κs. search needs)
     (λ c. search needs)
-    (λ c κs. search needs)
-    (λ c κs. search needs)
     (λ c. search needs)
+    (λ c κs. search needs)
     (λ c κs. search needs)
     (λ c κs. search needs)
     (λ c κs. search needs)

@@ -7,10 +7,10 @@ use Rattle.trial_frames.proofs.subsets.ways.Statement.{statement}
 use Rattle.trial_frames.proofs.subsets.ways.Tie as tie
 
 abbrev Inv-loop : tie.InvT-loop
-Inv-loop d columns checks sums marks₀ n₀ counter₀ marks n counter = length marks ≡ length marks₀
+Inv-loop d exponent columns checks sums marks₀ n₀ counter₀ marks n counter = length marks ≡ length marks₀
 
 abbrev μ-loop : tie.MeasureT-loop
-μ-loop d columns checks sums marks₀ n₀ counter₀ marks n counter = 256 - counter
+μ-loop d exponent columns checks sums marks₀ n₀ counter₀ marks n counter = 256 - counter
 
 pub ways-spec : {M : Type 1} → statement M
 ways-spec =
