@@ -4,6 +4,7 @@ use crate::reading::clear_rows;
 use columns::Columns;
 use columns::either;
 use completion::row::mend_row;
+use field257::powers::powers;
 use field257::powers::wide;
 use frame::Shape;
 ghost use mathlib.Core.Path.{_≡_};
@@ -16,6 +17,7 @@ fn fill_rows(s: Shape, declared: &[u64; 32], marked: Columns, sums: &[u16], fram
     requires { ⌜ FillableRows s (now declared) marked (now sums) (now frame) ⌝ }
     ensures { λ r. ⌜ now (frame .exit) ≡ mended s (declaredBy (now (declared .entry))) marked (now (frame .entry)) ⌝ }
 {
+    let powers = powers();
     let rows = s.rows;
     let columns = s.columns;
     let mut at: usize = 0;
@@ -25,6 +27,7 @@ fn fill_rows(s: Shape, declared: &[u64; 32], marked: Columns, sums: &[u16], fram
         let a = h * columns;
         let e = a + columns;
         mend_row(
+            &powers,
             s.exponent,
             either(marked, cells_of(declared, h)),
             &sums[at..to],

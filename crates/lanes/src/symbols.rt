@@ -9,7 +9,6 @@ use field257::inverses::inverse;
 use field257::locator::locator_polynomial;
 use field257::montgomery::companion;
 use field257::powers::power_of_3;
-use field257::powers::powers;
 use field257::powers::wide;
 use field257::values::times;
 ghost use mathlib.Core.Path.{_≡_};
@@ -17,6 +16,7 @@ ghost use Prim.Native.Nat.{ℕ, _≤_};
 ghost use lib.ListN.{length, getD};
 ghost use Rattle.columns.specs.Columns.{members};
 ghost use Rattle.field257.specs.Montgomery.{companion as companionOf};
+ghost use Rattle.field257.specs.Table.{table};
 ghost use Rattle.lanes.specs.Symbols.{Listable, ReadableSet, locatorsTo, symbolOf, symbolsIn, symbolsOf};
 ghost use Rattle.lists.specs.Tabulate.{tabulate};
 
@@ -85,16 +85,15 @@ fn divided(m: usize, weights: &[u16; 64], lanes: Lanes) -> [u16; 64]
 }
 
 // The symbols of the columns of the set, rising, and zeros after them. The sums begin at the exponent b.
-pub fn symbols(b: u32, set: Columns, sums: &[u16]) -> [u16; 64]
-    requires { ⌜ ReadableSet b set (now sums) ⌝ }
+pub fn symbols(powers: &[u16; 256], b: u32, set: Columns, sums: &[u16]) -> [u16; 64]
+    requires { ⌜ (now powers ≡ table) × ReadableSet b set (now sums) ⌝ }
     ensures { λ r. ⌜ ((k : ℕ) → getD r k 0 ≡ getD (symbolsOf b set (now (sums .entry))) k 0) ⌝ }
 {
-    let powers = powers();
     let m = size(set);
-    let f = locator_polynomial(&powers, set);
+    let f = locator_polynomial(powers, set);
     let list = listed(set);
-    let x = locators_to(&powers, m, &list, 1);
-    let weights = locators_to(&powers, m, &list, b);
+    let x = locators_to(powers, m, &list, 1);
+    let weights = locators_to(powers, m, &list, b);
     let z = companions(&x);
     let lanes = run(m, &f, sums, &x, &z);
     divided(m, &weights, lanes)

@@ -9,13 +9,13 @@ use Rattle.completion.proofs.row.mend_row.Statement.{statement}
 use Rattle.completion.proofs.row.mend_row.Tie as tie
 
 abbrev Inv-loop : tie.InvT-loop
-Inv-loop b set sums row₀ symbols k₀ i₀ row k i = Adding b set sums row₀ k i row
+Inv-loop powers b set sums row₀ symbols k₀ i₀ row k i = Adding b set sums row₀ k i row
 
 abbrev μ-loop : tie.MeasureT-loop
-μ-loop b set sums row₀ symbols k₀ i₀ row k i = 256 - i
+μ-loop powers b set sums row₀ symbols k₀ i₀ row k i = 256 - i
 
 symbols-requires : tie.Need-symbols-requires Inv-loop μ-loop
-symbols-requires c κs = readable-set _ _ _ _ (c .before .before .pre)
+symbols-requires c κs = (c .before .before .pre .0, readable-set _ _ _ _ (c .before .before .pre .1))
 
 loop-holds : tie.Need-loop-holds Inv-loop μ-loop
 loop-holds c = adding-none _ _ _ _ _ (c .next .ensures)
@@ -26,10 +26,10 @@ start-of c = c .before .before .before .before .before
 
 -- the cell stands in the row
 cell : (c : tie.In-loop Inv-loop μ-loop) → c .before .loop .i < length (c .before .loop .row)
-cell c = in-row _ _ _ _ _ _ _ (c .before .loop .inv) (start-of (c .before) .pre) (c .loop-test .taken)
+cell c = in-row _ _ _ _ _ _ _ (c .before .loop .inv) (start-of (c .before) .pre .1) (c .loop-test .taken)
 
 symbol : (c : tie.In-loop Inv-loop μ-loop) → c .before .loop .k < 64
-symbol c = has-symbol _ _ _ _ _ _ _ (c .before .loop .inv) (start-of (c .before) .pre) (c .loop-test .taken)
+symbol c = has-symbol _ _ _ _ _ _ _ (c .before .loop .inv) (start-of (c .before) .pre .1) (c .loop-test .taken)
 
 mul-plus : tie.Need-mul-plus Inv-loop μ-loop
 mul-plus c = let t = c .loop-test .taken in omega arith
@@ -63,7 +63,7 @@ loop-again : tie.Need-loop-again Inv-loop μ-loop
 loop-again c =
     let inside = c .before .before .before in
     let at = inside .before in
-    adding-more _ _ _ _ _ _ _ (at .loop .inv) (start-of at .pre) (inside .loop-test .taken) (at .before .before .symbols .result)
+    adding-more _ _ _ _ _ _ _ (at .loop .inv) (start-of at .pre .1) (inside .loop-test .taken) (at .before .before .symbols .result)
     (at .before .before .symbols .ensures) _ _ (c .before .plus .ensures)
     (c .next2 .ensures)
 
@@ -71,7 +71,7 @@ same-length : tie.Need-same-length Inv-loop μ-loop
 same-length c = same-size _ _ _ _ _ _ _ (c .before .loop .inv)
 
 returns : tie.Need-returns Inv-loop μ-loop
-returns c = adding-all _ _ _ _ _ _ _ (c .before .loop .inv) (start-of (c .before) .pre) (c .loop-test .left)
+returns c = adding-all _ _ _ _ _ _ _ (c .before .loop .inv) (start-of (c .before) .pre .1) (c .loop-test .left)
 
 pub mend-row-spec : {M : Type 1} → statement M
 mend-row-spec =

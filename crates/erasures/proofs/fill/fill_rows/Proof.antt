@@ -12,20 +12,23 @@ use Rattle.erasures.proofs.fill.fill_rows.Statement.{statement}
 use Rattle.erasures.proofs.fill.fill_rows.Tie as tie
 
 abbrev Inv-loop : tie.InvT-loop
-Inv-loop declared marked sums frame₀ s rows columns at₀ h₀ frame at h = RowsFilled s declared marked sums frame₀ h at frame
+Inv-loop declared marked sums frame₀ s powers rows columns at₀ h₀ frame at h = RowsFilled s declared marked sums frame₀ h at frame
 
 abbrev μ-loop : tie.MeasureT-loop
-μ-loop declared marked sums frame₀ s rows columns at₀ h₀ frame at h = rows - h
+μ-loop declared marked sums frame₀ s powers rows columns at₀ h₀ frame at h = rows - h
 
 -- the ways back
+abbrev tabled : tie.In-loop Inv-loop μ-loop → tie.After-powers Inv-loop μ-loop
+tabled c = c .before .before
+
 abbrev start-of : tie.In-loop Inv-loop μ-loop → tie.Start Inv-loop μ-loop
-start-of c = c .before .before .before .before
+start-of c = tabled c .before .before .before
 
 abbrev in-loop : tie.After-wide Inv-loop μ-loop → tie.In-loop Inv-loop μ-loop
 in-loop c = c .before .before
 
 abbrev counted : tie.After-either Inv-loop μ-loop → tie.After-wide Inv-loop μ-loop
-counted c = c .before .before
+counted c = c .before .before .before
 
 abbrev joined : tie.After-slice-known2 Inv-loop μ-loop → tie.After-either Inv-loop μ-loop
 joined c = c .before .before .before .before .before
@@ -72,7 +75,7 @@ add-e : tie.Need-add-e Inv-loop μ-loop
 add-e c = let p = place (in-loop c) in omega arith
 
 cells-of-requires : tie.Need-cells-of-requires Inv-loop μ-loop
-cells-of-requires c κs = let p = place (in-loop c) in omega arith
+cells-of-requires c κs = let p = place (in-loop (c .before)) in omega arith
 
 mul-mend-row : tie.Need-mul-mend-row Inv-loop μ-loop
 mul-mend-row c = omega (arith, ends (counted c))
@@ -102,8 +105,11 @@ mend-row-requires c κs =
     let read = counted set in
     let inside = in-loop read in
     let at = inside .before .loop in
+    let mendable =
     row-mendable _ _ _ _ _ (start-of inside .pre) (at .h) (at .at) (at .frame) (at .inv) (inside .loop-test .taken) (read .wide .result)
     (read .wide .ensures .0) (set .either .result) (set-is set)
+    in
+    (tabled inside .powers .ensures, mendable)
 
 add-h : tie.Need-add-h Inv-loop μ-loop
 add-h c = let p = place (in-loop (counted (joined c))) in omega arith
@@ -132,6 +138,7 @@ fill-rows-spec =
     (tie.spec
     Inv-loop
     μ-loop
+    (λ c κs. search needs)
     loop-holds
     mul-wide
     element-copy-out-wide

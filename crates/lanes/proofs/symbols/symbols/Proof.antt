@@ -15,19 +15,19 @@ abbrev weighted : tie.After-z → tie.After-locators-to2
 weighted c = c .before .before .before .before .before
 
 abbrev located : tie.After-locators-to2 → tie.After-locators-to
-located c = c .before .before .before
+located c = c .before .before
 
 abbrev listing : tie.After-locators-to → tie.After-listed
-listing c = c .before .before .before
+listing c = c .before .before
 
 abbrev divisor : tie.After-listed → tie.After-locator-polynomial
 divisor c = c .before
 
 abbrev sized : tie.After-locator-polynomial → tie.After-size
-sized c = c .before .before
+sized c = c .before
 
 abbrev start-of : tie.After-size → tie.Start
-start-of c = c .before .before .before
+start-of c = c .before .before
 
 -- the locators of all columns of the set, and their weights
 locators : (c : tie.After-locators-to) (k : ℕ) →
@@ -54,13 +54,13 @@ run-requires c κs =
     let m = sized f in
     let start = start-of m in
     rw (m .size .ensures) (runnable (start .args .b) (start .args .set) (f .locator-polynomial .result) (start .args .sums .now) (list .listed .result)
-    (x .locators-to .result) (f .locator-polynomial .ensures) (list .listed .ensures) (locators x) _ (start .pre)
+    (x .locators-to .result) (f .locator-polynomial .ensures) (list .listed .ensures) (locators x) _ (start .pre .1)
     (c .before .before .before .companions .ensures))
 
 divided-requires : tie.Need-divided-requires
 divided-requires c κs =
     let m = sized (divisor (listing (located (weighted (c .before .before))))) in
-    omega (arith, m .size .ensures, start-of m .pre .few)
+    omega (arith, m .size .ensures, start-of m .pre .1 .few)
 
 returns : tie.Need-returns
 returns c =
@@ -81,7 +81,6 @@ pub symbols-spec : {M : Type 1} → statement M
 symbols-spec =
     tie.close
     (tie.spec
-    (λ c κs. search needs)
     (λ c κs. search needs)
     (λ c κs. search needs)
     (λ c κs. search needs)
