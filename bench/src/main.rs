@@ -388,11 +388,16 @@ fn compare(case: &Case, library: &dyn Calls) -> Ratios {
             .as_ref()
             .map(|(what, _)| (*what, times[1] / times[2])),
     };
+    print_line(case, times[0], times[1], &ratios);
+    ratios
+}
+
+fn print_line(case: &Case, plain: f64, library: f64, ratios: &Ratios) {
     print!(
         "{:<66}{:>12.2}{:>12.2}{:>8.2}",
         case.name,
-        times[0] / 1e3,
-        times[1] / 1e3,
+        plain / 1e3,
+        library / 1e3,
         ratios.to_plain
     );
     if let Some(time) = flint_time(case) {
@@ -404,7 +409,6 @@ fn compare(case: &Case, library: &dyn Calls) -> Ratios {
         None => {}
     }
     println!();
-    ratios
 }
 
 fn library() -> Box<dyn Calls> {

@@ -9,7 +9,7 @@ use Rattle.lists.specs.Tabulate.{tabulate}
 
 -- the sum of column a of a row of `blocks` times 16 columns, not reduced
 unfoldable pub gathered : (blocks : ℕ) (x : List ℕ) (e a : ℕ) → ℕ
-gathered blocks x e a = total blocks (λ b. getD x (16 * b + a) 0 * powerOf3 (16 * b * e))
+gathered blocks x e a = total blocks (λ k. getD x (16 * k + a) 0 * powerOf3 (16 * k * e))
 
 unfoldable pub folded : (blocks : ℕ) (x : List ℕ) (e : ℕ) → List ℕ
 folded blocks x e = tabulate 16 (λ a. gathered blocks x e a % 257)

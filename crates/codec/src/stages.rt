@@ -1,6 +1,6 @@
 // Check sums of a row in two stages of 16: the row is folded into 16 columns in each of the 16 ways that there are, and each
 // check sum is that of a folded row. A row of 256 columns and 64 sums takes 5,120 products instead of 16,384.
-use field257::powers::power_of_3;
+use field257::powers::entry;
 use field257::values::times;
 use field257::values::value_at;
 ghost use mathlib.Core.Path.{_≡_};
@@ -45,12 +45,12 @@ fn gather(powers: &[u16; 256], x: &[u16], blocks: usize, e: u32) -> [u32; 16]
     ensures { λ r. ⌜ r ≡ tabulate 16 (gathered blocks (now (x .entry)) e) ⌝ }
 {
     let mut cells = [0u32; 16];
-    let mut b: usize = 0;
-    while b < blocks {
-        let a = 16 * b;
+    let mut block: usize = 0;
+    while block < blocks {
+        let a = 16 * block;
         let to = a + 16;
-        add_multiple(&mut cells, &x[a..to], power_of_3(powers, (a as u32) * e));
-        b += 1;
+        add_multiple(&mut cells, &x[a..to], entry(powers, (a as u32) * e));
+        block += 1;
     }
     cells
 }
@@ -77,8 +77,8 @@ fn fold_each(powers: &[u16; 256], x: &[u16], blocks: usize, b: u32, ways: usize)
     let mut k: usize = 0;
     while k < ways {
         let a = 16 * k;
-        let e = a + 16;
-        fold(powers, x, blocks, b + k as u32, &mut rows[a..e]);
+        let to = a + 16;
+        fold(powers, x, blocks, b + k as u32, &mut rows[a..to]);
         k += 1;
     }
     rows
@@ -104,8 +104,8 @@ pub fn staged_sums(powers: &[u16; 256], b: u32, x: &[u16], sums: &mut [u16])
     let mut k = 0;
     while k < sums.len() {
         let a = 16 * (k % 16);
-        let e = a + 16;
-        sums[k] = value_at(powers, &rows[a..e], b + k as u32);
+        let to = a + 16;
+        sums[k] = value_at(powers, &rows[a..to], b + k as u32);
         k += 1;
     }
 }

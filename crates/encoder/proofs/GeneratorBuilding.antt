@@ -18,6 +18,7 @@ use Rattle.field.proofs.Bridge.{res-zero, res-mod, res-add, res-mul}
 use Rattle.field.proofs.Prime257.{prime-257}
 use Rattle.frame.specs.Frame.{checkSum}
 use Rattle.field257.specs.Powers.{powerOf3}
+use Rattle.field257.proofs.PowerTable.{power-suc}
 use Rattle.frame.proofs.Weights.{weightAt, weightAt-add, res-root}
 use Rattle.frame.proofs.CheckSums.{rowSum, sum-is-zero, zero-in-field}
 use Rattle.field257.proofs.Field257.{symbols, R257, res257, res-negative}
@@ -44,6 +45,10 @@ generator-none b = record {
     past (suc k) h = zeros-entry 64 k
 
 module _ (b j root : ℕ) (f : List ℕ) (a : GeneratorPolynomial b j f) (room : j + 2 - 0 ≤ length f) (power : root ≡ powerOf3 (b + j)) where
+  -- the root of the next factor
+  pub next-root : (3 * root) % 257 ≡ powerOf3 (b + (j + 1))
+  next-root = ap (λ (r : ℕ). (3 * r) % 257) power ∙ power-suc (b + j) ∙ ap powerOf3 (let q : suc (b + j) ≡ b + (j + 1) = omega arith in q)
+
   -- the coefficients that are not 0 by then
   abbrev part : List ℕ
   part = midOf 0 (j + 2 - 0) f

@@ -1,9 +1,8 @@
 -- The generator polynomial of m checks from the exponent b on, whose multiples are the rows with the first m check sums 0.
 use mathlib.Core.Path.{_≡_}
 use mathlib.Core.List.{List}
-use Prim.Native.Nat.{ℕ, suc, _≤_, _<_}
+use Prim.Native.Nat.{ℕ, suc, _<_}
 use lib.ListN.{length, getD}
-use Rattle.field257.specs.Table.{table}
 use Rattle.frame.specs.Frame.{checkSum}
 
 -- a polynomial of degree m with the leading coefficient −1, and zeros after it
@@ -18,9 +17,3 @@ pub record Divisor (m : ℕ) (g : List ℕ) : Type 0 where
 pub record GeneratorPolynomial (b m : ℕ) (g : List ℕ) : Type 0 where
   pub divisor : Divisor m g
   pub sums : (j : ℕ) → j < m → checkSum b (suc m) g (suc j) ≡ 0
-
--- it is built from the table of powers, an exponent of a shape and a check count
-pub record Buildable (powers : List ℕ) (b m : ℕ) : Type 0 where
-  pub powers-known : powers ≡ table
-  pub exponent : b ≤ 255
-  pub few : m ≤ 64

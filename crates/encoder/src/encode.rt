@@ -1,7 +1,6 @@
 // Frames encoded: their sizes and data cells tested, and their rows encoded one after the other.
 use crate::division::encode_row;
 use crate::generator::generator;
-use field257::powers::powers;
 use field257::powers::wide;
 use frame::Shape;
 use refusal::Checked;
@@ -9,28 +8,23 @@ use refusal::Refusal;
 use shapes::symbols::data_below;
 ghost use mathlib.Core.Path.{_≡_};
 ghost use mathlib.Core.Bool.{true};
+ghost use Prim.Native.Nat.{_≤_};
 ghost use Rattle.encoder.specs.Encodable.{EncodableFrame};
-ghost use Rattle.encoder.specs.GeneratorPolynomial.{Buildable, GeneratorPolynomial};
+ghost use Rattle.encoder.specs.GeneratorPolynomial.{GeneratorPolynomial};
 ghost use Rattle.frame.specs.Encode.{encoded, encodeTests};
 ghost use Rattle.frame.specs.Shape.{isShape};
 ghost use Rattle.refusal.specs.Order.{firstOf};
 ghost use Rattle.refusal.specs.Outcome.{outcome, outcomeOf};
 
 // The generator polynomial for a check count, where that for another is at hand.
-fn generator_for(
-    powers: &[u16; 256],
-    b: u32,
-    held: [u16; 65],
-    count: usize,
-    checks: usize,
-) -> [u16; 65]
-    requires { ⌜ GeneratorPolynomial b count held × Buildable (now powers) b checks ⌝ }
+fn generator_for(b: u32, held: [u16; 65], count: usize, checks: usize) -> [u16; 65]
+    requires { ⌜ GeneratorPolynomial b count held × (checks ≤ 64) ⌝ }
     ensures { λ r. ⌜ GeneratorPolynomial b checks r ⌝ }
 {
     if checks == count {
         return held;
     }
-    generator(powers, b, checks)
+    generator(b, checks)
 }
 
 // The check cells filled from the data cells, row after row.
@@ -38,16 +32,15 @@ fn fill_checks(s: Shape, frame: &mut [u16])
     requires { ⌜ EncodableFrame s (now frame) ⌝ }
     ensures { λ r. ⌜ now (frame .exit) ≡ encoded s (now (frame .entry)) ⌝ }
 {
-    let powers = powers();
     let rows = s.rows;
     let columns = s.columns;
     let b = s.exponent;
     let mut count = wide(s.checks[0]) as usize;
-    let mut held = generator(&powers, b, count);
+    let mut held = generator(b, count);
     let mut h = 0;
     while h < rows {
         let checks = wide(s.checks[h]) as usize;
-        held = generator_for(&powers, b, held, count, checks);
+        held = generator_for(b, held, count, checks);
         count = checks;
         let a = h * columns;
         let e = a + columns;

@@ -3,20 +3,22 @@
 use field257::factor::multiply;
 use field257::powers::power_of_3;
 use field257::powers::wide;
-ghost use Rattle.encoder.specs.GeneratorPolynomial.{Buildable, GeneratorPolynomial};
+ghost use Prim.Native.Nat.{_≤_};
+ghost use Rattle.encoder.specs.GeneratorPolynomial.{GeneratorPolynomial};
 
 // One factor after the other, starting from -1, over the coefficients that are not 0 by then.
-pub fn generator(powers: &[u16; 256], b: u32, m: usize) -> [u16; 65]
-    requires { ⌜ Buildable (now powers) b m ⌝ }
+pub fn generator(b: u32, m: usize) -> [u16; 65]
+    requires { ⌜ m ≤ 64 ⌝ }
     ensures { λ r. ⌜ GeneratorPolynomial b m r ⌝ }
 {
     let mut f = [0u16; 65];
     f[0] = 256;
+    let mut root = wide(power_of_3(b));
     let mut j: usize = 0;
     while j < m {
-        let root = power_of_3(powers, b + j as u32);
-        let e = j + 2;
-        multiply(&mut f[0..e], 1, 257 - wide(root));
+        let to = j + 2;
+        multiply(&mut f[0..to], 1, 257 - root);
+        root = (3 * root) % 257;
         j += 1;
     }
     f

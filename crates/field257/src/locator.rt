@@ -1,6 +1,6 @@
 // The locator polynomial of a set of columns: the product of 1 - 3^i z over its columns i.
 use crate::factor::multiply;
-use crate::powers::power_of_3;
+use crate::powers::entry;
 use crate::powers::wide;
 use columns::Columns;
 use columns::next;
@@ -22,7 +22,7 @@ pub fn locator_polynomial(powers: &[u16; 256], set: Columns) -> [u16; 65]
     let mut i = next(set, 0);
     while i < 256 {
         e += 1;
-        multiply(&mut f[0..e], 257 - wide(power_of_3(powers, i as u32)), 1);
+        multiply(&mut f[0..e], 257 - wide(entry(powers, i as u32)), 1);
         i = next(set, i + 1);
     }
     f

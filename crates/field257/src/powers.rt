@@ -279,10 +279,19 @@ pub fn wide(x: u16) -> u32
     x as u32
 }
 
-// 3 to the power e modulo 257, for every e, the table being lent: the powers come round after 256, so that no caller reduces an exponent.
-pub fn power_of_3(powers: &[u16; 256], e: u32) -> u16
+// The entry of what is lent in which the table has 3 to the power e modulo 257, for every e: the powers come round after 256. For loops, to which the table is
+// lent, since it is stored anew wherever it is named.
+pub fn entry(powers: &[u16; 256], e: u32) -> u16
     ensures power { λ r. ⌜ (now (powers .entry) ≡ table → r ≡ powerOf3 e) ⌝ }
-    ensures entry { λ r. ⌜ r ≡ getD (now (powers .entry)) (e % 256) 0 ⌝ }
+    ensures place { λ r. ⌜ r ≡ getD (now (powers .entry)) (e % 256) 0 ⌝ }
 {
     powers[(e % 256) as usize]
+}
+
+// 3 to the power e modulo 257, for every e.
+pub fn power_of_3(e: u32) -> u16
+    ensures { λ r. ⌜ r ≡ powerOf3 e ⌝ }
+{
+    let powers = powers();
+    entry(&powers, e)
 }

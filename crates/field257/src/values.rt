@@ -1,5 +1,5 @@
 // Values of polynomials at powers of 3.
-use crate::powers::power_of_3;
+use crate::powers::entry;
 ghost use mathlib.Core.Path.{_≡_};
 ghost use Prim.Native.Nat.{_+_, _*_, _/_, _%_, _^_, _≤_, _<_};
 ghost use lib.ListN.{length, getD};
@@ -50,13 +50,13 @@ fn fours(powers: &[u16; 256], f: &[u16], e: u32) -> u64
         ⌝ }
     ensures bounded { λ r. ⌜ r ≤ 4 * (length (now (f .entry)) / 4) * 562949953421312 ⌝ }
 {
-    let y = long(power_of_3(powers, e));
+    let y = long(entry(powers, e));
     let blocks = f.len() / 4;
     let mut total: u64 = 0;
     let mut exponent: u32 = 0;
     let mut b = 0;
     while b < blocks {
-        total += cubic(f, 4 * b, y) * long(power_of_3(powers, exponent));
+        total += cubic(f, 4 * b, y) * long(entry(powers, exponent));
         exponent += 4 * e;
         b += 1;
     }
@@ -73,7 +73,7 @@ pub fn value_at(powers: &[u16; 256], f: &[u16], e: u32) -> u16
     let mut k = 4 * (f.len() / 4);
     let mut exponent = (k as u32) * e;
     while k < f.len() {
-        total += times(f[k], power_of_3(powers, exponent)) as u64;
+        total += times(f[k], entry(powers, exponent)) as u64;
         exponent += e;
         k += 1;
     }

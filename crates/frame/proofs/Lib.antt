@@ -7,7 +7,7 @@ pub mod Declarable
 pub mod Demands
 pub mod Distances
 pub mod Encoding
-pub mod ExponentOne
+pub mod Exponents
 pub mod FrameTests
 pub mod GivenShapes
 pub mod Held

@@ -34,6 +34,19 @@ res-weight b i j =
     sym (res-mod 257 prime-257 (weight b i (suc j))) ∙ ap res257 (weight-power b i j) ∙ res-mod 257 prime-257 (3 ^ (i * (b + j)))
     ∙ res-pow 257 prime-257 3 (i * (b + j)) ∙ pow-pow R257 (res257 3) i (b + j)
 
+pub weight-zero : (i : ℕ) → weight 0 i 1 ≡ 1
+unfolding weight
+weight-zero i = ap (λ (e : ℕ). 3 ^ e) (let q : i * (0 + 1 - 1) ≡ 0 = omega arith in q)
+
+pub weight-one : (i j : ℕ) → weight 1 i j ≡ 3 ^ (i * j)
+unfolding weight
+weight-one i j = ap (λ (e : ℕ). 3 ^ (i * e)) (let q : 1 + j - 1 ≡ j = omega arith in q)
+
+-- in the next check sum, or at the next exponent
+pub weight-next : (b i j : ℕ) → weight (suc b) i j ≡ weight b i (suc j)
+unfolding weight
+weight-next b i j = ap (λ (e : ℕ). 3 ^ (i * e)) (let q : suc b + j - 1 ≡ b + suc j - 1 = omega arith in q)
+
 weight-add : (b i k j : ℕ) → weight b (i + k) j ≡ weight b i j * weight b k j
 unfolding weight
 weight-add b i k j = rw (add-mul i k (b + j - 1), pow-add 3 (i * (b + j - 1)) (k * (b + j - 1)))

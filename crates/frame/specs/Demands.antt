@@ -17,13 +17,20 @@ use Rattle.frame.specs.declared.Shape.{Shape}
 abbrev pub BadChecks : (n k : ℕ) → Type 0
 BadChecks n k = (k < 1) ⊎ ((64 < k) ⊎ (n ≤ k))
 
+abbrev pub rowsReason : (checks : List ℕ) → Reason
+rowsReason checks = record { number = 2; holds = (length checks < 1) ⊎ (8 < length checks) }
+
+abbrev pub columnsReason : (n : ℕ) → Reason
+columnsReason n = record { number = 5; holds = (n < 2) ⊎ (256 < n) }
+
+abbrev pub checksReason : (n : ℕ) (checks : List ℕ) → Reason
+checksReason n checks = record { number = 6; holds = (h : ℕ) × (h < length checks) × BadChecks n (getD checks h 0) }
+
+abbrev pub exponentReason : (b : ℕ) → Reason
+exponentReason b = record { number = 32; holds = 255 < b }
+
 abbrev pub shapeReasons : (n : ℕ) (checks : List ℕ) (b : ℕ) → List Reason
-shapeReasons n checks b =
-    record { number = 2; holds = (length checks < 1) ⊎ (8 < length checks) } ∷
-    record { number = 5; holds = (n < 2) ⊎ (256 < n) } ∷
-    record { number = 6; holds = (h : ℕ) × (h < length checks) × BadChecks n (getD checks h 0) } ∷
-    record { number = 32; holds = 255 < b } ∷
-    []
+shapeReasons n checks b = rowsReason checks ∷ columnsReason n ∷ checksReason n checks ∷ exponentReason b ∷ []
 
 abbrev pub sizeReason : Shape → (f : List ℕ) → Reason
 sizeReason s f = record { number = 7; holds = length f ≡ s .rows * s .columns → ⊥ }

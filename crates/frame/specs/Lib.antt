@@ -2,6 +2,6 @@ pub mod Completion
 pub mod DeclaredCells
 pub mod Demands
 pub mod Encode
-pub mod ExponentOne
+pub mod Exponents
 pub mod Frame
 pub mod Shape

@@ -8,7 +8,7 @@ use field::residue::difference;
 use field257::inverses::inverse;
 use field257::locator::locator_polynomial;
 use field257::montgomery::companion;
-use field257::powers::power_of_3;
+use field257::powers::entry;
 use field257::powers::wide;
 use field257::values::times;
 ghost use mathlib.Core.Path.{_≡_};
@@ -44,7 +44,7 @@ fn locators_to(powers: &[u16; 256], m: usize, list: &[u16; 64], e: u32) -> [u16;
     let mut x = [0u16; 64];
     let mut k = 0;
     while k < m {
-        x[k] = power_of_3(powers, wide(list[k]) * e);
+        x[k] = entry(powers, wide(list[k]) * e);
         k += 1;
     }
     x

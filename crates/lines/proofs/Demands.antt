@@ -40,7 +40,7 @@ use Rattle.register.specs.Sequences.{longest, split}
 use Rattle.lines.specs.Demands.{kindOf, OfOneRecord, UnknownKind, badReason, Line, IsLine, Records}
 use Rattle.lines.specs.Demands.{lengthsOf, sequenceSymbols, registerReasonsOf, ShowsRegister}
 use Rattle.lines.specs.Demands.{checkCountsOf, frameSymbols, frameReasonsOf, ShowsColumns}
-use Rattle.refusal.proofs.Firsts.{first-same, first-or-none, first-before, first-after, none-append, none-in-turn, Below, first-below}
+use Rattle.refusal.proofs.Firsts.{first-same, first-or-none, first-before, first-after, none-append, none-in-turn, Below, below-append, first-below}
 use Rattle.lines.proofs.Newlines.{line-is-one, refusal-is-one}
 use Rattle.record.proofs.Numbers.{tells-number, other-letter}
 use Rattle.lines.proofs.Parsed.{Told, told, sequences-not-bad, frame-not-bad, bad-exactly}
@@ -260,22 +260,9 @@ module _ (r : List ℕ) (one : OfOneRecord r) where
   frames kind =
       line-owed (frameReasonsOf r) (lineOf r) _ (
         omega arith,
-        (
-          omega arith,
-          (
-            omega arith,
-            (
-              omega arith,
-              (
-                omega arith,
-                (
-                  omega arith,
-                  (omega arith, (omega arith, (omega arith, (omega arith, (omega arith, tt))))),
-                ),
-              ),
-            ),
-          ),
-        ),
+        below-append _ (shapeReasons (fieldOf r 3) (checkCountsOf r) 1) _ (omega arith, (omega arith, (omega arith, (omega arith, tt))))
+            (below-append _ (readReasons (shapeOf (fieldOf r 3) (checkCountsOf r) 1) (declaredBy noWords) (frameSymbols r)) _
+            (omega arith, (omega arith, (omega arith, tt))) (omega arith, (omega arith, (omega arith, tt)))),
       )
       (λ s k e. other-letter 70 _ k (λ d. let z : ⊥ = omega arith in z) (sym (s .written) ∙ e)) (frames-either kind (told r one))
 

@@ -100,8 +100,8 @@ checkCountsOf r = fieldsFrom r 4 (fieldOf r 2)
 abbrev pub frameSymbols : List ℕ → List ℕ
 frameSymbols r = symbolsAfter r (fieldOf r 2)
 
--- 9, then the refusals of shape with the exponent 1, 2, 5, 6, which 32 cannot be, then those of locate on the shaped job, 7, 4, 24, 25, 26: it is not empty,
--- so that 21 cannot be, and nothing is declared, so that 31 cannot be
+-- 9; then those of shape, 2, 5, 6: the exponent is 1, so that 32 cannot be; then those of locate on the shaped job, 7, 4, 24, 25, 26: it is not empty, so that
+-- 21 cannot be, and nothing is declared, so that 31 cannot be
 abbrev pub frameReasonsOf : List ℕ → List Reason
 frameReasonsOf r =
     let s : Shape = shapeOf (fieldOf r 3) (checkCountsOf r) 1 in

@@ -36,7 +36,7 @@ pub fn fill_from(state: &mut u64, least: u16, p: u16, a: &mut [u16], n: usize)
     }
 }
 
-// The exponent of a shape: mostly at an edge, or any that is taken.
+// The exponent of a shape: six times in ten 0, 1, 2, 127, 128 or 255, else any.
 pub fn draw_exponent(state: &mut u64) -> u32
     ensures { λ r. ⌜ r < 256 ⌝ }
 {

@@ -29,6 +29,12 @@ pub first-after : (rs qs : List Reason) (k : ℕ) → None rs → First k qs →
 first-after [] qs k n f = f
 first-after (r ∷ rs) qs k (n, ns) f = inr (n, first-after rs qs k ns f)
 
+-- where no reason of the later order comes first
+pub first-front : (rs qs : List Reason) (k : ℕ) → (First k qs → ⊥) → First k (rs ++ qs) → First k rs
+first-front [] qs k never f = absurd (never f)
+first-front (r ∷ rs) qs k never (inl h) = inl h
+first-front (r ∷ rs) qs k never (inr (n, f)) = inr (n, first-front rs qs k never f)
+
 pub none-append : (rs qs : List Reason) → None rs → None qs → None (rs ++ qs)
 none-append [] qs n m = m
 none-append (r ∷ rs) qs (n, ns) m = (n, none-append rs qs ns m)
@@ -46,6 +52,10 @@ none-in-turn (t ∷ ts) (r ∷ rs) (s, later) (p, ps) =
 abbrev pub Below : ℕ → List Reason → Type 0
 Below n [] = Unit {0}
 Below n (r ∷ rs) = (r .number < n) × Below n rs
+
+pub below-append : (n : ℕ) (rs qs : List Reason) → Below n rs → Below n qs → Below n (rs ++ qs)
+below-append n [] qs b c = c
+below-append n (r ∷ rs) qs (b, bs) c = (b, below-append n rs qs bs c)
 
 pub first-below : (n : ℕ) (rs : List Reason) (k : ℕ) → Below n rs → First k rs → k < n
 first-below n [] k b f = absurd f

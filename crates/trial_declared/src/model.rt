@@ -46,8 +46,8 @@ pub(crate) struct Step {
     pub(crate) model: Model,
 }
 
-// What the model takes for the exponent.
-fn taken(planted: u16, exponent: u32) -> u32 {
+// The exponent that the model sums with.
+fn summed_from(planted: u16, exponent: u32) -> u32 {
     if planted == EXPONENT_LEFT_OUT {
         return 1;
     }
@@ -66,7 +66,7 @@ pub(crate) fn shaped(planted: u16, phase: u16, columns: u16, list: &[u16], expon
         columns,
         rows: (list.len() % 65536) as u16,
         checks,
-        exponent: taken(planted, exponent),
+        exponent,
         sums,
         words,
         length: 0,
@@ -111,7 +111,8 @@ pub(crate) fn search(model: Model, words: &[u64; 32], sums: &[u16], marks: &mut 
     if model.planted == NOT_COMPLETED {
         return found;
     }
-    if all_completable(model.exponent, words, checks, sums, marks) {
+    let from = summed_from(model.planted, model.exponent);
+    if all_completable(from, words, checks, sums, marks) {
         return found;
     }
     Expected {
@@ -136,7 +137,8 @@ fn settle(model: Model, words: &[u64; 32], frame: &[u16]) -> Step {
     let room = model.checks;
     let checks = part(&room, 0, model.rows as usize);
     let mut sums = [0u16; 512];
-    check_sums(model.exponent, model.columns, checks, frame, &mut sums);
+    let from = summed_from(model.planted, model.exponent);
+    check_sums(from, model.columns, checks, frame, &mut sums);
     let mut named = [0u16; 256];
     let expected = search(model, words, &sums, &mut named);
     let number = expected.number;
@@ -199,7 +201,8 @@ fn sums_differ(model: Model, frame: &[u16]) -> bool {
     let held = model.sums;
     let mut sums = [0u16; 512];
     let lent = part(&checks, 0, model.rows as usize);
-    check_sums(model.exponent, model.columns, lent, frame, &mut sums);
+    let from = summed_from(model.planted, model.exponent);
+    check_sums(from, model.columns, lent, frame, &mut sums);
     !plain::compare::same(&held, &sums, 0)
 }
 

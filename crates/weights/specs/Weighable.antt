@@ -5,7 +5,8 @@ use Prim.Native.Nat.{ℕ, _≤_, _<_}
 use lib.ListN.{length, getD}
 use Rattle.field257.specs.Table.{table}
 
--- the table of powers, an exponent of a shape, a column of a frame, and coefficients, no more than a set has columns
+-- the table of powers, an exponent of a shape, a column of a frame, and coefficients: one or more, so that there is a last check sum to be read off, and no
+-- more than a set has columns
 pub record Weighable (powers : List ℕ) (b i : ℕ) (row : List ℕ) : Type 0 where
   pub powers-known : powers ≡ table
   pub exponent : b ≤ 255

@@ -4,7 +4,7 @@ pub mod read;
 use field::residue::difference;
 use field::residue::product;
 use field257::inverses::inverse;
-use field257::powers::power_of_3;
+use field257::powers::entry;
 use field257::powers::wide;
 use field257::values::value_at;
 ghost use mathlib.Core.Path.{_≡_};
@@ -49,7 +49,7 @@ fn factor(powers: &[u16; 256], b: u32, others: &[u16], i: usize) -> u32
     ensures below { λ r. ⌜ r < 257 ⌝ }
 {
     let there = value_at(powers, others, (256 - i) as u32);
-    let weight = power_of_3(powers, (i as u32) * (b + others.len() as u32 - 1));
+    let weight = entry(powers, (i as u32) * (b + others.len() as u32 - 1));
     let part = product(wide(weight), wide(there), 257);
     difference(0, inverse(part), 257)
 }
@@ -62,7 +62,7 @@ pub fn weigh(powers: &[u16; 256], b: u32, f: &[u16; 65], i: usize, row: &mut [u1
         (readOff b (length (now (row .entry))) i (tabulate (length (now (row .entry))) (λ k. carried (now (f .entry)) (locatorOf i) (suc k))))
         ⌝ }
 {
-    divide(f, wide(power_of_3(powers, i as u32)), row);
+    divide(f, wide(entry(powers, i as u32)), row);
     let c = factor(powers, b, row, i);
     scale(row, c);
 }

@@ -128,6 +128,14 @@ const FRAMES: [Frame; 10] = [
 ];
 
 pub fn run(judge: &mut Judge) {
+    registers(judge);
+    for example in FRAMES {
+        locate(judge, &example);
+    }
+    encodings(judge);
+}
+
+fn registers(judge: &mut Judge) {
     for (p, sequences, taps, alone) in REGISTERS {
         let lengths: Vec<u16> = sequences
             .iter()
@@ -147,38 +155,29 @@ pub fn run(judge: &mut Judge) {
             register.alone,
         );
     }
-    for example in FRAMES {
-        let mut frame = vec![0; example.checks.len() * example.columns];
-        for &(place, symbol) in example.cells {
-            frame[place] = symbol;
-        }
-        let mut job = judge.empty();
-        judge.shape(&mut job, example.columns, example.checks, example.exponent);
-        let answer = judge.locate(&mut job, &NOTHING, &frame);
-        match example.located {
-            Err(number) => judge.compare(
-                "the refusal of an example",
-                &example.cells,
-                number,
-                answer.refusal,
-            ),
-            Ok(Located { sums, marks }) => {
-                judge.compare(
-                    "the columns of an example",
-                    &example.cells,
-                    marks,
-                    answer.marks,
-                );
-                judge.compare(
-                    "the sums of an example",
-                    &example.cells,
-                    sums,
-                    &job.sums[..sums.len()],
-                );
-            }
+}
+
+fn locate(judge: &mut Judge, example: &Frame) {
+    let mut frame = vec![0; example.checks.len() * example.columns];
+    for &(place, symbol) in example.cells {
+        frame[place] = symbol;
+    }
+    let mut job = judge.empty();
+    judge.shape(&mut job, example.columns, example.checks, example.exponent);
+    let answer = judge.locate(&mut job, &NOTHING, &frame);
+    let cells = &example.cells;
+    match &example.located {
+        Err(number) => judge.compare("the refusal of an example", cells, *number, answer.refusal),
+        Ok(Located { sums, marks }) => {
+            judge.compare("the columns of an example", cells, *marks, answer.marks);
+            let held = &job.sums[..sums.len()];
+            judge.compare("the sums of an example", cells, *sums, held);
         }
     }
-    // −(3 + 9); −(1 + 1); −(9 + 81); −(−1 + 1); minus the inverses of 3 and 9, which are 86 and 200
+}
+
+/// −(3 + 9); −(1 + 1); −(9 + 81); −(−1 + 1); minus the inverses of 3 and 9, which are 86 and 200.
+fn encodings(judge: &mut Judge) {
     for (exponent, check) in [(1, 245), (0, 255), (2, 167), (128, 0), (255, 228)] {
         let mut job = judge.empty();
         judge.shape(&mut job, 3, &[1], exponent);

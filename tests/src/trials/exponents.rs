@@ -1,5 +1,5 @@
 //! The exponent that the check sums begin at: each of them in a small frame, and some in the largest;
-//! frames and their likeness at the exponent 1; frames that are legal for one exponent, lent to a job
+//! frames and the same rescaled to the exponent 1; frames that are legal for one exponent, lent to a job
 //! of another; and shapes, one after the other, that differ in the exponent alone.
 
 use common::interface::{Answer, Declared, Job, NOTHING};
@@ -23,7 +23,7 @@ pub fn run(judge: &mut Judge) {
     }
     for exponent in (0..256).cycle().take(6 * 256) {
         let shape = at(exponent, &some_shape(&mut random, 12));
-        likeness(judge, &mut random, &shape);
+        rescaled(judge, &mut random, &shape);
     }
     illegal_elsewhere(judge, &mut random);
     for exponent in 0..256 {
@@ -133,11 +133,11 @@ fn largest(judge: &mut Judge, random: &mut Random, exponent: u32, lost: usize) {
     );
 }
 
-/// A frame and its likeness at the exponent 1, the symbols at column i times 3^(i·(b − 1)): the check
+/// A frame and the same rescaled to the exponent 1, the symbols at column i times 3^(i·(b − 1)): the check
 /// sums are the same, and so is all that is made of them.
-fn likeness(judge: &mut Judge, random: &mut Random, shape: &Shape) {
+fn rescaled(judge: &mut Judge, random: &mut Random, shape: &Shape) {
     let weights = weights(shape.columns, (shape.exponent as usize + 255) % 256);
-    let alike = |frame: &[u16]| {
+    let to_one = |frame: &[u16]| {
         let cells = frame.iter().zip(weights.iter().cycle());
         cells
             .map(|(&x, weight)| (u64::from(x) * weight % 257) as u16)
@@ -156,10 +156,10 @@ fn likeness(judge: &mut Judge, random: &mut Random, shape: &Shape) {
         ((located, sums, taps), mended)
     };
     let (located, mended) = mend(shape, &received);
-    let (expected, other) = mend(&at(1, shape), &alike(&received));
+    let (expected, other) = mend(&at(1, shape), &to_one(&received));
     let inputs = (shape, declared, received);
     judge.compare("what is located", &inputs, expected, located);
-    judge.compare("what is mended", &inputs, other, alike(&mended));
+    judge.compare("what is mended", &inputs, other, to_one(&mended));
 }
 
 /// A frame that is encoded for one exponent is legal for another only by chance, and where it is no

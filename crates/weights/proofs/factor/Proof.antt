@@ -15,8 +15,8 @@ use Rattle.weights.proofs.factor.Tie as tie
 abbrev start-of : tie.After-value-at → tie.Start
 start-of c = c .before .before
 
-mul-power-of-3 : tie.Need-mul-power-of-3
-mul-power-of-3 c =
+mul-entry : tie.Need-mul-entry
+mul-entry c =
     let start = start-of c in
     let m = length (start .args .others .now) in
     let less : start .args .i ≤ 255 = omega (arith, start .pre .column) in
@@ -24,10 +24,10 @@ mul-power-of-3 c =
     omega (arith, mul-le-mul less most)
 
 -- the weight in the last check sum
-weight : (c : tie.After-power-of-3) →
+weight : (c : tie.After-entry) →
     let args = start-of (c .before) .args in
-    c .power-of-3 .result ≡ powerOf3 (args .i * (args .b + length (args .others .now) - 1))
-weight c = c .power-of-3 .ensures .0 (start-of (c .before) .pre .powers-known)
+    c .entry .result ≡ powerOf3 (args .i * (args .b + length (args .others .now) - 1))
+weight c = c .entry .ensures .0 (start-of (c .before) .pre .powers-known)
 
 product-requires : tie.Need-product-requires
 product-requires c κs =
@@ -40,7 +40,7 @@ returns c =
     let powered = part .before .before .before in
     let there = powered .before .value-at in
     let start = start-of (powered .before) in (
-      factor-is (start .args .b) (length (start .args .others .now)) (start .args .i) _ (there .result) (powered .power-of-3 .result) (part .product .result)
+      factor-is (start .args .b) (length (start .args .others .now)) (start .args .i) _ (there .result) (powered .entry .result) (part .product .result)
           (c .before .inverse .result) (c .difference .result) (omega (arith, start .pre .column)) (there .ensures .0) (weight powered)
           (part .product .ensures .0 ∙ ap₂ (times 257) (part .before .before .wide .ensures .0) (part .before .wide2 .ensures .0))
           (c .before .inverse .ensures .0) (c .difference .ensures .0),
@@ -58,7 +58,7 @@ factor-spec =
     (λ c. search needs)
     (λ c. search needs)
     (λ c. search needs)
-    mul-power-of-3
+    mul-entry
     (λ c κs. search needs)
     (λ c κs. search needs)
     (λ c κs. search needs)

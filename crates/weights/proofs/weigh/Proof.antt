@@ -18,7 +18,7 @@ start-of c = c .before .before .before
 
 -- the locator of the column
 looked-up : (c : tie.After-wide) → c .wide .result ≡ locatorOf (start-of c .args .i)
-looked-up c = c .wide .ensures .0 ∙ c .before .power-of-3 .ensures .0 (start-of c .pre .powers-known)
+looked-up c = c .wide .ensures .0 ∙ c .before .entry .ensures .0 (start-of c .pre .powers-known)
 
 divide-requires : tie.Need-divide-requires
 divide-requires c κs = (omega (arith, looked-up (c .before)), start-of (c .before) .pre .few)

@@ -19,43 +19,35 @@ use Rattle.encoder.proofs.encode.fill_checks.Statement.{statement}
 use Rattle.encoder.proofs.encode.fill_checks.Tie as tie
 
 abbrev Inv-loop : tie.InvT-loop
-Inv-loop frame₀ s powers rows columns b count₀ held₀ h₀ frame count held h =
+Inv-loop frame₀ s rows columns b count₀ held₀ h₀ frame count held h =
     RowsAtSets (completed (s .exponent)) (length-completed (s .exponent)) columns rows (λ i. firstColumns (checksOf s i)) frame₀ h frame
     × GeneratorPolynomial b count held
 
 abbrev μ-loop : tie.MeasureT-loop
-μ-loop frame₀ s powers rows columns b count₀ held₀ h₀ frame count held h = rows - h
+μ-loop frame₀ s rows columns b count₀ held₀ h₀ frame count held h = rows - h
 
 -- the ways back
-abbrev with-powers : tie.In-loop Inv-loop μ-loop → tie.After-powers Inv-loop μ-loop
-with-powers c = c .before .before .before .before .before .before
-
-abbrev start-of : tie.After-powers Inv-loop μ-loop → tie.Start Inv-loop μ-loop
-start-of c = c .before .before
+abbrev start-of : tie.In-loop Inv-loop μ-loop → tie.Start Inv-loop μ-loop
+start-of c = c .before .before .before .before .before .before
 
 abbrev in-loop : tie.After-generator-for Inv-loop μ-loop → tie.In-loop Inv-loop μ-loop
-in-loop c = c .before .before .before .before
+in-loop c = c .before .before .before
 
 abbrev with-generator : tie.After-slice-known2 Inv-loop μ-loop → tie.After-generator-for Inv-loop μ-loop
 with-generator c = c .before .before .before .before .before
 
 place : (c : tie.In-loop Inv-loop μ-loop) →
-    let args = start-of (with-powers c) .args in
+    let args = start-of c .args in
     RowPlace (args .t1) (length (args .frame .now)) (c .before .loop .h)
 place c =
-    let start = start-of (with-powers c) in
+    let start = start-of c in
     row-place (start .args .t1) (length (start .args .frame .now)) (c .before .loop .h) (start .pre .shape) (start .pre .whole) (c .loop-test .taken)
 
 generator-requires : tie.Need-generator-requires Inv-loop μ-loop
 generator-requires c κs =
-    let known = c .before .before .before in
-    let start = start-of known in
+    let start = c .before .before .before in
     let r = shape-ranges (start .args .t1) (start .pre .shape) in
-    record {
-      powers-known = known .powers .ensures;
-      exponent = omega (arith, r .exponent-most);
-      few = omega (arith, c .before .wide .ensures .0, r .checks 0 (r .rows-least) .most);
-    }
+    omega (arith, c .wide .ensures .0, r .checks 0 (r .rows-least) .most)
 
 loop-holds : tie.Need-loop-holds Inv-loop μ-loop
 loop-holds c = (changed-none _ _ _ _, c .generator .ensures)
@@ -68,16 +60,9 @@ element-copy-out-wide-2 c = let p = place c in omega arith
 
 generator-for-requires : tie.Need-generator-for-requires Inv-loop μ-loop
 generator-for-requires c κs =
-    let inside = c .before .before .before in
-    let start = start-of (with-powers inside) in
-    let p = place inside in (
-      inside .before .loop .inv .1,
-      record {
-        powers-known = with-powers inside .powers .ensures;
-        exponent = omega (arith, shape-ranges (start .args .t1) (start .pre .shape) .exponent-most);
-        few = omega (arith, c .before .wide2 .ensures .0);
-      },
-    )
+    let inside = c .before .before in
+    let p = place inside in
+    (inside .before .loop .inv .1, omega (arith, c .wide2 .ensures .0))
 
 mul-a : tie.Need-mul-a Inv-loop μ-loop
 mul-a c = let p = place (in-loop c) in omega arith
@@ -99,10 +84,10 @@ encode-row-requires : tie.Need-encode-row-requires Inv-loop μ-loop
 encode-row-requires c κs =
     let inside = in-loop (c .before .before) in
     let at = inside .before in
-    let start = start-of (with-powers inside) in
+    let start = start-of inside in
     let p = place inside in
     let size = length-part _ _ _ _ _ _ (at .loop .inv .0) (p .inside) in
-    let count = c .before .before .before .before .wide2 .ensures .0 in
+    let count = c .before .before .before .wide2 .ensures .0 in
     record {
       divisor = c .before .before .generator-for .ensures .divisor;
       reach = omega (arith, size, count);
@@ -123,7 +108,7 @@ loop-again c =
     let inside = in-loop made in
     let at = inside .before in (
       more-at-sets (completed _) (length-completed _) _ _ _ _ _ _ (at .loop .inv .0) (place inside .inside) _ _ (inside .loop-test .taken)
-          (ap firstColumns (made .before .before .wide2 .ensures .0)) (c .before .before .encode-row .ensures _ (made .generator-for .ensures)),
+          (ap firstColumns (made .before .wide2 .ensures .0)) (c .before .before .encode-row .ensures _ (made .generator-for .ensures)),
       made .generator-for .ensures,
     )
 
@@ -140,7 +125,6 @@ fill-checks-spec =
     (tie.spec
     Inv-loop
     μ-loop
-    (λ c κs. search needs)
     (λ c. search needs)
     (λ c κs. search needs)
     (λ c. omega arith)

@@ -46,12 +46,12 @@ part-f-start c = let r = room c in omega arith
 part-f-end : tie.Need-part-f-end Inv-loop μ-loop
 part-f-end c = let r = room c in omega arith
 
-cast-power-of-3 : tie.Need-cast-power-of-3 Inv-loop μ-loop
-cast-power-of-3 c = let t = c .before .loop-test .taken in omega arith
+cast-entry : tie.Need-cast-entry Inv-loop μ-loop
+cast-entry c = let t = c .before .loop-test .taken in omega arith
 
 -- the locator of the member
 looked-up : (c : tie.After-wide Inv-loop μ-loop) → c .wide .result ≡ locatorOf (in-loop c .before .loop .i)
-looked-up c = c .wide .ensures .0 ∙ c .before .power-of-3 .ensures .0 (in-loop c .before .before .before .pre .0)
+looked-up c = c .wide .ensures .0 ∙ c .before .entry .ensures .0 (in-loop c .before .before .before .pre .0)
 
 sub-multiply-2 : tie.Need-sub-multiply-2 Inv-loop μ-loop
 sub-multiply-2 c = omega (arith, looked-up c)
@@ -102,7 +102,7 @@ locator-polynomial-spec =
     sub-multiply
     part-f-start
     part-f-end
-    cast-power-of-3
+    cast-entry
     (λ c κs. search needs)
     (λ c κs. search needs)
     sub-multiply-2

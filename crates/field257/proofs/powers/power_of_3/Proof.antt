@@ -1,20 +1,10 @@
 -- `field257::powers::power_of_3` meets its contract.
-use mathlib.Core.List.{List}
-use mathlib.Core.Path.{refl, sym, ap, _∙_}
-use Prim.Native.Nat.{ℕ, _%_}
-use native.Mathlib.Nat.{mod-lt}
-use native.Mathlib.Omega.{arith}
-use lib.ListN.{getD}
-use Rattle.field257.proofs.Locators.{power-mod}
-use Rattle.field257.proofs.PowerTable.{table-power}
 use borrow.Author.Needs.{needs}
 use Rattle.field257.proofs.powers.power_of_3.Statement.{statement}
 use Rattle.field257.proofs.powers.power_of_3.Tie as tie
 
 returns : tie.Need-returns
-returns c =
-    let e = c .before .args .e in
-    ((λ known. ap (λ (l : List ℕ). getD l (e % 256) 0) known ∙ table-power (e % 256) (mod-lt e (omega arith)) ∙ sym (power-mod e)), refl)
+returns c = c .entry .ensures .0 (c .before .before .powers .ensures)
 
 pub power-of-3-spec : {M : Type 1} → statement M
-power-of-3-spec = tie.close (tie.spec (λ c. search needs) (λ c. search needs) (λ c. search needs) returns)
+power-of-3-spec = tie.close (tie.spec (λ c κs. search needs) (λ c κs. search needs) returns)

@@ -29,7 +29,7 @@ begun c = start-of (looked-up-before (in-loop c))
 
 -- the point
 point : (c : tie.After-long Inv-loop μ-loop) → c .long .result ≡ powerOf3 (start-of c .args .e)
-point c = c .long .ensures ∙ c .before .power-of-3 .ensures .0 (start-of c .pre .powers-known)
+point c = c .long .ensures ∙ c .before .entry .ensures .0 (start-of c .pre .powers-known)
 
 loop-holds : tie.Need-loop-holds Inv-loop μ-loop
 loop-holds c = none _ _
@@ -52,7 +52,7 @@ grown c =
     let start = begun c in
     let part = c .before .before .cubic in
     more-block (start .args .f .now) (start .args .e) (at .loop .b) (at .loop .exponent) (at .loop .total) (at .loop .inv)
-    (c .long2 .result) (c .long2 .ensures ∙ c .before .power-of-32 .ensures .0 (start .pre .powers-known))
+    (c .long2 .result) (c .long2 .ensures ∙ c .before .entry2 .ensures .0 (start .pre .powers-known))
     (made .long .result) (part .result) (inside .loop-test .taken) (point made) (part .ensures .0) (part .ensures .1)
 
 -- the part of the block times the power looked up

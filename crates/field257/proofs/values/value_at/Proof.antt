@@ -48,7 +48,7 @@ grown c =
     let at = inside .before in
     let start = begun c in
     more (start .args .f .now) (start .args .e) (at .loop .k) (at .loop .exponent) (at .loop .total) (at .loop .inv)
-    (c .before .power-of-3 .result) (c .before .power-of-3 .ensures .0 (start .pre .powers-known))
+    (c .before .entry .result) (c .before .entry .ensures .0 (start .pre .powers-known))
     (c .times .result) (inside .loop-test .taken) (at .before .before .shared-slice-known .given (at .loop .k)) (c .times .ensures)
 
 add-total : tie.Need-add-total Inv-loop μ-loop

@@ -29,7 +29,7 @@ start-of c = c .before .before
 abbrev read : tie.After-wide Inv-loop μ-loop → tie.In-loop Inv-loop μ-loop
 read c = c .before .before
 
-abbrev in-loop : tie.After-power-of-3 Inv-loop μ-loop → tie.In-loop Inv-loop μ-loop
+abbrev in-loop : tie.After-entry Inv-loop μ-loop → tie.In-loop Inv-loop μ-loop
 in-loop c = read (c .before)
 
 -- there is a lane for the column
@@ -37,12 +37,12 @@ inside : (c : tie.In-loop Inv-loop μ-loop) → c .before .loop .k < 64
 inside c = let few = start-of c .pre .few in let t = c .loop-test .taken in omega arith
 
 -- the power that is looked up is that of this column
-looked-up : (c : tie.After-power-of-3 Inv-loop μ-loop) →
+looked-up : (c : tie.After-entry Inv-loop μ-loop) →
     let args = start-of (in-loop c) .args in
-    c .power-of-3 .result ≡ getD (locatorsTo (args .m) (args .list .now) (args .e)) (in-loop c .before .loop .k) 0
+    c .entry .result ≡ getD (locatorsTo (args .m) (args .list .now) (args .e)) (in-loop c .before .loop .k) 0
 looked-up c =
     let start = start-of (in-loop c) in
-    c .power-of-3 .ensures .0 (start .pre .powers-known) ∙ ap (λ (i : ℕ). powerOf3 (i * start .args .e)) (c .before .wide .ensures .0)
+    c .entry .ensures .0 (start .pre .powers-known) ∙ ap (λ (i : ℕ). powerOf3 (i * start .args .e)) (c .before .wide .ensures .0)
     ∙ sym (getD-tabulate (start .args .m) _ _ 0 (in-loop c .loop-test .taken))
 
 mul-wide : tie.Need-mul-wide Inv-loop μ-loop
@@ -51,8 +51,8 @@ mul-wide c = omega (arith, inside c)
 element-copy-out-wide : tie.Need-element-copy-out-wide Inv-loop μ-loop
 element-copy-out-wide c = inside c
 
-mul-power-of-3 : tie.Need-mul-power-of-3 Inv-loop μ-loop
-mul-power-of-3 c =
+mul-entry : tie.Need-mul-entry Inv-loop μ-loop
+mul-entry c =
     let small : c .wide .result ≤ 65535 = omega (arith, c .wide .ensures .1) in
     omega (arith, mul-le-mul small (start-of (read c) .pre .exponent))
 
@@ -91,7 +91,7 @@ locators-to-spec =
     mul-wide
     element-copy-out-wide
     (λ c κs. search needs)
-    mul-power-of-3
+    mul-entry
     (λ c κs. search needs)
     mul-x
     array-write-x
