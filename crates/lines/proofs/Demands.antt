@@ -258,11 +258,15 @@ module _ (r : List ℕ) (one : OfOneRecord r) where
 
   frames : kindOf r ≡ 2 → Line (frameReasonsOf r) (lineOf r) (ShowsColumns (fieldOf r 3) (checkCountsOf r) (frameSymbols r) (lineOf r))
   frames kind =
+      let s : Shape = shapeOf (fieldOf r 3) (checkCountsOf r) 1 in
+      let D : Declared = declaredBy noWords in
+      let f : List ℕ = frameSymbols r in
       line-owed (frameReasonsOf r) (lineOf r) _ (
         omega arith,
-        below-append _ (shapeReasons (fieldOf r 3) (checkCountsOf r) 1) _ (omega arith, (omega arith, (omega arith, (omega arith, tt))))
-            (below-append _ (readReasons (shapeOf (fieldOf r 3) (checkCountsOf r) 1) (declaredBy noWords) (frameSymbols r)) _
-            (omega arith, (omega arith, (omega arith, tt))) (omega arith, (omega arith, (omega arith, tt)))),
+        below-append _ (shapeReasons (fieldOf r 3) (checkCountsOf r) 1) (readReasons s D f ++ registerReasons s D f)
+            (omega arith, (omega arith, (omega arith, (omega arith, tt))))
+            (below-append _ (readReasons s D f) (registerReasons s D f) (omega arith, (omega arith, (omega arith, tt)))
+            (omega arith, (omega arith, (omega arith, tt)))),
       )
       (λ s k e. other-letter 70 _ k (λ d. let z : ⊥ = omega arith in z) (sym (s .written) ∙ e)) (frames-either kind (told r one))
 
