@@ -15,6 +15,8 @@
  * A refused call writes nothing to what is lent and leaves the job as it was, but that locate refused by 24, 25 or 26 leaves it shaped. So between a locate
  * and its repair there may be encodes, and calls that are refused by other numbers.
  *
+ * Two calls take no job: tomkhadi_find finds the shortest register of any sequences, and tomkhadi_search the columns that the taps of a register name.
+ *
  * A shape has an exponent, 0 to 255, that of the locators in the first check sum: column i has the locator 3^i, and check sum j of a row, j = 1 up to its
  * check count, is the sum over i of its symbol at column i times 3^(i*(exponent + j - 1)), modulo 257. A frame is legal where all of them are 0. Exponent 1 is
  * what shapes meant before there was a choice. A frame that is legal for one exponent seldom is for another, so both ends of a link need the same.
@@ -25,6 +27,9 @@
  * a damaged column two: where 2*w plus a row's declared cells is within its checks for each row, w being the columns damaged in other cells, repair gives back
  * what was sent.
  *
+ * The search for the columns that a register names goes up from column 0, and ends as soon as it has found as many as the register is long. Locate and search
+ * tell how many columns it tried: none where the length is 0, else those up to and with the last one found, or all where fewer are named.
+ *
  * What is proved: the functions of the archive do what is said here, whatever they are given (crates/capi/src). The calls on a job are inline functions of
  * one to three lines over them, and C is not proved: that such lines, in a list of any length, do what is said here is proved of their description
  * (crates/capi/specs/Runs.antt), and that they are as described is tested (tests/src/prototypes.c, and all of tests/src/trials).
@@ -33,7 +38,8 @@
  *    1  p is below 2, above 65521 or not prime
  *    2  the count of sequences or rows is outside 1 to 8
  *    3  a length is above 128, or the lengths do not add up to the number of symbols
- *    4  a symbol is not below p (for frames, 257); encode looks at data cells only, locate and repair at cells that are not declared
+ *    4  a symbol is not below p (for frames, 257); encode looks at data cells only, locate and repair at cells that are not declared; search: a tap is not
+ *       below 257
  *    5  columns outside 2 to 256
  *    6  a check count outside 1 to 64 or not below the columns
  *    7  the frame does not have rows x columns symbols
@@ -71,6 +77,20 @@ typedef struct {
 tomkhadi_register tomkhadi_find(uint32_t p, const uint16_t *lengths, size_t count, const uint16_t *symbols, size_t symbol_count, uint16_t *taps,
                                 size_t tap_count);
 
+/* What search answers: the refusal or 0, how many columns it tried, and those of them that are named, as 256 marks (column i is bit i mod 64 of word i / 64).
+ * Where it is refused nothing is tried and no column is marked. */
+typedef struct {
+  uint32_t refusal;
+  uint64_t tried;
+  uint64_t marks[4];
+} tomkhadi_columns;
+
+/* Searches `columns` columns for those that the taps name: column i is named where the sum over k of taps[k]*y^k is 0 modulo 257, y being the inverse of 3^i.
+ * The length c of the register is tap_count - 1, and 0 where there are no taps. The columns are tried from 0 upwards until c are found or all are tried; where
+ * c is 0, none is. There may be any number of taps, and the first need not be 1: unless all are 0, at most c columns are named, and those that are named are
+ * marked. Where all are 0 every column is named, and the first c are marked, or all where there are fewer. Refusals in this order: 5, 4. */
+tomkhadi_columns tomkhadi_search(size_t columns, const uint16_t *taps, size_t tap_count);
+
 /* The head of a job. phase: 0 empty, 1 shaped, 2 located; any other number counts as empty. */
 typedef struct {
   uint32_t phase;
@@ -95,11 +115,13 @@ typedef struct {
   uint16_t taps[65];
 } tomkhadi_job;
 
-/* What locate and repair answer: the refusal or 0, the number of columns, and the columns as 256 marks (column i is bit i mod 64 of word i / 64).
- * Where it is refused the count is 0 and no column is marked. */
+/* What locate and repair answer: the refusal or 0, the number of columns, how many columns locate tried in its search, and the columns as 256 marks (column i
+ * is bit i mod 64 of word i / 64). All that are counted are marked, so locate tries one more than the number of the last, and none where the count is 0. Repair
+ * searches nothing, and tries 0. Where it is refused the count and the columns tried are 0, and no column is marked. */
 typedef struct {
   uint32_t refusal;
   uint64_t count;
+  uint64_t tried;
   uint64_t marks[4];
 } tomkhadi_answer;
 
@@ -141,7 +163,7 @@ static inline uint32_t tomkhadi_encode(const tomkhadi_job *job, uint16_t *frame,
 }
 
 /* Finds the damaged columns of a frame, whose declared cells do not count. It only reads both; `declared` is not the job's own. Leaves the job located; refused
- * by 24, 25 or 26, shaped. Answers the number of columns to mend, and the columns. Refusals: 21, 7, 31, 4, 24, 25, 26. */
+ * by 24, 25 or 26, shaped. Answers the number of columns to mend, how many were tried, and the columns. Refusals: 21, 7, 31, 4, 24, 25, 26. */
 static inline tomkhadi_answer tomkhadi_locate(tomkhadi_job *job, const uint64_t declared[32], const uint16_t *frame, size_t size) {
   tomkhadi_head_answered located = tomkhadi_head_locate(job->head, job->sums, job->taps, job->declared, declared, frame, size);
   job->head = located.head;

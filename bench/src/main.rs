@@ -218,10 +218,9 @@ impl Frames {
         ]
     }
 
-    fn damaged(&self, random: &mut Random, count: usize) -> Vec<u16> {
+    fn damaged(&self, random: &mut Random, hit: &[usize]) -> Vec<u16> {
         let mut frame = self.sent.clone();
-        let hit = random.subset(self.columns, count);
-        random.damage(&mut frame, self.columns, &hit);
+        random.damage(&mut frame, self.columns, hit);
         frame
     }
 
@@ -242,7 +241,8 @@ impl Frames {
     fn received(&self, random: &mut Random, damages: &[usize], lost: usize) -> Vec<Case> {
         let (mut locates, mut repairs) = (Vec::new(), Vec::new());
         for &count in damages {
-            let mut frame = self.damaged(random, count);
+            let hit = random.subset(self.columns, count);
+            let mut frame = self.damaged(random, &hit);
             let damage = format!("{count} damaged");
             let [mut locate, mut repair] = self.mend(&damage, &NOTHING, &frame);
             if lost > 0 {
@@ -257,6 +257,18 @@ impl Frames {
         }
         locates.append(&mut repairs);
         locates
+    }
+
+    /// The locates of frames with these columns damaged.
+    fn located(&self, random: &mut Random, hits: &[&[usize]]) -> Vec<Case> {
+        let locate = |hit: &&[usize]| {
+            let frame = self.damaged(random, hit);
+            let columns: Vec<String> = hit.iter().map(usize::to_string).collect();
+            let damage = format!("damaged: {}", columns.join(" and "));
+            let [locate, _] = self.mend(&damage, &NOTHING, &frame);
+            locate
+        };
+        hits.iter().map(locate).collect()
     }
 
     /// Encode, and the locates and repairs with nothing declared.
@@ -394,14 +406,14 @@ fn compare(case: &Case, library: &dyn Calls) -> Ratios {
 
 fn print_line(case: &Case, plain: f64, library: f64, ratios: &Ratios) {
     print!(
-        "{:<66}{:>12.2}{:>12.2}{:>8.2}",
+        "{:<66}{:>12.3}{:>12.3}{:>8.2}",
         case.name,
         plain / 1e3,
         library / 1e3,
         ratios.to_plain
     );
     if let Some(time) = flint_time(case) {
-        print!("{:>12.2}", time / 1e3);
+        print!("{:>12.3}", time / 1e3);
     }
     match ratios.to_beside {
         Some((Beside::NothingDeclared, ratio)) => print!("{ratio:>24.2}"),
@@ -451,6 +463,9 @@ fn all_cases() -> Vec<Case> {
         }));
     }
     cases.extend(small.cases_at(128, |small, random| small.calls(random, &[0, 2, 4])));
+    // The search for the columns ends with the last of them.
+    let first_to_last: [&[usize]; 6] = [&[0], &[128], &[255], &[0, 1], &[127, 128], &[254, 255]];
+    cases.extend(full.located(&mut random, &first_to_last));
     cases
 }
 

@@ -1,5 +1,5 @@
 # shellcheck shell=bash
-# Sourced by tests/run and bench/run, from the repository's root: builds the Rust that they share.
+# Sourced by tests/run, bench/run and bench/compare, from the repository's root: builds the Rust that they share.
 # Everything goes to target/rust.
 out=target/rust
 flags=(--edition 2024 -C opt-level=3 -C codegen-units=1 -D warnings --check-cfg 'cfg(library, flint)' --out-dir "$out" -L "$out")

@@ -25,6 +25,14 @@ pub struct Register {
 
 #[repr(C)]
 #[derive(Clone, Copy, Debug, PartialEq, Eq)]
+pub struct Columns {
+    pub refusal: u32,
+    pub tried: u64,
+    pub marks: Marks,
+}
+
+#[repr(C)]
+#[derive(Clone, Copy, Debug, PartialEq, Eq)]
 pub struct Head {
     pub phase: u32,
     pub alone: u32,
@@ -50,6 +58,7 @@ pub struct Job {
 pub struct Answer {
     pub refusal: u32,
     pub count: u64,
+    pub tried: u64,
     pub marks: Marks,
 }
 
@@ -59,6 +68,16 @@ impl Register {
             refusal,
             length: 0,
             alone: 0,
+        }
+    }
+}
+
+impl Columns {
+    pub fn refused(refusal: u32) -> Columns {
+        Columns {
+            refusal,
+            tried: 0,
+            marks: [0; 4],
         }
     }
 }
@@ -89,7 +108,7 @@ impl Head {
     }
 
     /// Makes a shaped head located, and answers what locate answers then.
-    pub fn located(&mut self, length: usize, marks: Marks) -> Answer {
+    pub fn located(&mut self, length: usize, tried: usize, marks: Marks) -> Answer {
         self.phase = LOCATED;
         self.alone = 1;
         self.length = length as u64;
@@ -97,6 +116,7 @@ impl Head {
         Answer {
             refusal: 0,
             count: self.length,
+            tried: tried as u64,
             marks,
         }
     }
@@ -128,6 +148,7 @@ impl Answer {
         Answer {
             refusal,
             count: 0,
+            tried: 0,
             marks: [0; 4],
         }
     }
@@ -136,6 +157,7 @@ impl Answer {
 /// The calls of the header, with a slice for each pointer and count.
 pub trait Calls {
     fn find(&self, p: u32, lengths: &[u16], symbols: &[u16], taps: &mut [u16]) -> Register;
+    fn search(&self, columns: usize, taps: &[u16]) -> Columns;
     fn empty(&self, job: &mut Job);
     fn shape(&self, job: &mut Job, columns: usize, checks: &[u16], exponent: u32) -> u32;
     fn encode(&self, job: &Job, frame: &mut [u16]) -> u32;
@@ -149,7 +171,7 @@ pub struct Library;
 
 #[cfg(library)]
 mod library {
-    use super::{Answer, Calls, Declared, Job, Library, Register};
+    use super::{Answer, Calls, Columns, Declared, Job, Library, Register};
 
     unsafe extern "C" {
         fn tomkhadi_find(
@@ -161,6 +183,7 @@ mod library {
             taps: *mut u16,
             tap_count: usize,
         ) -> Register;
+        fn tomkhadi_search(columns: usize, taps: *const u16, tap_count: usize) -> Columns;
         // Those of `header.c`.
         fn header_empty(job: *mut Job);
         fn header_shape(
@@ -195,6 +218,10 @@ mod library {
                     taps.len(),
                 )
             }
+        }
+
+        fn search(&self, columns: usize, taps: &[u16]) -> Columns {
+            unsafe { tomkhadi_search(columns, taps.as_ptr(), taps.len()) }
         }
 
         fn empty(&self, job: &mut Job) {

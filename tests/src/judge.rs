@@ -5,13 +5,16 @@
 use std::collections::BTreeMap;
 use std::fmt::Debug;
 
-use common::interface::{Answer, Calls, Declared, EMPTY, Head, Job, NOTHING, Register, SHAPED};
+use common::interface::{
+    Answer, Calls, Columns, Declared, EMPTY, Head, Job, NOTHING, Register, SHAPED,
+};
 
 use crate::independent::{Independent, shape_of};
 
 /// The answers that the inputs tried must bring about, each at least once.
-const ANSWERS: [(&str, &[u32]); 5] = [
+const ANSWERS: [(&str, &[u32]); 6] = [
     ("find", &[0, 1, 2, 3, 4, 8]),
+    ("search", &[0, 4, 5]),
     ("shape", &[0, 2, 5, 6, 32]),
     ("encode", &[0, 4, 7, 21]),
     ("locate", &[0, 4, 7, 21, 24, 25, 26, 31]),
@@ -217,6 +220,19 @@ impl<'a> Judge<'a> {
             self.registers[usize::from(found.alone == 1)] += 1;
         }
         (found, taps)
+    }
+
+    /// Answers the columns. The taps are only read.
+    pub fn search(&mut self, columns: usize, taps: &[u16]) -> Columns {
+        let lent = Lent::new(taps);
+        let mut left = lent.clone();
+        let wanted = Independent.search(columns, taps);
+        let found = self.subject.search(columns, left.contents());
+        let inputs = (("columns", columns), ("taps", taps));
+        self.compare("search: the columns", &inputs, wanted, found);
+        self.compare("search: the taps", &inputs, lent, left);
+        self.answered("search", found.refusal);
+        found
     }
 
     /// The job that was shaped, with arrays of anything, and is made empty.

@@ -1,12 +1,17 @@
 /* Sizes and places in the structs of the header, in the order of trials/layout.rs. */
 #include "tomkhadi.h"
 
-const size_t tomkhadi_layout[34] = {
+const size_t tomkhadi_layout[40] = {
     sizeof(tomkhadi_register),
     _Alignof(tomkhadi_register),
     offsetof(tomkhadi_register, refusal),
     offsetof(tomkhadi_register, alone),
     offsetof(tomkhadi_register, length),
+    sizeof(tomkhadi_columns),
+    _Alignof(tomkhadi_columns),
+    offsetof(tomkhadi_columns, refusal),
+    offsetof(tomkhadi_columns, tried),
+    offsetof(tomkhadi_columns, marks),
     sizeof(tomkhadi_head),
     _Alignof(tomkhadi_head),
     offsetof(tomkhadi_head, phase),
@@ -27,6 +32,7 @@ const size_t tomkhadi_layout[34] = {
     _Alignof(tomkhadi_answer),
     offsetof(tomkhadi_answer, refusal),
     offsetof(tomkhadi_answer, count),
+    offsetof(tomkhadi_answer, tried),
     offsetof(tomkhadi_answer, marks),
     sizeof(tomkhadi_head_shaped),
     _Alignof(tomkhadi_head_shaped),

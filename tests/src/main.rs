@@ -28,12 +28,13 @@ fn subject() -> Box<dyn Calls> {
 
 type Trial = fn(&mut Judge);
 
-const TRIALS: [(&str, Trial); 11] = [
+const TRIALS: [(&str, Trial); 12] = [
     ("layout", trials::layout::run),
     ("prototypes", trials::prototypes::run),
     ("examples", trials::examples::run),
     ("vectors", trials::vectors::run),
     ("finder", trials::finder::run),
+    ("search", trials::search::run),
     ("shapes", trials::shapes::run),
     ("frames", trials::frames::run),
     ("declared cells", trials::declared::run),

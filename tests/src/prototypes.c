@@ -7,6 +7,7 @@
 
 /* Those of the archive. */
 static tomkhadi_register (*const find)(uint32_t, const uint16_t *, size_t, const uint16_t *, size_t, uint16_t *, size_t) = tomkhadi_find;
+static tomkhadi_columns (*const search)(size_t, const uint16_t *, size_t) = tomkhadi_search;
 static tomkhadi_head (*const head_empty)(void) = tomkhadi_head_empty;
 static tomkhadi_head_shaped (*const head_shape)(tomkhadi_head, size_t, const uint16_t *, size_t, uint32_t) = tomkhadi_head_shape;
 static uint32_t (*const head_encode)(tomkhadi_head, uint16_t *, size_t) = tomkhadi_head_encode;
@@ -60,10 +61,18 @@ static int is_head(tomkhadi_head head, tomkhadi_head other) {
   return memcmp(&head, &other, offsetof(tomkhadi_head, exponent)) == 0 && head.exponent == other.exponent;
 }
 
-/* The refusal, or one column, which is column 5. */
-static int is_answer(tomkhadi_answer answer, uint32_t refusal) {
+static int is_marked(const uint64_t marks[4], uint64_t first) {
+  return marks[0] == first && !marks[1] && !marks[2] && !marks[3];
+}
+
+/* The refusal, or one column, which is column 5, and the number of columns tried. */
+static int is_answer(tomkhadi_answer answer, uint32_t refusal, uint64_t tried) {
   uint64_t count = refusal == 0;
-  return answer.refusal == refusal && answer.count == count && answer.marks[0] == count << 5 && !answer.marks[1] && !answer.marks[2] && !answer.marks[3];
+  return answer.refusal == refusal && answer.count == count && answer.tried == tried && is_marked(answer.marks, count << 5);
+}
+
+static int is_columns(tomkhadi_columns found, uint32_t refusal, uint64_t tried, uint64_t marks) {
+  return found.refusal == refusal && found.tried == tried && is_marked(found.marks, marks);
 }
 
 static int is_register(tomkhadi_register found, uint32_t refusal, uint32_t alone, uint64_t length) {
@@ -89,6 +98,22 @@ static void registers(void) {
   SAME(buffer, single);
 }
 
+/* The taps above name column 5. With a count of one tap the next is not read. */
+static void searches(void) {
+  const uint16_t bad[2] = {1, 257};
+  const uint16_t zero[2] = {0, 0};
+  CHECK(is_columns(search(1, bad, 2), 5, 0, 0));
+  CHECK(is_columns(search(257, taps, 2), 5, 0, 0));
+  CHECK(is_columns(search(COLUMNS, bad, 2), 4, 0, 0));
+  CHECK(is_columns(search(COLUMNS, bad, 1), 0, 0, 0));
+  CHECK(is_columns(search(COLUMNS, taps, 0), 0, 0, 0));
+  CHECK(is_columns(search(5, taps, 2), 0, 5, 0));
+  CHECK(is_columns(search(6, taps, 2), 0, 6, 1 << 5));
+  CHECK(is_columns(search(256, taps, 2), 0, 6, 1 << 5));
+  CHECK(is_columns(search(COLUMNS, taps, 3), 0, COLUMNS, 1 << 5));
+  CHECK(is_columns(search(COLUMNS, zero, 2), 0, 1, 1));
+}
+
 static void heads(void) {
   CHECK(is_head(head_empty(), zeros));
   tomkhadi_head_shaped made = head_shape(zeros, COLUMNS, checks, ROWS, 1);
@@ -109,24 +134,24 @@ static void heads(void) {
   uint16_t held_taps[65] = {0};
   uint64_t held[32] = {0};
   tomkhadi_head_answered answered = head_locate(shaped, held_sums, held_taps, held, past, received, SIZE);
-  CHECK(is_answer(answered.answer, 31) && is_head(answered.head, shaped));
+  CHECK(is_answer(answered.answer, 31, 0) && is_head(answered.head, shaped));
   SAME(held, nothing);
   answered = head_locate(shaped, held_sums, held_taps, held, declared, received, SIZE);
-  CHECK(is_answer(answered.answer, 0) && is_head(answered.head, located));
+  CHECK(is_answer(answered.answer, 0, 6) && is_head(answered.head, located));
   SAME(held_sums, sums);
   SAME(held_taps, taps);
   SAME(held, declared);
 
   memcpy(frame, received, sizeof frame);
   answered = head_repair(shaped, sums, held, frame, SIZE);
-  CHECK(is_answer(answered.answer, 22) && is_head(answered.head, shaped));
+  CHECK(is_answer(answered.answer, 22, 0) && is_head(answered.head, shaped));
   answered = head_repair(located, sums, past, frame, SIZE);
-  CHECK(is_answer(answered.answer, 22) && is_head(answered.head, located));
+  CHECK(is_answer(answered.answer, 22, 0) && is_head(answered.head, located));
   answered = head_repair(located, sums, nothing, frame, SIZE);
-  CHECK(is_answer(answered.answer, 4) && is_head(answered.head, located));
+  CHECK(is_answer(answered.answer, 4, 0) && is_head(answered.head, located));
   SAME(frame, received);
   answered = head_repair(located, sums, held, frame, SIZE);
-  CHECK(is_answer(answered.answer, 0) && is_head(answered.head, shaped));
+  CHECK(is_answer(answered.answer, 0, 0) && is_head(answered.head, shaped));
   SAME(frame, sent);
 }
 
@@ -150,38 +175,38 @@ static void jobs(void) {
   CHECK(encode(&job, frame, SIZE) == 0);
   SAME(frame, sent);
   CHECK(is_job(&job, shaped, 0));
-  CHECK(is_answer(repair(&job, frame, SIZE), 22));
+  CHECK(is_answer(repair(&job, frame, SIZE), 22, 0));
   CHECK(is_job(&job, shaped, 0));
 
   memcpy(frame, received, sizeof frame);
-  CHECK(is_answer(locate(&job, nothing, frame, SIZE), 4));
+  CHECK(is_answer(locate(&job, nothing, frame, SIZE), 4, 0));
   CHECK(is_job(&job, shaped, 0));
-  CHECK(is_answer(locate(&job, declared, frame, SIZE), 0));
+  CHECK(is_answer(locate(&job, declared, frame, SIZE), 0, 6));
   SAME(frame, received);
   CHECK(is_job(&job, located, 1));
-  CHECK(is_answer(locate(&job, past, frame, SIZE), 31));
+  CHECK(is_answer(locate(&job, past, frame, SIZE), 31, 0));
   CHECK(shape(&job, 4, checks, ROWS, 1) == 6);
   CHECK(shape(&job, COLUMNS, checks, ROWS, 65536) == 32);
   CHECK(is_job(&job, located, 1));
   frame[0]++;
-  CHECK(is_answer(repair(&job, frame, SIZE), 23));
+  CHECK(is_answer(repair(&job, frame, SIZE), 23, 0));
   CHECK(is_job(&job, located, 1));
   frame[0]--;
-  CHECK(is_answer(repair(&job, frame, SIZE), 0));
+  CHECK(is_answer(repair(&job, frame, SIZE), 0, 0));
   SAME(frame, sent);
   CHECK(is_job(&job, shaped, 1));
 
   /* Three columns of row 1: the only shortest register of its four sums has length 2, and no root. */
-  CHECK(is_answer(locate(&job, declared, received, SIZE), 0));
+  CHECK(is_answer(locate(&job, declared, received, SIZE), 0, 6));
   frame[1]++, frame[2]++, frame[3]++;
-  CHECK(is_answer(locate(&job, nothing, frame, SIZE), 26));
+  CHECK(is_answer(locate(&job, nothing, frame, SIZE), 26, 0));
   CHECK(is_job(&job, shaped, 1));
 
   /* Column 5 declared in row 2 too leaves it one check, and one symbol that says nothing of column 4, where row 2 is altered besides. */
   memcpy(frame, received, sizeof frame);
-  CHECK(is_answer(locate(&job, other, frame, SIZE), 0));
+  CHECK(is_answer(locate(&job, other, frame, SIZE), 0, 6));
   frame[COLUMNS + 4]++;
-  CHECK(is_answer(locate(&job, other, frame, SIZE), 26));
+  CHECK(is_answer(locate(&job, other, frame, SIZE), 26, 0));
 }
 
 /* The same data, damage and declared cell with the exponent 200: other checks and sums, and the same column and taps. */
@@ -204,24 +229,25 @@ static void exponents(void) {
   SAME(frame, legal);
 
   memcpy(frame, altered, sizeof frame);
-  CHECK(is_answer(locate(&job, declared, frame, SIZE), 0));
+  CHECK(is_answer(locate(&job, declared, frame, SIZE), 0, 6));
   tomkhadi_head located_at_200 = located;
   located_at_200.exponent = 200;
   CHECK(is_head(job.head, located_at_200));
   SAME(job.sums, altered_sums);
   SAME(job.taps, taps);
-  CHECK(is_answer(repair(&job, frame, SIZE), 0));
+  CHECK(is_answer(repair(&job, frame, SIZE), 0, 0));
   SAME(frame, legal);
   CHECK(is_head(job.head, at_200));
 
   /* Shaped anew with another exponent, nothing is located any more. */
-  CHECK(is_answer(locate(&job, declared, altered, SIZE), 0));
+  CHECK(is_answer(locate(&job, declared, altered, SIZE), 0, 6));
   CHECK(shape(&job, COLUMNS, checks, ROWS, 1) == 0);
-  CHECK(is_answer(repair(&job, frame, SIZE), 22));
+  CHECK(is_answer(repair(&job, frame, SIZE), 22, 0));
 }
 
 int main(void) {
   registers();
+  searches();
   heads();
   jobs();
   exponents();

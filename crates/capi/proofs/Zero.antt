@@ -11,12 +11,19 @@ use Rattle.frame.specs.Encode.{encodeTests}
 use Rattle.frame.specs.DeclaredCells.{readTests, rereadTests}
 use Rattle.frame.specs.Shape.{shapeTests}
 use Rattle.refusal.specs.Order.{Test}
+use Rattle.refusal.specs.Outcome as Tested
+use Rattle.refusal.specs.Outcome.{outcomeOf}
+use Rattle.refusal.specs.declared.Checked.{Checked}
+use Rattle.refusal.specs.declared.Checked.the-variants.{Pass, Refuse}
 use Rattle.refusal.proofs.Orders.{Among, by-tests}
+use Rattle.search.specs.Search as Search
+use Rattle.search.specs.Search.{searchTests}
+use Rattle.job.specs.Answers.{checkedAnswer}
 use Rattle.job.specs.Calls.{Call, shape, encode, locate, repair, Answer, done, columns, refused, describe, registerTests, step}
 use Rattle.job.specs.Job.{Job}
 use Rattle.job.proofs.AfterRefusal.{same-number, gives-no-refusal}
 use Rattle.job.proofs.Cases.{by-call}
-use Rattle.capi.specs.Mirror.{refusalOf, registerOf, ZeroIsNoRefusal}
+use Rattle.capi.specs.Mirror.{refusalOf, refusalNumber, registerOf, ZeroIsNoRefusal}
 
 -- no test has the number 0
 abbrev Numbered : List Test → Type 0
@@ -76,10 +83,34 @@ found : (x : Finder.Answer) → (x ≡ Finder.refused 0 → ⊥) → (registerOf
 found (Finder.register l a) n = (λ e k f. let z : _≡_ {A = ℕ} 0 1 = cc in omega arith, λ f. refl)
 found (Finder.refused k) n = (λ e m f. n (ap Finder.refused e), λ f. absurd (f k refl))
 
+-- ---- the search
+
+-- of a test, both read the same number
+pub same-refusal : (v : Checked) → refusalOf (checkedAnswer v) ≡ refusalNumber (outcomeOf v)
+same-refusal Pass = refl
+same-refusal (Refuse why) = refl
+
+search-numbered : (n : ℕ) (σ : List ℕ) → Numbered (searchTests n σ)
+unfolding searchTests
+search-numbered n σ = (nonzero _, (nonzero _, tt))
+
+search-zero : (n : ℕ) (σ : List ℕ) → Search.answer n σ .outcome ≡ Tested.refused 0 → ⊥
+unfolding Search.answer
+search-zero n σ =
+    by-tests (λ k. record { outcome = Tested.refused k; sought = Search.nothing }) _ (λ (x : Search.Answer). x .outcome ≡ Tested.refused 0 → ⊥)
+    (searchTests n σ)
+    (λ k a e. numbered-among k (searchTests n σ) (search-numbered n σ) a cc)
+    (λ p e. let z : _≡_ {A = ℕ} 0 1 = cc in omega arith)
+
+tested : (x : Tested.Outcome) → (x ≡ Tested.refused 0 → ⊥) → (refusalNumber x ≡ 0) ↔ ((k : ℕ) → x ≡ Tested.refused k → ⊥)
+tested Tested.passed n = (λ e k f. let z : _≡_ {A = ℕ} 0 1 = cc in omega arith, λ f. refl)
+tested (Tested.refused k) n = (λ e m f. n (ap Tested.refused e), λ f. absurd (f k refl))
+
 pub zero-is-no-refusal : ZeroIsNoRefusal
 zero-is-no-refusal =
     record {
       call = λ j c.
           (λ e (k, a). refused-nonzero j c k a (sym (ap refusalOf a) ∙ e), λ n. not-refused (step j c .answer) (λ k a. n (k, a)));
       find = λ p lengths symbols room. found (answer p lengths symbols room) (find-zero p lengths symbols room);
+      search = λ n σ. tested (Search.answer n σ .outcome) (search-zero n σ);
     }

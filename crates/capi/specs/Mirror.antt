@@ -8,6 +8,8 @@ use lib.Dec.{eqb}
 use Rattle.columns.specs.Columns.{columnsOf}
 use Rattle.finder.specs.Finder as Finder
 use Rattle.job.specs.Calls as Calls
+use Rattle.refusal.specs.Outcome as Tested
+use Rattle.search.specs.Search as Search
 use Rattle.frame.specs.Shape.{shapeOf}
 use Rattle.job.specs.Calls.{Call, Outcome, step}
 use Rattle.job.specs.Runs.{IsRefused}
@@ -16,6 +18,7 @@ use Rattle.job.specs.declared.Head.{Head}
 use Rattle.job.specs.declared.Phase.{Phase}
 use Rattle.job.specs.declared.Phase.the-variants.{Empty, Shaped, Located}
 use Rattle.capi.specs.declared.CAnswered.{CAnswered}
+use Rattle.capi.specs.declared.CColumns.{CColumns}
 use Rattle.capi.specs.declared.CHead.{CHead}
 use Rattle.capi.specs.declared.CRegister.{CRegister}
 use Rattle.capi.specs.declared.CShaped.{CShaped}
@@ -108,6 +111,11 @@ refusalOf Calls.done = 0
 refusalOf (Calls.columns c) = 0
 refusalOf (Calls.refused k) = k
 
+-- the same of tests alone
+abbrev pub refusalNumber : Tested.Outcome → ℕ
+refusalNumber Tested.passed = 0
+refusalNumber (Tested.refused k) = k
+
 -- the number of columns, and 0 where none are answered
 abbrev pub countOf : Calls.Answer → ℕ
 countOf Calls.done = 0
@@ -119,6 +127,11 @@ abbrev pub registerOf : Finder.Answer → CRegister
 registerOf (Finder.register l a) = record { refusal = 0; alone = markOf a; length = l }
 registerOf (Finder.refused k) = record { refusal = k; alone = 0; length = 0 }
 
+-- what search returns
+abbrev pub columnsFor : Search.Answer → CColumns
+columnsFor a =
+    record { refusal = refusalNumber (a .outcome); tried = a .sought .tried; marks = a .sought .columns .words }
+
 -- what shape returns
 abbrev pub shapedOf : Outcome → CShaped
 shapedOf o = record { refusal = refusalOf (o .answer); head = mirrorOf (o .job .head) }
@@ -127,7 +140,7 @@ shapedOf o = record { refusal = refusalOf (o .answer); head = mirrorOf (o .job .
 abbrev pub answeredOf : Outcome → CAnswered
 answeredOf o =
     record {
-      answer = record { refusal = refusalOf (o .answer); count = countOf (o .answer); marks = o .marks .words };
+      answer = record { refusal = refusalOf (o .answer); count = countOf (o .answer); tried = o .tried; marks = o .marks .words };
       head = mirrorOf (o .job .head);
     }
 
@@ -136,3 +149,5 @@ pub record ZeroIsNoRefusal : Type 0 where
   pub call : (j : Job) (c : Call) → (refusalOf (step j c .answer) ≡ 0) ↔ (IsRefused (step j c) → ⊥)
   pub find : (p : ℕ) (lengths symbols : List ℕ) (room : ℕ) →
       (registerOf (Finder.answer p lengths symbols room) .refusal ≡ 0) ↔ ((k : ℕ) → Finder.answer p lengths symbols room ≡ Finder.refused k → ⊥)
+  pub search : (n : ℕ) (σ : List ℕ) →
+      (columnsFor (Search.answer n σ) .refusal ≡ 0) ↔ ((k : ℕ) → Search.answer n σ .outcome ≡ Tested.refused k → ⊥)

@@ -5,6 +5,7 @@ use crate::CHead;
 use crate::CShaped;
 use crate::mirror::head_of;
 use crate::mirror::mirror_of;
+use crate::mirror::refusal_of;
 use calls::encode::encode;
 use calls::locate::locate;
 use calls::repair::repair;
@@ -12,24 +13,14 @@ use calls::shape::shape;
 use heads::states::empty;
 use job::Answered;
 use job::Reply;
-use refusal::Checked;
 use refusal::number_of;
 ghost use mathlib.Core.List.{List};
 ghost use mathlib.Core.Path.{_≡_};
 ghost use Prim.Native.Nat.{ℕ};
 ghost use Rattle.capi.specs.Exports.{HeadShapes, HeadEncodes, HeadLocates, HeadRepairs};
 ghost use Rattle.capi.specs.Mirror.{mirrorOf, refusalOf, countOf, answeredOf};
-ghost use Rattle.job.specs.Answers.{checkedAnswer, replyAnswer, answeredOutcome};
+ghost use Rattle.job.specs.Answers.{replyAnswer, answeredOutcome};
 ghost use Rattle.job.specs.Job.{Arrays, emptyHead};
-
-fn refusal_of(v: Checked) -> u32
-    ensures { λ r. ⌜ r ≡ refusalOf (checkedAnswer v) ⌝ }
-{
-    match v {
-        Checked::Pass => 0,
-        Checked::Refuse(why) => number_of(why),
-    }
-}
 
 fn reply_refusal(reply: Reply) -> u32
     ensures { λ r. ⌜ r ≡ refusalOf (replyAnswer reply) ⌝ }
@@ -58,6 +49,7 @@ fn answered_of(a: Answered) -> CAnswered
     let answer = CAnswer {
         refusal: reply_refusal(reply),
         count: reply_count(reply),
+        tried: a.tried,
         marks,
     };
     let head = mirror_of(a.head);

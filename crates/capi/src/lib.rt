@@ -2,12 +2,20 @@
 mod find;
 mod jobs;
 mod mirror;
+mod roots;
 
 #[repr(C)]
 pub struct CRegister {
     pub refusal: u32,
     pub alone: u32,
     pub length: usize,
+}
+
+#[repr(C)]
+pub struct CColumns {
+    pub refusal: u32,
+    pub tried: usize,
+    pub marks: [u64; 4],
 }
 
 // The head of a job. The header's struct of a job has the arrays beside it, and lends them.
@@ -33,6 +41,7 @@ pub struct CShaped {
 pub struct CAnswer {
     pub refusal: u32,
     pub count: usize,
+    pub tried: usize,
     pub marks: [u64; 4],
 }
 

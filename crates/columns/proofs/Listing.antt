@@ -90,12 +90,12 @@ count-skip a (suc b) P h none = step (λ l. count-skip a b P l (λ k p q. none k
         count-fail b P (none b p (omega arith)) ∙ ih p
 
 -- where all pass, the count is the bound
-count-all : (n : ℕ) (P : ℕ → Bool) → ((k : ℕ) → k < n → P k ≡ true) → count n P ≡ n
+pub count-all : (n : ℕ) (P : ℕ → Bool) → ((k : ℕ) → k < n → P k ≡ true) → count n P ≡ n
 unfolding count
 count-all zero P h = refl
 count-all (suc n) P h = count-pass n P (h n (omega arith)) ∙ ap suc (count-all n P (λ k l. h k (omega arith)))
 
-count-mono : (a b : ℕ) (P : ℕ → Bool) → a ≤ b → count a P ≤ count b P
+pub count-mono : (a b : ℕ) (P : ℕ → Bool) → a ≤ b → count a P ≤ count b P
 count-mono a b P h =
     let d = le-dest h in
     let e : count b P ≡ count a P + count (d .0) (λ k. P (a + k)) = ap (λ (k : ℕ). count k P) (sym (d .1)) ∙ count-split a (d .0) P in

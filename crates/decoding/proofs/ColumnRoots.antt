@@ -1,6 +1,7 @@
--- Roots at the columns of a set P. A polynomial of constant term 1 has no more roots at the columns of P than its degree; where it has as many they
--- determine it, and it is the locator polynomial of P.
+-- Roots at the columns of a set P. A polynomial that is not 0 has no more roots at the columns of P than its degree; where it has as many and the constant term
+-- 1 they determine it, and it is the locator polynomial of P.
 use mathlib.Core.Path.{_≡_, sym, ap, _∙_}
+use mathlib.Core.Logic.{_≢_}
 use mathlib.Core.Bool.{Bool, true}
 use mathlib.Core.List.{List}
 use Prim.Native.Nat.{ℕ, _≤_, _<_}
@@ -22,7 +23,7 @@ abbrev pub Roots : (F : Field) (n : ℕ) (X : ℕ → F .ring .car) (P : ℕ →
 Roots F n X P l f = (i : ℕ) → i < n → P i ≡ true → eval (F .ring) l f (F .inv (X i)) ≡ F .ring .zero
 
 module _ (F : Field) (n : ℕ) (X : ℕ → F .ring .car) (distinct : Distinct (F .ring) n X) (nonzero : Nonzero (F .ring) n X) (P : ℕ → Bool) where
-  open Field F using (ring as R, inv, mul-inv, one-ne-zero)
+  open Field F using (ring as R, inv, mul-inv)
   open CRing R using (car, zero as 𝟘, one as 𝟙, mul as _⊗_)
 
   infixl 70 _⊗_
@@ -40,18 +41,17 @@ module _ (F : Field) (n : ℕ) (X : ℕ → F .ring .car) (distinct : Distinct (
   unfolding chosen
   chosen-nonzero i h = nonzero _ (entry n P i h .below)
 
-  module _ (l : ℕ) (f : ℕ → car) (degree : Degree R l f) (constant : f 0 ≡ 𝟙) (roots : Roots F n X P l f) where
+  module _ (l : ℕ) (f : ℕ → car) (degree : Degree R l f) (roots : Roots F n X P l f) where
     root : (k : ℕ) → k < count n P → eval R l f (inv (chosen k)) ≡ 𝟘
     unfolding chosen
     root k h = roots _ (entry n P k h .below) (entry n P k h .passes)
 
     -- a polynomial has no more roots than its degree
-    pub roots-at-most : count n P ≤ l
-    roots-at-most = elim (decLt l (count n P)) [
-      | yes more ↦ absurd (one-ne-zero (sym constant
-          ∙ roots-zero F l f (λ k. inv (chosen k)) degree
+    pub roots-at-most : (k : ℕ) → f k ≢ 𝟘 → count n P ≤ l
+    roots-at-most k apart = elim (decLt l (count n P)) [
+      | yes more ↦ absurd (apart (roots-zero F l f (λ k. inv (chosen k)) degree
           (λ i j hi hj. inverses-distinct F (count n P) chosen chosen-distinct chosen-nonzero i j (omega arith) (omega arith))
-          (λ k h. root k (omega arith)) 0))
+          (λ k h. root k (omega arith)) k))
       | no fewer ↦ omega arith
     ]
 
@@ -60,7 +60,7 @@ module _ (F : Field) (n : ℕ) (X : ℕ → F .ring .car) (distinct : Distinct (
       → Roots F n X P (count n P) f → Roots F n X P (count n P) g → (k : ℕ) → f k ≡ g k
   roots-same f g df dg f0 g0 rf rg =
       roots-unique F (count n P) f g (λ k. inv (chosen k)) df dg f0 g0
-      (inverses-distinct F (count n P) chosen chosen-distinct chosen-nonzero) (root (count n P) f df f0 rf) (root (count n P) g dg g0 rg)
+      (inverses-distinct F (count n P) chosen chosen-distinct chosen-nonzero) (root (count n P) f df rf) (root (count n P) g dg rg)
 
   -- ---- the locator polynomial of the columns of P
 

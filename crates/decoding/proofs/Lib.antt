@@ -18,3 +18,5 @@ pub mod Searching
 pub mod SequenceRegister
 pub mod SetsApart
 pub mod SoleNearest
+pub mod Sought
+pub mod Tried

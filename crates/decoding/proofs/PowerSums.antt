@@ -18,7 +18,7 @@ use Rattle.decoding.specs.Locating.{sizeOf, tapsOf, aloneOf, named, name
 use Rattle.decoding.proofs.ColumnRoots.{Roots, roots-at-most, roots-same, locator-of, locator-of-degree, locator-of-constant, locator-of-roots}
 use Rattle.decoding.proofs.NamedColumns.{columns-distinct, columns-nonzero, root-named, names-at-most, names-all}
 use Rattle.decoding.proofs.Recurrence.{powerSum, roots-generate, generates-roots}
-use Rattle.decoding.proofs.RegisterPolynomial.{poly257, Symbols, register-degree, register-constant, register-same}
+use Rattle.decoding.proofs.RegisterPolynomial.{poly257, Symbols, register-degree, register-constant, register-nonzero, register-same}
 use Rattle.decoding.proofs.RegisterPolynomial.{generates-products, polynomial-generator}
 use Rattle.decoding.proofs.SequenceRegister.{register-of, generator-of, same-size, alone-marked}
 use Rattle.field.proofs.Polynomials.{coefficients, poly-coefficients}
@@ -122,7 +122,7 @@ module _ (s : Shape) (shape : isShape s ≡ true) (ss : List (List ℕ))
           generator = Λ-generator;
           least = λ l less τ a.
               let many : d ≤ l = roots-at-most F257 n locatorAt (columns-distinct s shape) (columns-nonzero s shape) P l (poly257 τ)
-              (register-degree l τ (a .register)) (register-constant l τ (a .register)) (roots l (omega arith) τ a) in
+              (register-degree l τ (a .register)) (roots l (omega arith) τ a) 0 (register-nonzero l τ (a .register)) in
               omega arith;
         }
 

@@ -2,11 +2,12 @@
 -- length; and every polynomial of constant term 1 whose products do so gives a register.
 use mathlib.Core.Path.{_≡_, sym, ap, fun-ext, _∙_}
 use mathlib.Core.List.{List, []}
+use mathlib.Core.Logic.{_≢_}
 use Prim.Native.Nat.{ℕ, suc, _-_, _*_, _≤_, _<_}
 use native.Mathlib.Omega.{arith}
 use lib.Dec.{lit<}
 use lib.ListN.{length, getD}
-use Rattle.algebra.specs.Ring.{CRing}
+use Rattle.algebra.specs.Ring.{CRing, Field}
 use Rattle.algebra.specs.Polynomial.{Degree, conv}
 use Rattle.algebra.proofs.Convolution.{conv-degree}
 use Rattle.algebra.proofs.Sums.{sum-ext}
@@ -14,12 +15,13 @@ use Rattle.field.proofs.Bridge.{res-zero, res-one, res-mod, res-mul, res-total}
 use Rattle.field.proofs.Coefficients.{residues-past}
 use Rattle.field.proofs.Polynomials.{poly, poly-degree, poly-same, coefficients, poly-coefficients, coefficients-less}
 use Rattle.field.proofs.Prime257.{prime-257}
-use Rattle.field257.proofs.Field257.{R257, res257, res-tells, res-tells-zero}
+use Rattle.field257.proofs.Field257.{F257, R257, res257, res-tells, res-tells-zero}
 use Rattle.lists.proofs.Tabulated.{length-tabulate}
 use Rattle.register.specs.Register.{discrepancy, Register, Generates, Generator}
 use Rattle.register.specs.Sequences.{symbol}
 use Rattle.register.proofs.Bounds.{discrepancy-less}
-open CRing R257 using (car, one as 𝟙, mul as _⊗_)
+open Field F257 using (one-ne-zero)
+open CRing R257 using (car, zero as 𝟘, one as 𝟙, mul as _⊗_)
 
 infixl 70 _⊗_
 -- the polynomial of taps
@@ -56,6 +58,9 @@ module _ (l : ℕ) (τ : List ℕ) (register : Register 257 l τ) where
 
   pub register-constant : poly257 τ 0 ≡ 𝟙
   register-constant = ap res257 (register .first) ∙ res-one 257 prime-257
+
+  pub register-nonzero : poly257 τ 0 ≢ 𝟘
+  register-nonzero e = one-ne-zero (sym register-constant ∙ e)
 
   -- its taps are told by the polynomial
   pub register-same : (υ : List ℕ) → Register 257 l υ → ((i : ℕ) → poly257 τ i ≡ poly257 υ i) → τ ≡ υ

@@ -1,37 +1,28 @@
--- The search for named columns, one column after the other, and that a register of length 0 names none.
+-- The search for named columns, one column after the other, up to the last one to find.
 use mathlib.Core.Path.{_≡_, sym, ap, ap₂, _∙_}
 use mathlib.Core.Logic.{_≢_}
 use mathlib.Core.Bool.{Bool, true, false, _&&_, _||_, and-false}
-use mathlib.Core.List.{List, [], _∷_}
-use Prim.Native.Nat.{ℕ, _+_, _*_, _%_, _^_, _<_}
-use native.Mathlib.Nat.{pow-zero}
+use mathlib.Core.List.{List}
+use Prim.Native.Nat.{ℕ, suc, _+_, _-_, _≤_, _<_, zero-le}
 use native.Mathlib.Decide.{ℕ-discrete}
+use native.Mathlib.Numerals.{add-one}
 use native.Mathlib.Omega.{arith}
 use lib.Dec.{ltb, eqb, leb·suc-zero}
-use lib.ListN.{length, getD}
-use borrow.Author.Tests.{lt-ltb, ne-eqb}
+use lib.ListN.{length}
+use borrow.Author.Tests.{lt-ltb}
 use Rattle.columns.specs.Columns.{has, columnsOf}
+use Rattle.columns.specs.Listed.{count}
 use Rattle.columns.specs.declared.Columns.{Columns}
+use Rattle.columns.proofs.Listing.{count-zero, count-pass, count-fail}
 use Rattle.columns.proofs.Marks.{columnsOf-ext, columnsOf-add}
-use Rattle.decoding.specs.Locating.{named, namedColumns}
-use Rattle.field.specs.Coefficients.{value}
-use Rattle.field.specs.Residue.{inverse}
-use Rattle.lists.specs.Total.{total}
+use Rattle.decoding.specs.Locating.{isRoot}
+use Rattle.decoding.specs.Search.{triedFor, soughtColumns}
+use Rattle.decoding.proofs.Tried.{tried-least}
 use Rattle.lists.proofs.Filling.{ltb-next}
-use Rattle.lists.proofs.Totals.{total-zero, total-suc}
-use Rattle.field257.specs.Powers.{locatorOf}
-use Rattle.frame.specs.declared.Shape.{Shape}
-
-abbrev pub isRoot : (σ : List ℕ) (i : ℕ) → Bool
-isRoot σ i = eqb (value 257 σ (inverse 257 (locatorOf i))) 0
 
 -- what is found when the columns below i are searched
 abbrev pub searched : (σ : List ℕ) (i : ℕ) → Columns
 searched σ i = columnsOf (λ k. ltb k i && isRoot σ k)
-
-not-empty : (l : List ℕ) → getD l 0 0 ≡ 1 → 0 < length l
-not-empty [] e = absurd (let z : ⊥ = omega arith in z)
-not-empty (x ∷ xs) e = omega arith
 
 module _ (σ : List ℕ) where
   pub search-none : columnsOf (λ k. false) ≡ searched σ 0
@@ -57,21 +48,50 @@ module _ (σ : List ℕ) where
             ap (λ (b : Bool). ltb k i && b) no ∙ and-false (ltb k i) ∙ sym (ap (λ (b : Bool). ltb k (i + 1) && b) no ∙ and-false (ltb k (i + 1)))
         at k (no other) = others k other
 
-  pub search-all : (s : Shape) (i : ℕ) {r : Columns} → r ≡ searched σ i → i ≡ s .columns → r ≡ namedColumns s σ
-  unfolding namedColumns named
-  search-all s i before e = before ∙ ap (searched σ) e
+  pub search-ends : (n i : ℕ) {r : Columns} → r ≡ searched σ i → i ≡ triedFor n σ → r ≡ soughtColumns n σ
+  unfolding soughtColumns
+  search-ends n i before e = before ∙ ap (searched σ) e
 
-  -- a register of length 0 has the value 1 everywhere
-  constant : (y : ℕ) → length σ < 2 → getD σ 0 0 ≡ 1 → value 257 σ y ≡ 1
-  unfolding value
-  constant y short one =
-      ap (λ (n : ℕ). total n (λ k. getD σ k 0 * y ^ k) % 257) (let n = not-empty σ one in let e : length σ ≡ 1 = omega arith in e)
-      ∙ ap (λ (n : ℕ). n % 257) (total-suc 0 _ ∙ ap₂ _+_ (total-zero _) (ap₂ _*_ one (pow-zero y)))
+  -- ---- how many are tried
 
-  pub names-none : (s : Shape) → length σ < 2 → getD σ 0 0 ≡ 1 → columnsOf (λ k. false) ≡ namedColumns s σ
-  unfolding namedColumns named
-  names-none s short one =
-      columnsOf-ext (λ k. false) (λ i. ltb i (s .columns) && isRoot σ i) (λ k l.
-      sym (ap (λ (b : Bool). ltb k (s .columns) && b) (ne-eqb (value 257 σ (inverse 257 (locatorOf k))) 0
-      (λ e. let v = constant (inverse 257 (locatorOf k)) short one in omega arith))
-      ∙ and-false (ltb k (s .columns))))
+  module _ (n : ℕ) where
+    -- a register of length 0 has none to find
+    pub none-tried : length σ < 2 → 0 ≡ triedFor n σ
+    unfolding triedFor
+    none-tried short = let e = tried-least .ends n (isRoot σ) (length σ - 1) 0 (omega arith) in omega arith
+
+    -- the columns below i are tried, and some are left to find
+    pub record Trying (i left : ℕ) : Type 0 where
+      pub tried : i ≤ triedFor n σ
+      pub found : left + count i (isRoot σ) ≡ length σ - 1
+      pub more : 0 < left
+
+    pub trying-starts : 2 ≤ length σ → Trying 0 (length σ - 1)
+    trying-starts long = record { tried = zero-le; found = (let z = count-zero (isRoot σ) in omega arith); more = omega arith }
+
+    pub trying-all : (i left : ℕ) → Trying i left → n ≤ i → n ≡ triedFor n σ
+    unfolding triedFor
+    trying-all i left t all = omega (arith, t .tried, tried-least .most n (isRoot σ) (length σ - 1))
+
+    -- column i is tried too
+    module _ (i left : ℕ) (t : Trying i left) (below : i < n) where
+      next : i + 1 ≤ triedFor n σ
+      unfolding triedFor
+      next = let l = tried-least .goes-on n (isRoot σ) (length σ - 1) i below (omega (arith, t .found, t .more)) in omega arith
+
+      counted : isRoot σ i ≡ true → count (i + 1) (isRoot σ) ≡ suc (count i (isRoot σ))
+      counted root = ap (λ (k : ℕ). count k (isRoot σ)) (add-one i) ∙ count-pass i (isRoot σ) root
+
+      pub trying-root : isRoot σ i ≡ true → 0 < left - 1 → Trying (i + 1) (left - 1)
+      trying-root root more = record { tried = next; found = omega (arith, t .found, counted root); more = more }
+
+      pub trying-other : isRoot σ i ≡ false → Trying (i + 1) left
+      trying-other none =
+          let same = ap (λ (k : ℕ). count k (isRoot σ)) (add-one i) ∙ count-fail i (isRoot σ) none in
+          record { tried = next; found = omega (arith, t .found, same); more = t .more }
+
+      -- it is the last one to find
+      pub trying-ends : isRoot σ i ≡ true → left - 1 ≡ 0 → i + 1 ≡ triedFor n σ
+      unfolding triedFor
+      trying-ends root last =
+          let l = tried-least .ends n (isRoot σ) (length σ - 1) (i + 1) (omega (arith, t .found, counted root)) in omega (arith, next)

@@ -1,3 +1,4 @@
 pub mod Locating
 pub mod NamedAlike
 pub mod Remaining
+pub mod Search

@@ -29,9 +29,13 @@ aloneOf ss = foundAlone 257 ss (longest ss)
 unfoldable pub rowsReach : Shape → (c : ℕ) → Bool
 rowsReach s c = every (s .rows) (λ h. leb c (checksOf s h))
 
--- the specification's term: column i is named by the taps σ, the inverse of its locator being a root
+-- the inverse of the locator of column i is a root of the taps σ
+abbrev pub isRoot : (σ : List ℕ) (i : ℕ) → Bool
+isRoot σ i = eqb (value 257 σ (inverse 257 (locatorOf i))) 0
+
+-- the specification's term: column i is named by the taps σ
 unfoldable pub named : Shape → (σ : List ℕ) (i : ℕ) → Bool
-named s σ i = ltb i (s .columns) && eqb (value 257 σ (inverse 257 (locatorOf i))) 0
+named s σ i = ltb i (s .columns) && isRoot σ i
 
 unfoldable pub namedColumns : Shape → (σ : List ℕ) → Columns
 namedColumns s σ = columnsOf (named s σ)

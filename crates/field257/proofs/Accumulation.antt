@@ -40,7 +40,7 @@ four-terms f i =
 
 module _ (x : List ℕ) (j : ℕ) where
   -- what coefficient k adds to the value at 3^j
-  abbrev term : ℕ → ℕ
+  abbrev pub term : ℕ → ℕ
   term k = getD x k 0 * powerOf3 j ^ k
 
   -- after i coefficients the sum is t, and e is the exponent of the next power

@@ -1,4 +1,5 @@
 pub mod Accumulation
+pub mod Blocks
 pub mod Field257
 pub mod LocatorBuilding
 pub mod LocatorPolynomial

@@ -14,10 +14,10 @@ use Rattle.lists.specs.Tabulate.{every}
 use Rattle.lists.proofs.Tabulated.{every-at, every-of, every-witness, every-ext}
 use Rattle.refusal.proofs.Orders.{Pass, no-fail, Says, SayAll, says-not}
 use Rattle.refusal.proofs.Ranges.{outside-says}
-use Rattle.frame.specs.Demands.{BadChecks, shapeReasons, encodeReasons, frameReasons, sizeReason}
+use Rattle.frame.specs.Demands.{BadChecks, columnsReason, shapeReasons, encodeReasons, frameReasons, sizeReason}
 use Rattle.frame.specs.Encode.{encodeTests, dataBelow}
 use Rattle.frame.specs.Frame.{cell, WellFormed, frameTests}
-use Rattle.frame.specs.Shape.{checksOf, shapeOf, shapeTests, isShape, rowsInRange, columnsInRange, checksInRange, exponentInRange}
+use Rattle.frame.specs.Shape.{checksOf, shapeOf, columnsTest, shapeTests, isShape, rowsInRange, columnsInRange, checksInRange, exponentInRange}
 use Rattle.frame.specs.declared.Shape.{Shape}
 use Rattle.frame.proofs.ShapeTests.{countTest, count-taken}
 
@@ -45,12 +45,16 @@ bad-count n k e = pick (decLt k 1) (decLt 64 k) (decLt k n)
     pick (no a) (no b) (yes c) =
         absurd (false≢true (sym e ∙ count-taken n k (omega arith) (omega arith) c))
 
+pub columns-says : (n : ℕ) → Says (columnsTest n) (columnsReason n)
+unfolding columnsInRange
+columns-says n = outside-says 5 2 256 n
+
 pub shape-says : (n : ℕ) (checks : List ℕ) (b : ℕ) → SayAll (shapeTests n checks b) (shapeReasons n checks b)
-unfolding shapeTests rowsInRange columnsInRange checksInRange exponentInRange
+unfolding shapeTests rowsInRange checksInRange exponentInRange
 shape-says n checks b = (
   outside-says 2 1 8 (length checks),
   (
-    outside-says 5 2 256 n,
+    columns-says n,
     (
       says-not 6 (every (length checks) (λ h. countTest n (getD checks h 0)))
           ((h : ℕ) × (h < length checks) × BadChecks n (getD checks h 0))
@@ -93,17 +97,16 @@ encode-says s f = (
         let (c, x) = both _ _ q in
         (h, i, r, ltb-false _ _ c, n, ltb-false _ _ x)
 
+pub symbols-says : (f : List ℕ) → Says (record { number = 4; fails = not (every (length f) (λ k. ltb (getD f k 0) 257)) })
+    (record { number = 4; holds = (k : ℕ) × (k < length f) × (257 ≤ getD f k 0) })
+symbols-says f =
+    says-not 4 (every (length f) (λ k. ltb (getD f k 0) 257)) _
+    (λ e (k, l, x). let b : getD f k 0 < 257 = ltb-true (getD f k 0) 257 (every-at (length f) _ e k l) in omega (arith, x))
+    (λ e. let (k, l, b) = every-witness (length f) _ e in (k, l, ltb-false _ _ b))
+
 pub frame-says : (s : Shape) (f : List ℕ) → SayAll (frameTests s f) (frameReasons s f)
 unfolding frameTests
-frame-says s f = (
-  size-says s f,
-  (
-    says-not 4 (every (length f) (λ k. ltb (getD f k 0) 257)) _
-        (λ e (k, l, x). let b : getD f k 0 < 257 = ltb-true (getD f k 0) 257 (every-at (length f) _ e k l) in omega (arith, x))
-        (λ e. let (k, l, b) = every-witness (length f) _ e in (k, l, ltb-false _ _ b)),
-    tt,
-  ),
-)
+frame-says s f = (size-says s f, (symbols-says f, tt))
 
 -- ---- where the tests pass
 

@@ -10,12 +10,12 @@ use Rattle.refusal.specs.declared.Refusal.{Refusal}
 
 -- a refusal, with the head j that is left
 abbrev pub refusal : Head → Refusal → Answered
-refusal j why = record { reply = Refused why; columns = noColumns; head = j }
+refusal j why = record { reply = Refused why; columns = noColumns; tried = 0; head = j }
 
--- the c columns J, with the head of the job that holds what was found
-abbrev pub found : Shape → (c : ℕ) (J : Columns) → Answered
-found s c J = record { reply = Count c; columns = J; head = locatedHead s c J }
+-- the c columns J, found when t were tried, with the head of the job that holds what was found
+abbrev pub found : Shape → (c : ℕ) (J : Columns) (t : ℕ) → Answered
+found s c J t = record { reply = Count c; columns = J; tried = t; head = locatedHead s c J }
 
 -- the c columns J mended, with a shaped head
 abbrev pub repair : Shape → (c : ℕ) (J : Columns) → Answered
-repair s c J = record { reply = Count c; columns = J; head = shapedHead s }
+repair s c J = record { reply = Count c; columns = J; tried = 0; head = shapedHead s }

@@ -40,9 +40,9 @@ pub fn shaped(s: Shape) -> Head
     }
 }
 
-// What locate answers that is not refused.
-pub fn located(s: Shape, c: usize, columns: Columns) -> Answered
-    ensures { λ r. ⌜ r ≡ found s c columns ⌝ }
+// What locate answers that is not refused: the c columns, and how many were tried.
+pub fn located(s: Shape, c: usize, columns: Columns, tried: usize) -> Answered
+    ensures { λ r. ⌜ r ≡ found s c columns tried ⌝ }
 {
     let head = Head {
         phase: Phase::Located {
@@ -55,6 +55,7 @@ pub fn located(s: Shape, c: usize, columns: Columns) -> Answered
     Answered {
         reply: Reply::Count(c),
         columns,
+        tried,
         head,
     }
 }
@@ -67,6 +68,7 @@ pub fn refuse(j: Head, why: Refusal) -> Answered
     Answered {
         reply: Reply::Refused(why),
         columns,
+        tried: 0,
         head: j,
     }
 }
@@ -79,6 +81,7 @@ pub fn mended(s: Shape, c: usize, columns: Columns) -> Answered
     Answered {
         reply: Reply::Count(c),
         columns,
+        tried: 0,
         head,
     }
 }

@@ -74,12 +74,14 @@ left j c k =
     (λ m a e. record {
       frame = lent-frame j c;
       marks = refl;
+      tried = refl;
       shaped = λ l. absurd (false≢true (sym (number-late false m (early-number j c m a) e) ∙ l));
       kept = λ l. refl;
     })
     (λ m p a e. record {
       frame = lent-frame j c;
       marks = refl;
+      tried = refl;
       shaped = λ l. record { phase = refl; shape = refl; columns = refl; arrays = refl };
       kept = λ l. absurd (false≢true (sym l ∙ number-late true m (late-among true m (describe j c .shaping) (shaping-late j c) a) e));
     })

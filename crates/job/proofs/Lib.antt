@@ -16,4 +16,5 @@ pub mod Reasons
 pub mod Refusals
 pub mod Repairing
 pub mod Soundness
+pub mod Tries
 pub mod Undeclared

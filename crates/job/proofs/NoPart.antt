@@ -79,19 +79,19 @@ module _ (h : Head) (a b : Arrays) (none : isLocatedPhase (h .phase) ≡ false) 
     lent = refl;
     keeping = same-tests (shapeTests n checks b);
     shaping = tt;
-    gives = λ p. record { answer = refl; marks = refl; frame = refl; job = shaped-alike (shapeOf n checks b) };
+    gives = λ p. record { answer = refl; marks = refl; tried = refl; frame = refl; job = shaped-alike (shapeOf n checks b) };
   }
   same-call (encode f) = record {
     lent = refl;
     keeping = same-tests (describe i (encode f) .keeping);
     shaping = tt;
-    gives = λ p. record { answer = refl; marks = refl; frame = refl; job = kept };
+    gives = λ p. record { answer = refl; marks = refl; tried = refl; frame = refl; job = kept };
   }
   same-call (locate words f) = record {
     lent = refl;
     keeping = same-tests (describe i (locate words f) .keeping);
     shaping = same-tests (describe i (locate words f) .shaping);
-    gives = λ p. record { answer = refl; marks = refl; frame = refl; job = (refl, λ l. refl) };
+    gives = λ p. record { answer = refl; marks = refl; tried = refl; frame = refl; job = (refl, λ l. refl) };
   }
   same-call (repair f) = record {
     lent = refl;
@@ -101,7 +101,7 @@ module _ (h : Head) (a b : Arrays) (none : isLocatedPhase (h .phase) ≡ false) 
   }
 
   refused-same : (i j : Job) → Alike i j → (f g : List ℕ) → f ≡ g → (k : ℕ) → SameOutcome (refusing i f k) (refusing j g k)
-  refused-same i j l f g e k = record { answer = refl; marks = refl; frame = e; job = l }
+  refused-same i j l f g e k = record { answer = refl; marks = refl; tried = refl; frame = e; job = l }
 
   same-step : (c : Call) → SameOutcome (step i c) (step j c)
   unfolding step
@@ -114,7 +114,7 @@ module _ (h : Head) (a b : Arrays) (none : isLocatedPhase (h .phase) ≡ false) 
 -- ---- any two jobs that are alike
 
 self : (o : Outcome) → SameOutcome o o
-self o = record { answer = refl; marks = refl; frame = refl; job = (refl, λ l. refl) }
+self o = record { answer = refl; marks = refl; tried = refl; frame = refl; job = (refl, λ l. refl) }
 
 pub play-no-part : ArraysPlayNoPart
 play-no-part i j c (head, arrays) = pick (isLocatedPhase (j .head .phase)) refl

@@ -6,8 +6,9 @@ use Prim.Native.Nat.{ℕ}
 use lib.Dec.{eqb}
 use lib.ListN.{getD}
 use Rattle.columns.specs.declared.Columns.{Columns}
-use Rattle.decoding.specs.Locating.{sizeOf, tapsOf, aloneOf, namesAll, namedColumns}
+use Rattle.decoding.specs.Locating.{sizeOf, tapsOf, aloneOf, named, namesAll, namedColumns}
 use Rattle.decoding.specs.Remaining.{allRemaining, leftReach, completable, mended}
+use Rattle.decoding.specs.Search.{tried}
 use Rattle.frame.specs.DeclaredCells.{Declared, declaredBy, asRead, readTests, rereadTests}
 use Rattle.frame.specs.Encode.{encoded, encodeTests}
 use Rattle.frame.specs.Frame.{heldSums, heldSequences}
@@ -30,16 +31,18 @@ pub data Answer : Type 0 where
   columns : ℕ → Answer
   refused : ℕ → Answer
 
--- what a call answers, the set of columns beside the answer, the job and the lent frame as it leaves them (no frame is lent to shape: `[]`)
+-- what a call answers, the set of columns beside the answer, how many columns were tried in a search for them (0 where there is none), the job and the lent
+-- frame as it leaves them (no frame is lent to shape: `[]`)
 pub record Outcome : Type 0 where
   pub answer : Answer
   pub marks : Columns
+  pub tried : ℕ
   pub job : Job
   pub frame : List ℕ
 
 -- a call refused by the number k, which leaves the job j and the frame f
 abbrev pub refusing : Job → (f : List ℕ) (k : ℕ) → Outcome
-refusing j f k = record { answer = refused k; marks = noColumns; job = j; frame = f }
+refusing j f k = record { answer = refused k; marks = noColumns; tried = 0; job = j; frame = f }
 
 -- the job as it is left shaped, with its arrays as they were
 abbrev pub reshaped : Job → Job
@@ -87,10 +90,10 @@ registerTests s D S =
 -- ---- what is given
 
 abbrev pub shapes : Arrays → (n : ℕ) (checks : List ℕ) (b : ℕ) → Outcome
-shapes a n checks b = record { answer = done; marks = noColumns; job = shapedJob (shapeOf n checks b) a; frame = [] }
+shapes a n checks b = record { answer = done; marks = noColumns; tried = 0; job = shapedJob (shapeOf n checks b) a; frame = [] }
 
 abbrev pub encodes : Job → (f : List ℕ) → Outcome
-encodes j f = record { answer = done; marks = noColumns; job = j; frame = encoded (j .head .shape) f }
+encodes j f = record { answer = done; marks = noColumns; tried = 0; job = j; frame = encoded (j .head .shape) f }
 
 -- the job that is located, with the cells that the words declare, by the register of the sequences ss; the sums are held
 abbrev pub locatedBy : Shape → Arrays → (words : List ℕ) (ss : List (List ℕ)) (sums : List ℕ) → Job
@@ -101,6 +104,7 @@ locates s a words ss sums f =
     record {
       answer = columns (sizeOf ss);
       marks = namedColumns s (tapsOf ss);
+      tried = tried (s .columns) (named s (tapsOf ss)) (sizeOf ss);
       job = locatedBy s a words ss sums;
       frame = f;
     }
@@ -111,6 +115,7 @@ repairs j f =
     record {
       answer = columns (lengthOf (j .head .phase));
       marks = M;
+      tried = 0;
       job = reshaped j;
       frame = mended (j .head .shape) (declaredIn j) M f;
     }

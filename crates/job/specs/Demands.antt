@@ -159,6 +159,7 @@ Alike i j = (i .head ≡ j .head) × (isLocatedPhase (j .head .phase) ≡ true �
 pub record SameOutcome (o p : Outcome) : Type 0 where
   pub answer : o .answer ≡ p .answer
   pub marks : o .marks ≡ p .marks
+  pub tried : o .tried ≡ p .tried
   pub frame : o .frame ≡ p .frame
   pub job : Alike (o .job) (p .job)
 

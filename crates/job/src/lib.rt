@@ -32,9 +32,11 @@ pub struct Reshaped {
     pub head: Head,
 }
 
-// What locate and repair return: the answer, the columns, none where it refuses, and the job's head as the call leaves it.
+// What locate and repair return: the answer, the columns, none where it refuses, how many columns were tried in a search for them, and the job's head as the
+// call leaves it.
 pub struct Answered {
     pub reply: Reply,
     pub columns: Columns,
+    pub tried: usize,
     pub head: Head,
 }

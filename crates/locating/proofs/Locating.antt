@@ -10,10 +10,12 @@ use lib.Seq.{take-at}
 use borrow.Author.Tests.{lt-ltb, le-ltb}
 use Rattle.columns.specs.Columns.{members}
 use Rattle.columns.specs.declared.Columns.{Columns}
-use Rattle.decoding.specs.Locating.{sizeOf, tapsOf, aloneOf, namedColumns, namesAll}
+use Rattle.decoding.specs.Locating.{sizeOf, tapsOf, aloneOf, named, namedColumns, namesAll}
 use Rattle.decoding.specs.Remaining.{allRemaining, leftReach, completable}
+use Rattle.decoding.specs.Search.{tried, triedFor, soughtColumns}
 use Rattle.decoding.proofs.SequenceRegister.{generator-of, length-taps}
 use Rattle.decoding.proofs.NamedColumns.{size-named, names-at-most}
+use Rattle.decoding.proofs.Sought.{none-lost, tried-named}
 use Rattle.finder.specs.Finder.{answerOf, register, refused}
 use Rattle.finder.specs.declared.Found.{Found}
 use Rattle.frame.specs.DeclaredCells.{Declared, declaredBy, asRead}
@@ -32,7 +34,8 @@ use Rattle.refusal.specs.declared.Refusal.{Refusal}
 use Rattle.heads.specs.Answered as answer-of
 use Rattle.locating.specs.FromSums.{Locatable, Completable, fromSums, after}
 use Rattle.locating.specs.RegisterOf.{RegisterOf}
-use Rattle.locating.specs.Search.{Searchable}
+use Rattle.search.specs.Search.{sought}
+use Rattle.search.specs.declared.Sought.{Sought}
 use Rattle.decoding.proofs.LeftLengths.{size-most}
 
 -- a refusal leaves the sums, the taps and the declared cells
@@ -77,13 +80,17 @@ module _ {s : Shape} {words sums : List ℕ} {l : ℕ} {a : Bool} {buffer : List
       ∙ take-at (tapsOf ss) _ _ refl
 
   -- what the search for columns asks
-  pub searchable : Searchable s (take (l + 1 - 0) buffer)
-  searchable =
-      record {
-        columns = shape-ranges s (see .shape) .columns-most;
-        few = omega (arith, ap length front, taps-length, size-most s D sums (see .shape));
-        first = ap (λ x. getD x 0 0) front ∙ generator-of ss .register .first;
-      }
+  pub few-columns : s .columns ≤ 256
+  few-columns = shape-ranges s (see .shape) .columns-most
+
+  -- what it finds: every column that the register names
+  all-found : soughtColumns (s .columns) (tapsOf ss) ≡ namedColumns s (tapsOf ss)
+  all-found = none-lost s (tapsOf ss) few-columns 0 (λ e. let one = generator-of ss .register .first in omega arith)
+
+  -- and how many it tries
+  number-tried : triedFor (s .columns) (tapsOf ss) ≡ tried (s .columns) (named s (tapsOf ss)) (sizeOf ss)
+  number-tried =
+      tried-named s (tapsOf ss) ∙ ap (tried (s .columns) (named s (tapsOf ss))) (let t = taps-length in let n : length (tapsOf ss) - 1 ≡ sizeOf ss = omega arith in n)
 
   module _ (before : Arrays) (f : List ℕ) where
     -- what is given for the register that was seen
@@ -98,25 +105,29 @@ module _ {s : Shape} {words sums : List ℕ} {l : ℕ} {a : Bool} {buffer : List
     unfolding registerTests
     gives-25 alone e = rw (sym (see .alone) ∙ alone, ap (leftReach s D) (sym (see .size)) ∙ e) refl
 
-  module _ (alone : a ≡ true) (reach : leftReach s (declaredBy words) l ≡ true) {J : Columns} (found : J ≡ namedColumns s (take (l + 1 - 0) buffer)) where
-    marked : J ≡ namedColumns s (tapsOf ss)
-    marked = found ∙ ap (namedColumns s) front
+  module _ (alone : a ≡ true) (reach : leftReach s (declaredBy words) l ≡ true) {q : Sought}
+      (found : q ≡ sought (s .columns) (take (l + 1 - 0) buffer)) where
+    marked : q .columns ≡ namedColumns s (tapsOf ss)
+    marked = ap (λ (x : Sought). x .columns) found ∙ ap (soughtColumns (s .columns)) front ∙ all-found
 
-    names : namesAll s (tapsOf ss) (sizeOf ss) ≡ not (ltb (length (members J)) l)
+    tried-so : q .tried ≡ tried (s .columns) (named s (tapsOf ss)) (sizeOf ss)
+    tried-so = ap (λ (x : Sought). x .tried) found ∙ ap (triedFor (s .columns)) front ∙ number-tried
+
+    names : namesAll s (tapsOf ss) (sizeOf ss) ≡ not (ltb (length (members (q .columns))) l)
     unfolding namesAll
     names =
         ap₂ (λ m n. not (ltb m n)) (sym (size-named s (tapsOf ss) (see .shape)) ∙ ap (λ K. length (members K)) (sym marked)) (sym (see .size))
 
-    pub gives-26 : (before : Arrays) (f : List ℕ) → length (members J) < l → refusing (shapedJob s before) f 26 ≡ fromSums s before words sums f
+    pub gives-26 : (before : Arrays) (f : List ℕ) → length (members (q .columns)) < l → refusing (shapedJob s before) f 26 ≡ fromSums s before words sums f
     unfolding registerTests
     gives-26 before f fewer = rw (sym (see .alone) ∙ alone, ap (leftReach s D) (sym (see .size)) ∙ reach, names ∙ ap not (lt-ltb _ l fewer)) refl
 
-    module _ (enough : l ≤ length (members J)) where
+    module _ (enough : l ≤ length (members (q .columns))) where
       all-named : namesAll s (tapsOf ss) (sizeOf ss) ≡ true
       all-named = names ∙ ap not (le-ltb _ l enough)
 
       -- no more columns are named than the register is long
-      pub marked-most : length (members J) ≡ l
+      pub marked-most : length (members (q .columns)) ≡ l
       marked-most =
           omega (
             arith,
@@ -127,27 +138,27 @@ module _ {s : Shape} {words sums : List ℕ} {l : ℕ} {a : Bool} {buffer : List
           )
 
       -- what the test of the rows asks
-      pub completable-asked : (none : Bool) → Locatable s none words sums → length (members J) ≡ l → Completable s none words J sums
+      pub completable-asked : (none : Bool) → Locatable s none words sums → length (members (q .columns)) ≡ l → Completable s none words (q .columns) sums
       completable-asked none locatable size =
           record { locatable = locatable; columns = marked; enough = all-named; reach = subst (λ (n : ℕ). leftReach s D n ≡ true) (sym size) reach }
 
-      same-columns : completable s D J (heldSequences s sums) ≡ completable s D (namedColumns s (tapsOf ss)) (heldSequences s sums)
+      same-columns : completable s D (q .columns) (heldSequences s sums) ≡ completable s D (namedColumns s (tapsOf ss)) (heldSequences s sums)
       same-columns = ap (λ K. completable s D K (heldSequences s sums)) marked
 
-      pub gives-unfit : (before : Arrays) (f : List ℕ) → completable s (declaredBy words) J (heldSequences s sums) ≡ false
+      pub gives-unfit : (before : Arrays) (f : List ℕ) → completable s (declaredBy words) (q .columns) (heldSequences s sums) ≡ false
           → refusing (shapedJob s before) f 26 ≡ fromSums s before words sums f
       unfolding registerTests
       gives-unfit before f e =
           rw (sym (see .alone) ∙ alone, ap (leftReach s D) (sym (see .size)) ∙ reach, all-named, sym same-columns ∙ e) refl
 
-      pub gives-columns : (before : Arrays) (f : List ℕ) → completable s (declaredBy words) J (heldSequences s sums) ≡ true
-          → {r : Answered} → r ≡ answer-of.found s l J
+      pub gives-columns : (before : Arrays) (f : List ℕ) → completable s (declaredBy words) (q .columns) (heldSequences s sums) ≡ true
+          → {r : Answered} → r ≡ answer-of.found s l (q .columns) (q .tried)
           → answeredOutcome r (withFound before (after (r .reply) (before .sums) sums) buffer (after (r .reply) (before .declared) words)) f
           ≡ fromSums s before words sums f
       unfolding registerTests
       gives-columns before f fits e =
           rw (sym (see .alone) ∙ alone, ap (leftReach s D) (sym (see .size)) ∙ reach, all-named, sym same-columns ∙ fits)
-          (let n = see .size in let b = see .taps in let m = marked in rw (e, n, b, m) refl)
+          (let n = see .size in let b = see .taps in let m = marked in let t = tried-so in rw (e, n, b, m, t) refl)
 
 -- ---- from the sums of a frame
 

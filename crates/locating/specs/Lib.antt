@@ -1,3 +1,2 @@
 pub mod FromSums
 pub mod RegisterOf
-pub mod Search

@@ -1,6 +1,5 @@
 // Locating from check sums: the shortest register of what is left of them, and the columns that it names.
 use crate::finding::register_of;
-use crate::search::named_columns;
 use columns::Columns;
 use erasures::cells::left_reach;
 use finder::Found;
@@ -12,6 +11,7 @@ use heads::states::shaped;
 use job::Answered;
 use refusal::Refusal;
 use remaining::completable::is_completable;
+use search::roots::named_columns;
 ghost use mathlib.Core.Path.{_≡_};
 ghost use mathlib.Core.List.{List};
 ghost use Prim.Native.Nat.{ℕ};
@@ -44,7 +44,7 @@ fn completes(s: Shape, none: bool, declared: &[u64; 32], named: Columns, sums: &
     is_completable(s, declared, named, sums)
 }
 
-// The finder refuses nothing here. The taps are written last, so that a refusal leaves them as they were.
+// The finder refuses nothing here, and the search loses no column. The taps are written last, so that a refusal leaves them as they were.
 pub fn locate_from(
     s: Shape,
     none: bool,
@@ -69,7 +69,8 @@ pub fn locate_from(
         return refuse(shaped(s), Refusal::ShortRow);
     }
     let end = length + 1;
-    let named = named_columns(s, &register[0..end]);
+    let sought = named_columns(s.columns, &register[0..end]);
+    let named = sought.columns;
     if columns::size(named) < length {
         return refuse(shaped(s), Refusal::NoFrame);
     }
@@ -77,5 +78,5 @@ pub fn locate_from(
         return refuse(shaped(s), Refusal::NoFrame);
     }
     *taps = register;
-    located(s, length, named)
+    located(s, length, named, sought.tried)
 }

@@ -23,7 +23,7 @@ fn rows_in_range(rows: usize) -> bool
 }
 
 // Whether there are 2 to 256 columns.
-fn columns_in_range(columns: usize) -> bool
+pub fn columns_in_range(columns: usize) -> bool
     ensures { λ r. ⌜ r ≡ columnsInRange columns ⌝ }
 {
     if columns < 2 {

@@ -6,12 +6,14 @@ mod elimination;
 pub mod enumeration;
 pub mod frames;
 pub mod registers;
+pub mod search;
 
 use std::sync::LazyLock;
 
-use common::interface::{Answer, Calls, Declared, Head, Job, LOCATED, Register, SHAPED};
+use common::interface::{Answer, Calls, Columns, Declared, Head, Job, LOCATED, Register, SHAPED};
 
 use frames::{Shape, as_read, cells_of, columns_of, marks_of, open_columns};
+use search::{locator_polynomial, named, tried};
 
 pub struct Independent;
 
@@ -54,6 +56,13 @@ fn find_refusal(p: u32, lengths: &[u16], symbols: &[u16], taps: usize) -> u32 {
         (3, &|| longest() > 128 || total() != symbols.len()),
         (8, &|| taps < longest() + 1),
         (4, &|| symbols.iter().any(|&symbol| u32::from(symbol) >= p)),
+    ])
+}
+
+fn search_refusal(columns: usize, taps: &[u16]) -> u32 {
+    first(&[
+        (5, &|| !(2..=256).contains(&columns)),
+        (4, &|| taps.iter().any(|&tap| tap >= 257)),
     ])
 }
 
@@ -111,15 +120,7 @@ fn mended(shape: &Shape, declared: &Declared, frame: &[u16], columns: &[usize]) 
 /// γ_0·S_(j+ε) + .. + γ_ε·S_j for each j from 1, γ_0 .. γ_ε being the coefficients of the product
 /// of (1 − 3^i·x) over the columns i.
 fn remaining(sums: &[u64], columns: &[usize]) -> Vec<u64> {
-    let gamma = columns.iter().fold(vec![1], |product, &i| {
-        let factor = (0..i).fold(256, |power, _| power * 3 % 257);
-        let moved = std::iter::once(&0).chain(&product);
-        let kept = product.iter().chain(&[0]);
-        moved
-            .zip(kept)
-            .map(|(low, high)| (high + factor * low) % 257)
-            .collect::<Vec<u64>>()
-    });
+    let gamma = locator_polynomial(columns);
     let product = |window: &[u64]| {
         gamma
             .iter()
@@ -142,22 +143,6 @@ pub fn register_of(shape: &Shape, declared: &Declared, frame: &[u16]) -> Option<
         .map(|(h, sums)| remaining(&sums, &cells_of(declared, h)))
         .collect();
     registers::shortest(257, &sequences).1
-}
-
-/// The columns i for which the taps have the root 3^(−i).
-fn named(columns: usize, taps: &[u64]) -> Vec<usize> {
-    let locators = std::iter::successors(Some(1), |x| Some(x * 3 % 257)).take(columns);
-    let inverses = locators.map(|x: u64| (1..257).find(|y| x * y % 257 == 1).expect("not 0"));
-    let values = inverses.map(|y| {
-        taps.iter()
-            .rev()
-            .fold(0, |value, tap| (value * y + tap) % 257)
-    });
-    values
-        .enumerate()
-        .filter(|(_, value)| *value == 0)
-        .map(|(i, _)| i)
-        .collect()
 }
 
 /// More declared cells than checks in a row, or a mark past the last column or row.
@@ -204,6 +189,23 @@ impl Calls for Independent {
             refusal: 0,
             length: length as u64,
             alone,
+        }
+    }
+
+    fn search(&self, columns: usize, taps: &[u16]) -> Columns {
+        let refusal = search_refusal(columns, taps);
+        if refusal != 0 {
+            return Columns::refused(refusal);
+        }
+        let c = taps.len().saturating_sub(1);
+        let taps: Vec<u64> = taps.iter().map(|&tap| u64::from(tap)).collect();
+        let mut found = named(columns, &taps);
+        let tried = tried(columns, c, &found);
+        found.retain(|&i| i < tried);
+        Columns {
+            refusal: 0,
+            tried: tried as u64,
+            marks: marks_of(&found),
         }
     }
 
@@ -268,7 +270,8 @@ impl Calls for Independent {
         for (entry, tap) in job.taps.iter_mut().zip(taps) {
             *entry = tap as u16;
         }
-        job.head.located(c, marks_of(&columns))
+        let tried = tried(shape.columns, c, &columns);
+        job.head.located(c, tried, marks_of(&columns))
     }
 
     fn repair(&self, job: &mut Job, frame: &mut [u16]) -> Answer {
@@ -299,6 +302,7 @@ impl Calls for Independent {
         Answer {
             refusal: 0,
             count: length,
+            tried: 0,
             marks,
         }
     }

@@ -31,6 +31,7 @@ struct Frame {
 
 struct Located {
     sums: &'static [u16],
+    tried: u64,
     marks: Marks,
 }
 
@@ -42,6 +43,7 @@ const FRAMES: [Frame; 10] = [
         cells: &[(2, 5), (6, 7)],
         located: Ok(Located {
             sums: &[45, 148, 47, 63, 53],
+            tried: 3,
             marks: [1 << 2, 0, 0, 0],
         }),
     },
@@ -74,6 +76,7 @@ const FRAMES: [Frame; 10] = [
         cells: &[(255, 1)],
         located: Ok(Located {
             sums: &[86, 200],
+            tried: 256,
             marks: [0, 0, 0, 1 << 63],
         }),
     },
@@ -86,6 +89,7 @@ const FRAMES: [Frame; 10] = [
         cells: &[(2, 5), (6, 7)],
         located: Ok(Located {
             sums: &[5, 45, 148, 7, 63],
+            tried: 3,
             marks: [1 << 2, 0, 0, 0],
         }),
     },
@@ -96,6 +100,7 @@ const FRAMES: [Frame; 10] = [
         cells: &[(1, 1), (5, 2)],
         located: Ok(Located {
             sums: &[256, 254, 248, 255, 251],
+            tried: 2,
             marks: [1 << 1, 0, 0, 0],
         }),
     },
@@ -106,6 +111,7 @@ const FRAMES: [Frame; 10] = [
         cells: &[(2, 9), (6, 18)],
         located: Ok(Located {
             sums: &[1, 9, 81, 2, 18],
+            tried: 3,
             marks: [1 << 2, 0, 0, 0],
         }),
     },
@@ -168,8 +174,9 @@ fn locate(judge: &mut Judge, example: &Frame) {
     let cells = &example.cells;
     match &example.located {
         Err(number) => judge.compare("the refusal of an example", cells, *number, answer.refusal),
-        Ok(Located { sums, marks }) => {
+        Ok(Located { sums, tried, marks }) => {
             judge.compare("the columns of an example", cells, *marks, answer.marks);
+            judge.compare("the columns tried", cells, *tried, answer.tried);
             let held = &job.sums[..sums.len()];
             judge.compare("the sums of an example", cells, *sums, held);
         }

@@ -3,7 +3,7 @@
 
 use std::mem::{align_of, offset_of, size_of};
 
-use common::interface::{Answer, Head, Job, Register};
+use common::interface::{Answer, Columns, Head, Job, Register};
 
 use crate::judge::Judge;
 
@@ -26,12 +26,17 @@ unsafe extern "C" {
     static tomkhadi_layout: [usize; RUST.len()];
 }
 
-const RUST: [usize; 34] = [
+const RUST: [usize; 40] = [
     size_of::<Register>(),
     align_of::<Register>(),
     offset_of!(Register, refusal),
     offset_of!(Register, alone),
     offset_of!(Register, length),
+    size_of::<Columns>(),
+    align_of::<Columns>(),
+    offset_of!(Columns, refusal),
+    offset_of!(Columns, tried),
+    offset_of!(Columns, marks),
     size_of::<Head>(),
     align_of::<Head>(),
     offset_of!(Head, phase),
@@ -52,6 +57,7 @@ const RUST: [usize; 34] = [
     align_of::<Answer>(),
     offset_of!(Answer, refusal),
     offset_of!(Answer, count),
+    offset_of!(Answer, tried),
     offset_of!(Answer, marks),
     size_of::<HeadShaped>(),
     align_of::<HeadShaped>(),

@@ -10,6 +10,7 @@ pub mod layout;
 pub mod lists;
 pub mod program;
 pub mod prototypes;
+pub mod search;
 pub mod shapes;
 pub mod vectors;
 

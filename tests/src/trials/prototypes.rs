@@ -5,8 +5,9 @@ use crate::judge::Judge;
 
 const HEADER: &str = include_str!("../../../include/tomkhadi.h");
 
-const SOURCES: [&str; 2] = [
+const SOURCES: [&str; 3] = [
     include_str!("../../../crates/capi/src/find.rt"),
+    include_str!("../../../crates/capi/src/roots.rt"),
     include_str!("../../../crates/capi/src/jobs.rt"),
 ];
 
@@ -56,6 +57,7 @@ fn c_type(of: &str) -> &str {
         "u64" => "uint64_t",
         "usize" => "size_t",
         "CRegister" => "tomkhadi_register",
+        "CColumns" => "tomkhadi_columns",
         "CHead" => "tomkhadi_head",
         "CShaped" => "tomkhadi_head_shaped",
         "CAnswered" => "tomkhadi_head_answered",

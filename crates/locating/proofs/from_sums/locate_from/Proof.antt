@@ -8,7 +8,7 @@ use borrow.Author.Tests.{not-true, not-false}
 use Rattle.decoding.specs.Remaining.{leftReach}
 use Rattle.finder.specs.Finder.{answerOf}
 use Rattle.frame.specs.DeclaredCells.{declaredBy}
-use Rattle.locating.proofs.Locating.{refusal-left, Seen, never-refused, seen, length-most, searchable}
+use Rattle.locating.proofs.Locating.{refusal-left, Seen, never-refused, seen, length-most, few-columns}
 use Rattle.locating.proofs.Locating.{gives-24, gives-25, gives-26, marked-most, completable-asked, gives-unfit, gives-columns}
 use borrow.Author.Needs.{needs}
 use Rattle.locating.proofs.from_sums.locate_from.Statement.{statement}
@@ -93,12 +93,12 @@ part-named-columns-end c =
     omega arith
 
 named-columns-requires : tie.Need-named-columns-requires
-named-columns-requires c κs = searchable (see (found-before (c .before .before)))
+named-columns-requires c κs = few-columns (see (found-before (c .before .before)))
 
 returns-4 : tie.Need-returns-4
 returns-4 c =
     let few = c .before .before in
-    let named = few .before .before in
+    let named = few .before .before .before in
     let reached = reached-before named in
     λ a f. refusal-left a _ _ _ f _ (c .refuse4 .ensures) (c .before .shaped4 .ensures)
     ∙ gives-26 (see (found-before reached)) (alone reached) (reach reached) (named .named-columns .ensures) _ f
@@ -106,7 +106,7 @@ returns-4 c =
 
 completes-requires : tie.Need-completes-requires
 completes-requires c κs =
-    let named = c .before .before in
+    let named = c .before .before .before in
     let reached = reached-before named in
     let saw = see (found-before reached) in
     let n = c .before .size .ensures in
@@ -119,7 +119,7 @@ returns-5 : tie.Need-returns-5
 returns-5 c =
     let unfit = c .before .before in
     let enough = unfit .before .before in
-    let named = enough .before .before in
+    let named = enough .before .before .before in
     let reached = reached-before named in
     λ a f. refusal-left a _ _ _ f _ (c .refuse5 .ensures) (c .before .shaped5 .ensures)
     ∙ gives-unfit (see (found-before reached)) (alone reached) (reach reached) (named .named-columns .ensures)
@@ -130,7 +130,7 @@ returns-6 : tie.Need-returns-6
 returns-6 c =
     let fits = c .before in
     let enough = fits .before .before in
-    let named = enough .before .before in
+    let named = enough .before .before .before in
     let reached = reached-before named in
     λ a f. gives-columns (see (found-before reached)) (alone reached) (reach reached) (named .named-columns .ensures)
     (let n = enough .before .size .ensures in let t = enough .if3 .left in omega arith) _ f

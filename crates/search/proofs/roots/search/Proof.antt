@@ -1,0 +1,21 @@
+-- `search::roots::search` meets its contract.
+use borrow.Author.Needs.{needs}
+use Rattle.search.proofs.Answers.{answer-refused, answer-found, few-columns}
+use Rattle.search.proofs.roots.search.Statement.{statement}
+use Rattle.search.proofs.roots.search.Tie as tie
+
+named-columns-requires : tie.Need-named-columns-requires
+named-columns-requires c κs = few-columns _ _ (c .before .before .check .ensures) (c .enum-told2 .given .1)
+
+returns : tie.Need-returns
+returns c =
+    let told = c .before in answer-refused _ _ (told .before .before .check .ensures) _ (told .enum-told .given .1) (c .nothing .ensures)
+
+returns-2 : tie.Need-returns-2
+returns-2 c =
+    let told = c .before in answer-found _ _ (told .before .before .check .ensures) (told .enum-told2 .given .1) (c .named-columns .ensures)
+
+pub search-spec : {M : Type 1} → statement M
+search-spec =
+    tie.close
+    (tie.spec (λ c κs. search needs) (λ c. search needs) (λ c κs. search needs) (λ c. search needs) named-columns-requires returns returns-2)

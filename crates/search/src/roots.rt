@@ -1,0 +1,92 @@
+// The search for roots of taps at the columns.
+use crate::Searched;
+use crate::Sought;
+use field257::powers::powers;
+use field257::values::value_of;
+use refusal::Checked;
+use refusal::Refusal;
+use shapes::shape::columns_in_range;
+use shapes::symbols::all_below;
+ghost use mathlib.Core.Path.{_≡_};
+ghost use Prim.Native.Nat.{_≤_};
+ghost use Rattle.decoding.specs.Locating.{isRoot};
+ghost use Rattle.field257.specs.Table.{table};
+ghost use Rattle.refusal.specs.Outcome.{outcomeOf, outcome};
+ghost use Rattle.search.specs.Search.{nothing, sought, searchTests, answerOf, answer};
+
+// The inverse of the locator of column i is a root of the taps. The inverse of 3^i is 3^(256 − i).
+fn is_root(powers: &[u16; 256], taps: &[u16], i: usize) -> bool
+    requires { ⌜ (now powers ≡ table) × (i ≤ 256) ⌝ }
+    ensures { λ r. ⌜ r ≡ isRoot (now (taps .entry)) i ⌝ }
+{
+    value_of(powers, taps, (256 - i) as u32) == 0
+}
+
+// No column found, none tried.
+fn nothing() -> Sought
+    ensures { λ r. ⌜ r ≡ nothing ⌝ }
+{
+    let columns = columns::empty();
+    Sought { columns, tried: 0 }
+}
+
+// For callers who know that there are no more than 256 columns. With one tap or none there is nothing to find.
+pub fn named_columns(columns: usize, taps: &[u16]) -> Sought
+    requires { ⌜ columns ≤ 256 ⌝ }
+    ensures { λ r. ⌜ r ≡ sought columns (now (taps .entry)) ⌝ }
+{
+    if taps.len() < 2 {
+        return nothing();
+    }
+    let powers = powers();
+    let mut found = columns::empty();
+    let mut left = taps.len() - 1;
+    let mut i = 0;
+    while i < columns {
+        if is_root(&powers, taps, i) {
+            found = columns::with(found, i);
+            left -= 1;
+            if left == 0 {
+                return Sought {
+                    columns: found,
+                    tried: i + 1,
+                };
+            }
+        }
+        i += 1;
+    }
+    Sought {
+        columns: found,
+        tried: columns,
+    }
+}
+
+// The refusals of the search.
+fn check(columns: usize, taps: &[u16]) -> Checked
+    ensures { λ r. ⌜ outcomeOf r ≡ outcome (searchTests columns (now (taps .entry))) ⌝ }
+{
+    if !columns_in_range(columns) {
+        return Checked::Refuse(Refusal::Columns);
+    }
+    if all_below(taps) {
+        return Checked::Pass;
+    }
+    Checked::Refuse(Refusal::Symbol)
+}
+
+// For any taps and any number of columns.
+pub fn search(columns: usize, taps: &[u16]) -> Searched
+    ensures { λ r. ⌜ answerOf r ≡ answer columns (now (taps .entry)) ⌝ }
+{
+    let checked = check(columns, taps);
+    match checked {
+        Checked::Refuse(_) => {
+            let sought = nothing();
+            Searched { checked, sought }
+        }
+        Checked::Pass => {
+            let sought = named_columns(columns, taps);
+            Searched { checked, sought }
+        }
+    }
+}
