@@ -256,6 +256,7 @@ def declared(path, text):
 # Whoever calls these need know nothing: they answer for every input.
 ENTRY_POINTS = [
     "finder::find::find",
+    "search::roots::search",
     "heads::states::empty",
     "calls::shape::shape",
     "calls::encode::encode",

@@ -8,7 +8,7 @@ use Prim.Native.Nat.{ℕ, suc, _≤_, _<_}
 use native.Mathlib.Nat.{mod-lt}
 use native.Mathlib.Decide.{decLt}
 use native.Mathlib.Omega.{arith}
-use lib.Dec.{ltb, eqb, lit<}
+use lib.Dec.{ltb, lit<}
 use lib.ListN.{length}
 use borrow.Author.Tests.{ltb-false, lt-ltb, le-ltb, eqb-true, eq-eqb, not-true}
 use Rattle.algebra.specs.Ring.{CRing, Field}
@@ -44,7 +44,7 @@ unfolding namedColumns named
 named-alike s t same σ = ap (λ (n : ℕ). columnsOf (λ i. ltb i n && isRoot σ i)) same
 
 -- the locators of up to 256 columns
-pub below-distinct : (n : ℕ) → n ≤ 256 → Distinct R257 n locatorAt
+below-distinct : (n : ℕ) → n ≤ 256 → Distinct R257 n locatorAt
 below-distinct n few i j hi hj = locators-distinct i j (omega arith) (omega arith)
 
 module _ (s : Shape) (shape : isShape s ≡ true) where
@@ -86,7 +86,7 @@ module _ (s : Shape) (c : ℕ) (σ : List ℕ) (register : Register 257 c σ) wh
       and-eq-true-iff (ltb i (s .columns)) _ .1
       (lt-ltb i (s .columns) below, eq-eqb _ 0 (res-tells-zero _ (mod-lt _ (lit< tt)) (res-root c σ taps i ∙ e)))
 
-  pub named-count : count (s .columns) (named s σ) ≡ count (s .columns) (isRoot σ)
+  named-count : count (s .columns) (named s σ) ≡ count (s .columns) (isRoot σ)
   unfolding named
   named-count = count-ext (s .columns) _ (isRoot σ) (λ i below. ap (λ (b : Bool). b && isRoot σ i) (lt-ltb i (s .columns) below))
 

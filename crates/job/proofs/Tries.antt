@@ -16,8 +16,8 @@ use Rattle.frame.specs.Shape.{isShape}
 use Rattle.frame.specs.declared.Shape.{Shape}
 use Rattle.frame.proofs.Shapes.{shape-ranges}
 use Rattle.refusal.proofs.Orders.{Pass, no-fail}
-use Rattle.job.specs.Calls.{Call, locate, describe, registerTests}
-use Rattle.job.specs.Job.{Arrays, Job, isEmpty}
+use Rattle.job.specs.Calls.{locate, describe, registerTests}
+use Rattle.job.specs.Job.{Job, isEmpty}
 use Rattle.job.specs.Runs.{run, Taken}
 use Rattle.job.specs.Tries.{UpToLast, LocateTries}
 use Rattle.job.proofs.Cases.{by-call}

@@ -5,11 +5,10 @@ use mathlib.Core.List.{List, _++_}
 use Prim.Native.Nat.{ℕ, suc, _+_, _-_, _≤_, _<_}
 use native.Mathlib.Omega.{arith}
 use lib.Dec.{ltb}
-use lib.ListN.{length, getD, take, replicate}
+use lib.ListN.{length, take, replicate}
 use lib.Seq.{take-at}
 use borrow.Author.Tests.{lt-ltb, le-ltb}
 use Rattle.columns.specs.Columns.{members}
-use Rattle.columns.specs.declared.Columns.{Columns}
 use Rattle.decoding.specs.Locating.{sizeOf, tapsOf, aloneOf, named, namedColumns, namesAll}
 use Rattle.decoding.specs.Remaining.{allRemaining, leftReach, completable}
 use Rattle.decoding.specs.Search.{tried, triedFor, soughtColumns}

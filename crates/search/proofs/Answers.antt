@@ -3,14 +3,17 @@ use mathlib.Core.Path.{_≡_, refl, sym, ap, ap₂, _∙_}
 use mathlib.Core.Bool.{Bool, not, cond, and-eq-true-iff}
 use mathlib.Core.List.{List}
 use Prim.Native.Nat.{ℕ, _≤_, _<_}
+use native.Mathlib.Omega.{arith}
 use lib.Dec.{leb, ltb}
 use lib.ListN.{length, getD}
-use borrow.Author.Tests.{leb-true}
+use borrow.Author.Tests.{leb-true, ltb-true}
 use Rattle.columns.specs.declared.Columns.{Columns}
 use Rattle.decoding.specs.Search.{triedFor}
 use Rattle.decoding.proofs.Searching.{searched, search-none, search-ends, none-tried}
+use Rattle.field.proofs.Coefficients.{residues-past}
 use Rattle.frame.specs.Shape.{columnsInRange}
 use Rattle.lists.specs.Tabulate.{every}
+use Rattle.lists.proofs.Tabulated.{every-at}
 use Rattle.refusal.specs.Number.{number}
 use Rattle.refusal.specs.Outcome.{passed, refused, outcome, outcomeOf}
 use Rattle.refusal.specs.declared.Checked.{Checked}
@@ -37,6 +40,16 @@ pub by-search-tests : (n : ℕ) (σ : List ℕ) (range below : Bool) → columns
 unfolding searchTests
 by-search-tests n σ range below e g = sym (ap₂ (λ (a b : Bool). cond (not a) (refused 5) (cond (not b) (refused 4) passed)) e g)
 
+-- where they pass
+pub in-range : (n : ℕ) (σ : List ℕ) → outcome (searchTests n σ) ≡ passed → n ≤ 256
+unfolding searchTests columnsInRange
+in-range n σ e = leb-true n 256 (and-eq-true-iff (leb 2 n) (leb n 256) .0 (no-fail _ (passed-pass (searchTests n σ) e .0)) .1)
+
+pub taps-below : (n : ℕ) (σ : List ℕ) → outcome (searchTests n σ) ≡ passed → (k : ℕ) → getD σ k 0 < 257
+unfolding searchTests
+taps-below n σ e =
+    residues-past 257 σ (omega arith) (λ k l. ltb-true _ _ (every-at (length σ) _ (no-fail _ (passed-pass (searchTests n σ) e .1 .0)) k l))
+
 -- ---- the answer
 
 module _ (n : ℕ) (σ : List ℕ) {v : Checked} (tested : outcomeOf v ≡ outcome (searchTests n σ)) where
@@ -51,8 +64,7 @@ module _ (n : ℕ) (σ : List ℕ) {v : Checked} (tested : outcomeOf v ≡ outco
     passes = sym tested ∙ ap outcomeOf e
 
     pub few-columns : n ≤ 256
-    unfolding searchTests columnsInRange
-    few-columns = leb-true n 256 (and-eq-true-iff (leb 2 n) (leb n 256) .0 (no-fail _ (passed-pass (searchTests n σ) passes .0)) .1)
+    few-columns = in-range n σ passes
 
     pub answer-found : {r : Sought} → r ≡ sought n σ → answerOf (record { checked = v; sought = r }) ≡ answer n σ
     unfolding answer

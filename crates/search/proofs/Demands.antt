@@ -6,23 +6,21 @@ use mathlib.Core.List.{List}
 use Prim.Native.Nat.{ℕ, _-_, _%_, _≤_, _<_}
 use native.Mathlib.Decide.{decLt}
 use native.Mathlib.Omega.{arith}
-use lib.Dec.{leb, ltb}
+use lib.Dec.{ltb}
 use lib.ListN.{length, getD}
-use borrow.Author.Tests.{lt-ltb, ltb-true, leb-true}
+use borrow.Author.Tests.{lt-ltb, ltb-true}
 use Rattle.columns.specs.Columns.{has}
 use Rattle.columns.proofs.Marks.{has-columnsOf, has-past, columnsOf-sound}
 use Rattle.decoding.specs.Locating.{isRoot}
 use Rattle.decoding.specs.Search.{triedFor, soughtColumns}
 use Rattle.decoding.proofs.Sought.{root-tried, first-found}
 use Rattle.decoding.proofs.Tried.{tried-least}
-use Rattle.field.proofs.Coefficients.{residues-past}
-use Rattle.frame.specs.Shape.{columnsInRange}
 use Rattle.frame.proofs.Reasons.{columns-says, symbols-says}
-use Rattle.lists.proofs.Tabulated.{every-at}
 use Rattle.refusal.specs.Order.{Test, First}
 use Rattle.refusal.specs.Outcome.{passed, refused, outcome}
-use Rattle.refusal.proofs.Orders.{Pass, SayAll, firstOf-map, no-fail, outcome-refused, passed-pass}
+use Rattle.refusal.proofs.Orders.{SayAll, firstOf-map, outcome-refused}
 use Rattle.refusal.proofs.Outcomes.{given-passed, given-refused}
+use Rattle.search.proofs.Answers.{in-range, taps-below}
 use Rattle.search.specs.Demands.{reasons, Demand1, Finds, Demand2}
 use Rattle.search.specs.Search.{Answer, nothing, sought, searchTests, answer}
 
@@ -82,15 +80,7 @@ module _ (n : ℕ) (σ : List ℕ) (few : n ≤ 256) (below : (k : ℕ) → getD
         zeros = λ zeros. let z = first-found n σ (λ k. ap (λ (m : ℕ). m % 257) (zeros k)) in (z .tried, z .roots);
       }
 
--- the tests pass where the columns are in their range and the taps are below 257
-passed-bounds : (n : ℕ) (σ : List ℕ) → Pass (searchTests n σ) → (n ≤ 256) × ((k : ℕ) → getD σ k 0 < 257)
-unfolding searchTests columnsInRange
-passed-bounds n σ (range, (taps, u)) = (
-  leb-true n 256 (and-eq-true-iff (leb 2 n) (leb n 256) .0 (no-fail _ range) .1),
-  residues-past 257 σ (omega arith) (λ k l. ltb-true _ _ (every-at (length σ) _ (no-fail _ taps) k l)),
-)
-
 pub demand-2 : Demand2
 demand-2 n σ e =
-    let (few, below) = passed-bounds n σ (passed-pass (searchTests n σ) (sym (outcome-is n σ) ∙ e)) in
-    subst⁻¹ (λ r. Finds n σ (r .columns) (r .tried)) (passed-sought n σ e) (finds n σ few below)
+    let passes = sym (outcome-is n σ) ∙ e in
+    subst⁻¹ (λ r. Finds n σ (r .columns) (r .tried)) (passed-sought n σ e) (finds n σ (in-range n σ passes) (taps-below n σ passes))

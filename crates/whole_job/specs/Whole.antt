@@ -18,4 +18,4 @@ abbrev pub reshapedOf : Reshaped → Shaped.Reshaped
 reshapedOf r = record { checked = r .checked; head = r .job .head }
 
 abbrev pub answeredOf : Answered → Library.Answered
-answeredOf r = record { reply = r .reply; columns = r .columns; head = r .job .head }
+answeredOf r = record { reply = r .reply; columns = r .columns; tried = r .tried; head = r .job .head }

@@ -8,7 +8,7 @@ ghost use mathlib.Core.Path.{_≡_};
 ghost use lib.ListN.{replicate};
 ghost use Rattle.job.specs.Answers.{shapeOutcome, encodeOutcome, answeredOutcome};
 ghost use Rattle.job.specs.Calls.{step, shape, encode, locate, repair};
-ghost use Rattle.job.specs.Job.{Arrays, beside, emptyHead};
+ghost use Rattle.job.specs.Job.{emptyHead};
 ghost use Rattle.whole_job.specs.Whole.{arraysOf, jobOf, reshapedOf, answeredOf};
 
 pub struct Job {
@@ -28,6 +28,7 @@ pub struct Reshaped {
 pub struct Answered {
     pub reply: Reply,
     pub columns: Columns,
+    pub tried: usize,
     pub job: Job,
 }
 
@@ -93,6 +94,7 @@ pub fn locate(j: Job, declared: &[u64; 32], frame: &[u16]) -> Answered
     Answered {
         reply,
         columns,
+        tried: answer.tried,
         job,
     }
 }
@@ -116,6 +118,7 @@ pub fn repair(j: Job, frame: &mut [u16]) -> Answered
     Answered {
         reply,
         columns,
+        tried: answer.tried,
         job,
     }
 }
