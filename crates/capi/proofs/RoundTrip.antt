@@ -1,4 +1,4 @@
--- A head that goes through the C interface and comes back is the same head, whatever it holds; and two mirrors to the number.
+-- A head that goes through the C interface and comes back is the same head, whatever it holds; and mirrors of heads and answers to the number.
 use mathlib.Core.Path.{_≡_, refl, ap}
 use mathlib.Core.Bool.{true, false}
 use Rattle.columns.specs.Columns.{columnsOf, number}
@@ -6,7 +6,7 @@ use Rattle.frame.specs.Shape.{shapeOf}
 use Rattle.job.specs.Job.{noColumns}
 use Rattle.job.specs.declared.Phase.{Phase}
 use Rattle.job.specs.declared.Phase.the-variants.{Empty, Shaped, Located}
-use Rattle.capi.specs.Mirror.{phaseOf, phaseNumber, phaseLength, phaseAlone, ThereAndBack, EmptyMirror, LocatedMirror}
+use Rattle.capi.specs.Mirror.{phaseOf, phaseNumber, phaseLength, phaseAlone, ThereAndBack, EmptyMirror, LocatedMirror, AnswerMirrors}
 
 same-phase : (p : Phase) → phaseOf (phaseNumber p) (phaseLength p) (phaseAlone p) ≡ p
 same-phase Empty = refl
@@ -25,3 +25,7 @@ empty-mirror = refl
 pub located-mirror : LocatedMirror
 unfolding shapeOf columnsOf number
 located-mirror = refl
+
+pub answer-mirrors : AnswerMirrors
+unfolding columnsOf number
+answer-mirrors = record { located = λ j f. refl; found = refl; refused = refl }

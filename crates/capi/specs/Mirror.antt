@@ -144,6 +144,21 @@ answeredOf o =
       head = mirrorOf (o .job .head);
     }
 
+-- To the number: the answer of three columns of which the last was the 256th tried, whatever job and frame are left; the same of a search; and a search
+-- refused by 5. Proved in proofs/RoundTrip.antt.
+pub record AnswerMirrors : Type 0 where
+  pub located :
+      (j : Job) (f : List ℕ) →
+      answeredOf (record { answer = Calls.columns 3; marks = columnsOf (λ i. eqb i 0 || (eqb i 65 || eqb i 255)); tried = 256; job = j; frame = f }) .answer ≡
+      record { refusal = 0; count = 3; tried = 256; marks = 1 ∷ 2 ∷ 0 ∷ 9223372036854775808 ∷ [] }
+  pub found :
+      columnsFor
+      (record { outcome = Tested.passed; sought = record { columns = columnsOf (λ i. eqb i 0 || (eqb i 65 || eqb i 255)); tried = 256 } }) ≡
+      record { refusal = 0; tried = 256; marks = 1 ∷ 2 ∷ 0 ∷ 9223372036854775808 ∷ [] }
+  pub refused :
+      columnsFor (record { outcome = Tested.refused 5; sought = Search.nothing }) ≡
+      record { refusal = 5; tried = 0; marks = 0 ∷ 0 ∷ 0 ∷ 0 ∷ [] }
+
 -- C reads off the number whether something is refused: it is 0 exactly where nothing is. Proved in proofs/Zero.antt.
 pub record ZeroIsNoRefusal : Type 0 where
   pub call : (j : Job) (c : Call) → (refusalOf (step j c .answer) ≡ 0) ↔ (IsRefused (step j c) → ⊥)

@@ -63,14 +63,14 @@ module _ (c : ℕ) (σ : List ℕ) (taps : length σ ≡ suc c) where
       res-value c σ (inverse 257 (locatorOf i)) taps
       ∙ ap (eval R257 c (poly257 σ)) (res-inverse 257 prime-257 (locatorOf i) ∙ ap inv (res-locator i))
 
-  roots-are : (n : ℕ) → Roots F257 n locatorAt (isRoot σ) c (poly257 σ)
-  roots-are n i below e = sym (res-root i) ∙ ap res257 (eqb-true _ 0 e) ∙ res-zero 257 prime-257
+  roots-at : (n : ℕ) → Roots F257 n locatorAt (isRoot σ) c (poly257 σ)
+  roots-at n i below e = sym (res-root i) ∙ ap res257 (eqb-true _ 0 e) ∙ res-zero 257 prime-257
 
   -- taps that are not all 0 have no more roots than the length
   pub roots-most : (n k : ℕ) → n ≤ 256 → poly257 σ k ≢ 𝟘 → count n (isRoot σ) ≤ c
   roots-most n k few apart =
       roots-at-most F257 n locatorAt (below-distinct n few) (λ i _. locator-nonzero i) (isRoot σ) c (poly257 σ)
-      (poly-degree 257 prime-257 c σ taps) (roots-are n) k apart
+      (poly-degree 257 prime-257 c σ taps) (roots-at n) k apart
 
 module _ (s : Shape) (c : ℕ) (σ : List ℕ) (register : Register 257 c σ) where
   taps : length σ ≡ suc c
@@ -78,7 +78,7 @@ module _ (s : Shape) (c : ℕ) (σ : List ℕ) (register : Register 257 c σ) wh
 
   pub named-roots : Roots F257 (s .columns) locatorAt (named s σ) c (poly257 σ)
   unfolding named
-  named-roots i below e = roots-are c σ taps (s .columns) i below (and-eq-true-iff (ltb i (s .columns)) _ .0 e .1)
+  named-roots i below e = roots-at c σ taps (s .columns) i below (and-eq-true-iff (ltb i (s .columns)) _ .0 e .1)
 
   pub root-named : (i : ℕ) → i < s .columns → eval R257 c (poly257 σ) (inv (locatorAt i)) ≡ 𝟘 → named s σ i ≡ true
   unfolding named value

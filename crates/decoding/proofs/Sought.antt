@@ -2,18 +2,18 @@
 use mathlib.Core.Path.{_≡_, refl, sym, ap, _∙_}
 use mathlib.Core.Bool.{Bool, true, false, _&&_, and-false}
 use mathlib.Core.List.{List, [], _∷_}
-use Prim.Native.Nat.{ℕ, suc, _-_, _*_, _%_, _^_, _≤_, _<_, min, zero-le}
+use Prim.Native.Nat.{ℕ, suc, _-_, _*_, _%_, _^_, _≤_, min, zero-le}
 use native.Mathlib.Nat.{mod-lt, zero-mul}
 use native.Mathlib.Decide.{decLt}
 use native.Mathlib.Omega.{arith}
 use lib.Dec.{ltb, lit<}
 use lib.ListN.{length, getD}
-use borrow.Author.Tests.{lt-ltb, le-ltb, eq-eqb}
+use borrow.Author.Tests.{lt-ltb, le-ltb, eq-eqb, eqb-true}
 use Rattle.columns.specs.Listed.{count}
 use Rattle.columns.proofs.Listing.{count-all, count-lt}
 use Rattle.columns.proofs.Marks.{columnsOf-ext}
 use Rattle.decoding.specs.Locating.{isRoot, named, namedColumns}
-use Rattle.decoding.specs.Search.{tried, triedFor, soughtColumns, NoneLost, FirstFound}
+use Rattle.decoding.specs.Search.{tried, triedFor, soughtColumns, RootsAre, FewRoots, NoneLost, FirstFound}
 use Rattle.decoding.proofs.NamedColumns.{roots-most}
 use Rattle.decoding.proofs.Tried.{tried-least, tried-ext}
 use Rattle.field.specs.Coefficients.{value}
@@ -24,25 +24,33 @@ use Rattle.field.proofs.Remainders.{mod-mul-mod}
 use Rattle.field257.specs.Powers.{locatorOf}
 use Rattle.frame.specs.declared.Shape.{Shape}
 use Rattle.field257.proofs.Field257.{res-tells-zero}
+use Rattle.field257.proofs.Locators.{inverse-is}
 use Rattle.lists.specs.Total.{total}
 use Rattle.lists.proofs.Totals.{total-bound, total-ext, total-mod}
+
+pub roots-are : RootsAre
+unfolding value
+roots-are σ i y small e = (λ root. sym (ap (value 257 σ) is) ∙ eqb-true _ 0 root, λ zero. eq-eqb _ 0 (ap (value 257 σ) is ∙ zero))
+  where
+    is : inverse 257 (locatorOf i) ≡ y
+    is = inverse-is i y small e
 
 not-empty : (σ : List ℕ) (k : ℕ) → (getD σ k 0 % 257 ≡ 0 → ⊥) → length σ ≡ suc (length σ - 1)
 not-empty [] k apart = absurd (apart refl)
 not-empty (x ∷ σ) k apart = omega arith
 
-module _ (n : ℕ) (σ : List ℕ) (few : n ≤ 256) (k : ℕ) (apart : getD σ k 0 % 257 ≡ 0 → ⊥) where
-  at-most : count n (isRoot σ) ≤ length σ - 1
-  at-most =
-      roots-most (length σ - 1) σ (not-empty σ k apart) n k few
-      (λ e. apart (res-tells-zero (getD σ k 0 % 257) (mod-lt _ (lit< tt)) (res-mod 257 prime-257 (getD σ k 0) ∙ e)))
+pub few-roots : FewRoots
+few-roots n σ few k apart =
+    roots-most (length σ - 1) σ (not-empty σ k apart) n k few
+    (λ e. apart (res-tells-zero (getD σ k 0 % 257) (mod-lt _ (lit< tt)) (res-mod 257 prime-257 (getD σ k 0) ∙ e)))
 
+module _ (n : ℕ) (σ : List ℕ) (few : n ≤ 256) (k : ℕ) (apart : getD σ k 0 % 257 ≡ 0 → ⊥) where
   -- each root among the columns is tried
   pub root-tried : (i : ℕ) → isRoot σ i ≡ true → ltb i (triedFor n σ) ≡ ltb i n
   unfolding triedFor
   root-tried i e = elim (decLt i n) [
     | yes below ↦ lt-ltb i _
-        (tried-least .goes-on n (isRoot σ) (length σ - 1) i below (omega (arith, count-lt i n (isRoot σ) below e, at-most)))
+        (tried-least .goes-on n (isRoot σ) (length σ - 1) i below (omega (arith, count-lt i n (isRoot σ) below e, few-roots n σ few k apart)))
         ∙ sym (lt-ltb i n below)
     | no past ↦ le-ltb i _ (omega (arith, tried-least .most n (isRoot σ) (length σ - 1))) ∙ sym (le-ltb i n (omega arith))
   ]

@@ -1,15 +1,17 @@
--- The search for the columns that a register names (SPECIFICATION.md, "Search"). It goes up from column 0 and ends as soon as it has found as many as the register
--- is long: how many columns it tries, and which it finds. What is owed of it is proved in proofs/{Tried,Sought}.antt.
+-- The search for the columns that a register names (SPECIFICATION.md, "Search"). It goes up from column 0 and ends as soon as it has found as many as the
+-- register is long: how many columns it tries, and which it finds. What is owed of it is proved in proofs/{Tried,Sought}.antt.
 use mathlib.Core.Path.{_≡_}
+use mathlib.Core.Logic.{_↔_}
 use mathlib.Core.Bool.{Bool, true, cond, _&&_}
 use mathlib.Core.List.{List}
-use Prim.Native.Nat.{ℕ, zero, suc, _-_, _%_, _≤_, _<_, min}
+use Prim.Native.Nat.{ℕ, zero, suc, _-_, _*_, _%_, _^_, _≤_, _<_, min}
 use lib.Dec.{ltb}
 use lib.ListN.{length, getD}
 use Rattle.columns.specs.Columns.{columnsOf}
 use Rattle.columns.specs.Listed.{count, listed}
 use Rattle.columns.specs.declared.Columns.{Columns}
 use Rattle.frame.specs.declared.Shape.{Shape}
+use Rattle.lists.specs.Total.{total}
 use Rattle.decoding.specs.Locating.{isRoot, namedColumns}
 
 -- How many of n columns are tried for c that pass P: none where c is 0, else up to and with the c-th that passes, and all n where fewer pass.
@@ -32,8 +34,18 @@ pub record TriedLeast : Type 0 where
   pub ends : (n : ℕ) (P : ℕ → Bool) (c i : ℕ) → c ≤ count i P → tried n P c ≤ i
   pub goes-on : (n : ℕ) (P : ℕ → Bool) (c i : ℕ) → i < n → count i P < c → i < tried n P c
 
--- No column is lost: what is found is every column that the taps name, at most as many as the register is long. So it is for taps that are not all 0 modulo 257,
--- as a register's never are, its first tap being 1.
+-- A root in the words of the specification: y is the inverse of 3^i.
+abbrev pub RootsAre : Type 0
+RootsAre =
+    (σ : List ℕ) (i y : ℕ) → y < 257 → (3 ^ i * y) % 257 ≡ 1 →
+    (isRoot σ i ≡ true) ↔ (total (length σ) (λ k. getD σ k 0 * y ^ k) % 257 ≡ 0)
+
+-- Taps that are not all 0 modulo 257, as a register's never are, its first tap being 1, have at most as many roots among the columns as the register is long.
+abbrev pub FewRoots : Type 0
+FewRoots =
+    (n : ℕ) (σ : List ℕ) → n ≤ 256 → (k : ℕ) → (getD σ k 0 % 257 ≡ 0 → ⊥) → count n (isRoot σ) ≤ length σ - 1
+
+-- So no column is lost: what is found is every column that they name.
 abbrev pub NoneLost : Type 0
 NoneLost =
     (s : Shape) (σ : List ℕ) → s .columns ≤ 256 → (k : ℕ) → (getD σ k 0 % 257 ≡ 0 → ⊥) →

@@ -4,7 +4,7 @@ use mathlib.Core.Path.{_≡_, refl, sym, ap, _∙_}
 use mathlib.Core.Logic.{_≢_}
 use mathlib.Core.Bool.{true, not}
 use Prim.Native.Nat.{ℕ, zero, suc, _+_, _-_, _*_, _/_, _%_, _^_, _≤_, _<_}
-use native.Mathlib.Nat.{mod-add-div, mod-mod}
+use native.Mathlib.Nat.{mod-add-div, mod-lt, mod-mod}
 use native.Mathlib.Decide.{decLt}
 use native.Mathlib.Omega.{arith}
 use lib.Dec.{eqb}
@@ -14,12 +14,12 @@ use Rattle.algebra.specs.Ring.{CRing, Field}
 use Rattle.algebra.specs.Sum.{pow}
 use Rattle.algebra.proofs.FieldLaws.{mul-cancel, power-nonzero, inverse-unique}
 use Rattle.algebra.proofs.Powers.{pow-add, pow-one, pow-pow}
-use Rattle.field.proofs.Bridge.{res-same, res-is-zero, res-one, res-pow, res-inverse}
+use Rattle.field.proofs.Bridge.{res-same, res-is-zero, res-one, res-mod, res-mul, res-pow, res-inverse}
 use Rattle.field.proofs.Prime257.{prime-257}
 use Rattle.field.specs.Residue.{inverse}
 use Rattle.lists.specs.Tabulate.{every}
 use Rattle.lists.proofs.Tabulated.{every-at}
-use Rattle.field257.proofs.Field257.{F257, R257, res257, locatorAt, res-locator}
+use Rattle.field257.proofs.Field257.{F257, R257, res257, res-tells, locatorAt, res-locator}
 use Rattle.field257.specs.Powers.{powerOf3, locatorOf}
 open CRing R257 using (car, zero as 𝟘, one as 𝟙, mul as _⊗_, mul-one)
 open Field F257 using (inv)
@@ -93,3 +93,14 @@ inverse-power i h =
     ∙ res-same 257 prime-257 (inverse 257 (locatorOf i)) (powerOf3 (256 - i)) .0
     (res-inverse 257 prime-257 (locatorOf i) ∙ ap inv (res-locator i) ∙ locator-inverse i h ∙ sym (res-locator (256 - i)))
     ∙ mod-mod (3 ^ (256 - i)) 257
+
+-- and is told by its product with the locator
+pub inverse-is : (i y : ℕ) → y < 257 → (3 ^ i * y) % 257 ≡ 1 → inverse 257 (locatorOf i) ≡ y
+inverse-is i y small e =
+    res-tells (inverse 257 (locatorOf i)) y (mod-lt _ (omega arith)) small
+    (res-inverse 257 prime-257 (locatorOf i) ∙ ap inv (res-locator i) ∙ sym (inverse-unique F257 (locatorAt i) (res257 y) product))
+  where
+    product : locatorAt i ⊗ res257 y ≡ 𝟙
+    product =
+        ap (λ x. x ⊗ res257 y) (sym (res-pow 257 prime-257 3 i)) ∙ sym (res-mul 257 prime-257 (3 ^ i) y) ∙ sym (res-mod 257 prime-257 (3 ^ i * y))
+        ∙ ap res257 e ∙ res-one 257 prime-257

@@ -14,9 +14,9 @@ use Rattle.lists.specs.Tabulate.{every}
 use Rattle.lists.proofs.Tabulated.{every-at, every-of, every-witness, every-ext}
 use Rattle.refusal.proofs.Orders.{Pass, no-fail, Says, SayAll, says-not}
 use Rattle.refusal.proofs.Ranges.{outside-says}
-use Rattle.frame.specs.Demands.{BadChecks, columnsReason, shapeReasons, encodeReasons, frameReasons, sizeReason}
+use Rattle.frame.specs.Demands.{BadChecks, columnsReason, shapeReasons, encodeReasons, frameReasons, sizeReason, symbolsReason}
 use Rattle.frame.specs.Encode.{encodeTests, dataBelow}
-use Rattle.frame.specs.Frame.{cell, WellFormed, frameTests}
+use Rattle.frame.specs.Frame.{cell, WellFormed, symbolsTest, frameTests}
 use Rattle.frame.specs.Shape.{checksOf, shapeOf, columnsTest, shapeTests, isShape, rowsInRange, columnsInRange, checksInRange, exponentInRange}
 use Rattle.frame.specs.declared.Shape.{Shape}
 use Rattle.frame.proofs.ShapeTests.{countTest, count-taken}
@@ -97,8 +97,7 @@ encode-says s f = (
         let (c, x) = both _ _ q in
         (h, i, r, ltb-false _ _ c, n, ltb-false _ _ x)
 
-pub symbols-says : (f : List ℕ) → Says (record { number = 4; fails = not (every (length f) (λ k. ltb (getD f k 0) 257)) })
-    (record { number = 4; holds = (k : ℕ) × (k < length f) × (257 ≤ getD f k 0) })
+pub symbols-says : (f : List ℕ) → Says (symbolsTest f) (symbolsReason f)
 symbols-says f =
     says-not 4 (every (length f) (λ k. ltb (getD f k 0) 257)) _
     (λ e (k, l, x). let b : getD f k 0 < 257 = ltb-true (getD f k 0) 257 (every-at (length f) _ e k l) in omega (arith, x))

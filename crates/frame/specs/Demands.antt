@@ -46,8 +46,11 @@ encodeReasons s f =
     } ∷
     []
 
+abbrev pub symbolsReason : (f : List ℕ) → Reason
+symbolsReason f = record { number = 4; holds = (k : ℕ) × (k < length f) × (257 ≤ getD f k 0) }
+
 abbrev pub frameReasons : Shape → (f : List ℕ) → List Reason
-frameReasons s f = sizeReason s f ∷ record { number = 4; holds = (k : ℕ) × (k < length f) × (257 ≤ getD f k 0) } ∷ []
+frameReasons s f = sizeReason s f ∷ symbolsReason f ∷ []
 
 pub record Demand1 : Type 0 where
   pub shape :

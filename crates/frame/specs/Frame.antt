@@ -61,12 +61,13 @@ pub record WellFormed (s : Shape) (f : List ℕ) : Type 0 where
   pub size : length f ≡ s .rows * s .columns
   pub symbols : (k : ℕ) → k < length f → getD f k 0 < 257
 
+-- some symbol is not below 257
+abbrev pub symbolsTest : (f : List ℕ) → Test
+symbolsTest f = record { number = 4; fails = not (every (length f) (λ k. ltb (getD f k 0) 257)) }
+
 -- the refusals of a frame that is not well-formed, in their order
 unfoldable pub frameTests : Shape → (f : List ℕ) → List Test
-frameTests s f =
-    record { number = 7; fails = not (eqb (length f) (s .rows * s .columns)) } ∷
-    record { number = 4; fails = not (every (length f) (λ k. ltb (getD f k 0) 257)) } ∷
-    []
+frameTests s f = record { number = 7; fails = not (eqb (length f) (s .rows * s .columns)) } ∷ symbolsTest f ∷ []
 
 -- every check sum of every row is 0
 abbrev pub Codeword : Shape → (f : List ℕ) → Type 0

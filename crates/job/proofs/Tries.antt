@@ -1,4 +1,4 @@
--- A locate that is not refused tries the columns up to and with the last one that it marks.
+-- A locate that is not refused tries the columns up to and with the last one that it marks, and no other call tries any.
 use mathlib.Core.Path.{_≡_, refl, sym, _∙_}
 use mathlib.Core.Logic.{_⊎_, inl, inr}
 use mathlib.Core.Bool.{true, false, and-eq-true-iff}
@@ -16,10 +16,10 @@ use Rattle.frame.specs.Shape.{isShape}
 use Rattle.frame.specs.declared.Shape.{Shape}
 use Rattle.frame.proofs.Shapes.{shape-ranges}
 use Rattle.refusal.proofs.Orders.{Pass, no-fail}
-use Rattle.job.specs.Calls.{locate, describe, registerTests}
+use Rattle.job.specs.Calls.{Call, shape, encode, locate, repair, describe, registerTests, step}
 use Rattle.job.specs.Job.{Job, isEmpty}
 use Rattle.job.specs.Runs.{run, Taken}
-use Rattle.job.specs.Tries.{UpToLast, LocateTries}
+use Rattle.job.specs.Tries.{UpToLast, LocateTries, OthersTryNone}
 use Rattle.job.proofs.Cases.{by-call}
 use Rattle.job.proofs.Forms.{has-shape}
 
@@ -60,3 +60,16 @@ pub locate-tries : LocateTries
 locate-tries a calls words f =
     by-call (run a calls) (locate words f) (λ o. Taken o → UpToLast (o .marks) (o .tried)) (λ k m taken. absurd (taken (k, refl)))
     (λ k p m taken. absurd (taken (k, refl))) (λ p q taken. gives-tried (run a calls) words f (p .0) q)
+
+-- ---- the other calls
+
+none-tried : (j : Job) (c : Call) → describe j c .gives .tried ≡ 0 → step j c .tried ≡ 0
+none-tried j c given = by-call j c (λ o. o .tried ≡ 0) (λ k m. refl) (λ k p m. refl) (λ p q. given)
+
+pub others-try-none : OthersTryNone
+others-try-none =
+    record {
+      shape = λ j n checks b. none-tried j (shape n checks b) refl;
+      encode = λ j f. none-tried j (encode f) refl;
+      repair = λ j f. none-tried j (repair f) refl;
+    }

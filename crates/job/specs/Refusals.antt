@@ -105,7 +105,8 @@ lentTo (encode f) = f
 lentTo (locate words f) = f
 lentTo (repair f) = f
 
--- a call refused by the number k leaves the frame as it was lent, marks nothing and tells of no column tried; the job is shaped after a late refusal, and as it was after any other
+-- a call refused by the number k leaves the frame as it was lent, marks nothing and tells of no column tried; the job is shaped after a late refusal, and as
+-- it was after any other
 pub record Refused (j : Job) (c : Call) (k : ℕ) (o : Outcome) : Type 0 where
   pub frame : o .frame ≡ lentTo c
   pub marks : o .marks ≡ noColumns

@@ -1,4 +1,5 @@
--- How many columns a locate tries in its search for those to mend, told by the columns that it marks (SPECIFICATION.md, "Search"). Proved in proofs/Tries.antt.
+-- How many columns a call tells as tried: a locate by the columns that it marks, every other call none (SPECIFICATION.md, "Search"). Proved in
+-- proofs/Tries.antt.
 use mathlib.Core.Path.{_≡_}
 use mathlib.Core.Logic.{_⊎_}
 use mathlib.Core.Bool.{true}
@@ -6,8 +7,8 @@ use mathlib.Core.List.{List}
 use Prim.Native.Nat.{ℕ, suc, _<_}
 use Rattle.columns.specs.Columns.{has}
 use Rattle.columns.specs.declared.Columns.{Columns}
-use Rattle.job.specs.Calls.{Call, locate}
-use Rattle.job.specs.Job.{Arrays}
+use Rattle.job.specs.Calls.{Call, shape, encode, locate, repair, step}
+use Rattle.job.specs.Job.{Arrays, Job}
 use Rattle.job.specs.Runs.{afterCalls, Taken}
 
 -- the columns of J are below t, and t is 0 or one more than one of them
@@ -21,3 +22,9 @@ abbrev pub LocateTries : Type 0
 LocateTries =
     (a : Arrays) (calls : List Call) (words f : List ℕ) → Taken (afterCalls a calls (locate words f)) →
     UpToLast (afterCalls a calls (locate words f) .marks) (afterCalls a calls (locate words f) .tried)
+
+-- The other calls search for no columns, whatever the job and what is lent.
+pub record OthersTryNone : Type 0 where
+  pub shape : (j : Job) (n : ℕ) (checks : List ℕ) (b : ℕ) → step j (shape n checks b) .tried ≡ 0
+  pub encode : (j : Job) (f : List ℕ) → step j (encode f) .tried ≡ 0
+  pub repair : (j : Job) (f : List ℕ) → step j (repair f) .tried ≡ 0

@@ -89,7 +89,8 @@ module _ {s : Shape} {words sums : List ℕ} {l : ℕ} {a : Bool} {buffer : List
   -- and how many it tries
   number-tried : triedFor (s .columns) (tapsOf ss) ≡ tried (s .columns) (named s (tapsOf ss)) (sizeOf ss)
   number-tried =
-      tried-named s (tapsOf ss) ∙ ap (tried (s .columns) (named s (tapsOf ss))) (let t = taps-length in let n : length (tapsOf ss) - 1 ≡ sizeOf ss = omega arith in n)
+      tried-named s (tapsOf ss)
+      ∙ ap (tried (s .columns) (named s (tapsOf ss))) (let t = taps-length in let n : length (tapsOf ss) - 1 ≡ sizeOf ss = omega arith in n)
 
   module _ (before : Arrays) (f : List ℕ) where
     -- what is given for the register that was seen

@@ -11,7 +11,7 @@ use heads::states::shaped;
 use job::Answered;
 use refusal::Refusal;
 use remaining::completable::is_completable;
-use search::roots::named_columns;
+use search::roots::sought_columns;
 ghost use mathlib.Core.Path.{_≡_};
 ghost use mathlib.Core.List.{List};
 ghost use Prim.Native.Nat.{ℕ};
@@ -69,7 +69,7 @@ pub fn locate_from(
         return refuse(shaped(s), Refusal::ShortRow);
     }
     let end = length + 1;
-    let sought = named_columns(s.columns, &register[0..end]);
+    let sought = sought_columns(s.columns, &register[0..end]);
     let named = sought.columns;
     if columns::size(named) < length {
         return refuse(shaped(s), Refusal::NoFrame);

@@ -13,7 +13,7 @@ use Rattle.columns.specs.Columns.{has}
 use Rattle.columns.proofs.Marks.{has-columnsOf, has-past, columnsOf-sound}
 use Rattle.decoding.specs.Locating.{isRoot}
 use Rattle.decoding.specs.Search.{triedFor, soughtColumns}
-use Rattle.decoding.proofs.Sought.{root-tried, first-found}
+use Rattle.decoding.proofs.Sought.{few-roots, root-tried, first-found}
 use Rattle.decoding.proofs.Tried.{tried-least}
 use Rattle.frame.proofs.Reasons.{columns-says, symbols-says}
 use Rattle.refusal.specs.Order.{Test, First}
@@ -69,14 +69,17 @@ module _ (n : ℕ) (σ : List ℕ) (few : n ≤ 256) (below : (k : ℕ) → getD
     )
   ]
 
+  not-zero : (k : ℕ) → (getD σ k 0 ≡ 0 → ⊥) → getD σ k 0 % 257 ≡ 0 → ⊥
+  not-zero k apart e = apart (omega (arith, below k, e))
+
   finds : Finds n σ (soughtColumns n σ) (triedFor n σ)
   unfolding triedFor
   finds =
       record {
         tried = refl;
         found = found-tried;
-        none-lost = λ k apart i inside root.
-            ltb-true i _ (root-tried n σ few k (λ e. apart (omega (arith, below k, e))) i root ∙ lt-ltb i n inside);
+        few = λ k apart. few-roots n σ few k (not-zero k apart);
+        none-lost = λ k apart i inside root. ltb-true i _ (root-tried n σ few k (not-zero k apart) i root ∙ lt-ltb i n inside);
         zeros = λ zeros. let z = first-found n σ (λ k. ap (λ (m : ℕ). m % 257) (zeros k)) in (z .tried, z .roots);
       }
 

@@ -6,17 +6,18 @@ use mathlib.Core.List.{List, [], _∷_}
 use Prim.Native.Nat.{ℕ, _-_, _≤_, _<_, min}
 use lib.ListN.{length, getD}
 use Rattle.columns.specs.Columns.{has}
+use Rattle.columns.specs.Listed.{count}
 use Rattle.columns.specs.declared.Columns.{Columns}
 use Rattle.decoding.specs.Locating.{isRoot}
 use Rattle.decoding.specs.Search.{tried}
-use Rattle.frame.specs.Demands.{columnsReason}
+use Rattle.frame.specs.Demands.{columnsReason, symbolsReason}
 use Rattle.refusal.specs.Order.{Reason, First}
 use Rattle.refusal.specs.Outcome.{passed, refused}
 use Rattle.search.specs.Search.{nothing, answer}
 
 -- the refusals in their order, each with its reason in the words of the specification
 abbrev pub reasons : (n : ℕ) (σ : List ℕ) → List Reason
-reasons n σ = columnsReason n ∷ record { number = 4; holds = (k : ℕ) × (k < length σ) × (257 ≤ getD σ k 0) } ∷ []
+reasons n σ = columnsReason n ∷ symbolsReason σ ∷ []
 
 -- Demand 1 for the search: each number is answered exactly where its reason is the first that holds, and carries nothing besides.
 pub record Demand1 : Type 0 where
@@ -29,7 +30,9 @@ pub record Finds (n : ℕ) (σ : List ℕ) (J : Columns) (t : ℕ) : Type 0 wher
   pub tried : t ≡ tried n (isRoot σ) (length σ - 1)
   -- the roots among the columns tried are found, and no others
   pub found : (i : ℕ) → (has J i ≡ true) ↔ ((i < t) × (isRoot σ i ≡ true))
-  -- unless all taps are 0 these are the roots among all columns
+  -- unless all taps are 0 no more than c of the columns are roots
+  pub few : (k : ℕ) → (getD σ k 0 ≡ 0 → ⊥) → count n (isRoot σ) ≤ length σ - 1
+  -- and all of these are tried
   pub none-lost : (k : ℕ) → (getD σ k 0 ≡ 0 → ⊥) → (i : ℕ) → i < n → isRoot σ i ≡ true → i < t
   -- where they are, every column is a root, and the first c columns are found
   pub zeros : ((k : ℕ) → getD σ k 0 ≡ 0) → (t ≡ min n (length σ - 1)) × ((i : ℕ) → isRoot σ i ≡ true)

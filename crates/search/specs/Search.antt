@@ -1,13 +1,11 @@
 -- What the search answers for any taps and any number of columns (SPECIFICATION.md, "Search", and the refusals 5, 4 in this order).
-use mathlib.Core.Bool.{false, not}
+use mathlib.Core.Bool.{false}
 use mathlib.Core.List.{List, [], _∷_}
 use Prim.Native.Nat.{ℕ}
-use lib.Dec.{ltb}
-use lib.ListN.{length, getD}
 use Rattle.columns.specs.Columns.{columnsOf}
 use Rattle.decoding.specs.Search.{triedFor, soughtColumns}
+use Rattle.frame.specs.Frame.{symbolsTest}
 use Rattle.frame.specs.Shape.{columnsTest}
-use Rattle.lists.specs.Tabulate.{every}
 use Rattle.refusal.specs.Order.{Test, firstOf}
 use Rattle.refusal.specs.Outcome.{Outcome, passed, refused, outcomeOf}
 use Rattle.search.specs.declared.Searched.{Searched}
@@ -31,8 +29,7 @@ sought n σ = record { columns = soughtColumns n σ; tried = triedFor n σ }
 
 -- the refusals in their order: the columns are outside 2 to 256; a tap is not below 257. Any number of taps is taken, and any first tap
 unfoldable pub searchTests : (n : ℕ) (σ : List ℕ) → List Test
-searchTests n σ =
-    columnsTest n ∷ record { number = 4; fails = not (every (length σ) (λ k. ltb (getD σ k 0) 257)) } ∷ []
+searchTests n σ = columnsTest n ∷ symbolsTest σ ∷ []
 
 -- a refusal carries its number alone
 unfoldable pub answer : (n : ℕ) (σ : List ℕ) → Answer

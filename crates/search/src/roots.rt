@@ -31,7 +31,7 @@ fn nothing() -> Sought
 }
 
 // For callers who know that there are no more than 256 columns. With one tap or none there is nothing to find.
-pub fn named_columns(columns: usize, taps: &[u16]) -> Sought
+pub fn sought_columns(columns: usize, taps: &[u16]) -> Sought
     requires { ⌜ columns ≤ 256 ⌝ }
     ensures { λ r. ⌜ r ≡ sought columns (now (taps .entry)) ⌝ }
 {
@@ -85,7 +85,7 @@ pub fn search(columns: usize, taps: &[u16]) -> Searched
             Searched { checked, sought }
         }
         Checked::Pass => {
-            let sought = named_columns(columns, taps);
+            let sought = sought_columns(columns, taps);
             Searched { checked, sought }
         }
     }

@@ -17,10 +17,10 @@ use crate::records::lines;
 use crate::trials::vectors::VECTORS;
 use crate::trials::{damaged, malformed, some_legal_frame, some_shape};
 
-/// The program, which is stopped after a minute.
+/// The program, which is stopped after ten minutes.
 fn started(input: Stdio) -> Child {
     Command::new("timeout")
-        .args(["60", "target/bin/tomkhadi"])
+        .args(["600", "target/bin/tomkhadi"])
         .stdin(input)
         .stdout(Stdio::piped())
         .spawn()

@@ -25,7 +25,7 @@ searched c = c .before .before .before
 abbrev found-before : tie.Else2 → tie.After-found
 found-before c = c .before .before .before .before
 
-abbrev reached-before : tie.After-named-columns → tie.Else2
+abbrev reached-before : tie.After-sought-columns → tie.Else2
 reached-before c = c .before .before .before
 
 -- ---- the finder
@@ -85,15 +85,15 @@ reach c = sym (c .before .reaches .ensures) ∙ not-false _ (c .if2 .left)
 add-end : tie.Need-add-end
 add-end c = let m = length-most (see (found-before c)) in omega arith
 
-part-named-columns-end : tie.Need-part-named-columns-end
-part-named-columns-end c =
+part-sought-columns-end : tie.Need-part-sought-columns-end
+part-sought-columns-end c =
     let found = found-before (c .before) in
     let m = length-most (see found) in
     let room : length (searched found .register-of .last .1 .1 .1 .1 .0) ≡ 65 = search needs in
     omega arith
 
-named-columns-requires : tie.Need-named-columns-requires
-named-columns-requires c κs = few-columns (see (found-before (c .before .before)))
+sought-columns-requires : tie.Need-sought-columns-requires
+sought-columns-requires c κs = let few = few-columns (see (found-before (c .before .before))) in omega arith
 
 returns-4 : tie.Need-returns-4
 returns-4 c =
@@ -101,7 +101,7 @@ returns-4 c =
     let named = few .before .before .before in
     let reached = reached-before named in
     λ a f. refusal-left a _ _ _ f _ (c .refuse4 .ensures) (c .before .shaped4 .ensures)
-    ∙ gives-26 (see (found-before reached)) (alone reached) (reach reached) (named .named-columns .ensures) _ f
+    ∙ gives-26 (see (found-before reached)) (alone reached) (reach reached) (named .sought-columns .ensures) _ f
     (let n = few .before .size .ensures in let t = few .if3 .taken in omega arith)
 
 completes-requires : tie.Need-completes-requires
@@ -111,9 +111,9 @@ completes-requires c κs =
     let saw = see (found-before reached) in
     let n = c .before .size .ensures in
     let t = c .if3 .left in
-    completable-asked saw (alone reached) (reach reached) (named .named-columns .ensures) (omega arith) _
+    completable-asked saw (alone reached) (reach reached) (named .sought-columns .ensures) (omega arith) _
     (start-of (searched (found-before reached)) .pre)
-    (marked-most saw (alone reached) (reach reached) (named .named-columns .ensures) (omega arith))
+    (marked-most saw (alone reached) (reach reached) (named .sought-columns .ensures) (omega arith))
 
 returns-5 : tie.Need-returns-5
 returns-5 c =
@@ -122,7 +122,7 @@ returns-5 c =
     let named = enough .before .before .before in
     let reached = reached-before named in
     λ a f. refusal-left a _ _ _ f _ (c .refuse5 .ensures) (c .before .shaped5 .ensures)
-    ∙ gives-unfit (see (found-before reached)) (alone reached) (reach reached) (named .named-columns .ensures)
+    ∙ gives-unfit (see (found-before reached)) (alone reached) (reach reached) (named .sought-columns .ensures)
     (let n = enough .before .size .ensures in let t = enough .if3 .left in omega arith) _ f
     (sym (unfit .before .completes .ensures) ∙ not-true _ (unfit .if4 .taken))
 
@@ -132,7 +132,7 @@ returns-6 c =
     let enough = fits .before .before in
     let named = enough .before .before .before in
     let reached = reached-before named in
-    λ a f. gives-columns (see (found-before reached)) (alone reached) (reach reached) (named .named-columns .ensures)
+    λ a f. gives-columns (see (found-before reached)) (alone reached) (reach reached) (named .sought-columns .ensures)
     (let n = enough .before .size .ensures in let t = enough .if3 .left in omega arith) _ f
     (sym (fits .before .completes .ensures) ∙ not-false _ (fits .if4 .left)) (c .located .ensures)
 
@@ -157,8 +157,8 @@ locate-from-spec =
     add-end
     (λ c. search needs)
     (λ c. search needs)
-    part-named-columns-end
-    named-columns-requires
+    part-sought-columns-end
+    sought-columns-requires
     (λ c κs. search needs)
     (λ c κs. search needs)
     (λ c κs. search needs)

@@ -1,4 +1,4 @@
--- `search::roots::named_columns` meets its contract: after i turns the columns below i are tried.
+-- `search::roots::sought_columns` meets its contract: after i turns the columns below i are tried.
 use mathlib.Core.Path.{_≡_, refl, sym, subst⁻¹, _∙_}
 use mathlib.Core.Logic.{⊎-elim}
 use Prim.Native.Nat.{_+_, _-_, _≤_}
@@ -7,8 +7,8 @@ use borrow.Author.Needs.{needs}
 use Rattle.decoding.proofs.Searching.{searched, search-none, search-root, search-other}
 use Rattle.decoding.proofs.Searching.{Trying, trying-starts, trying-all, trying-root, trying-other, trying-ends}
 use Rattle.search.proofs.Answers.{ended, nothing-sought}
-use Rattle.search.proofs.roots.named_columns.Statement.{statement}
-use Rattle.search.proofs.roots.named_columns.Tie as tie
+use Rattle.search.proofs.roots.sought_columns.Statement.{statement}
+use Rattle.search.proofs.roots.sought_columns.Tie as tie
 
 abbrev Inv-loop : tie.InvT-loop
 Inv-loop columns taps powers found₀ left₀ i₀ found left i = (i ≤ columns) × (found ≡ searched taps i) × Trying taps columns i left
@@ -71,8 +71,8 @@ returns-3 c =
     let at = c .before .loop in
     ended _ _ (at .i) (at .inv .1) (omega arith) (let all = trying-all _ _ (at .i) (at .left) (at .inv .2) (c .loop-test .left) in omega arith)
 
-pub named-columns-spec : {M : Type 1} → statement M
-named-columns-spec =
+pub sought-columns-spec : {M : Type 1} → statement M
+sought-columns-spec =
     tie.close
     (tie.spec
     Inv-loop
