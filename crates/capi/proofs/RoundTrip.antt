@@ -27,5 +27,5 @@ unfolding shapeOf columnsOf number
 located-mirror = refl
 
 pub answer-mirrors : AnswerMirrors
-unfolding columnsOf number
-answer-mirrors = record { located = λ j f. refl; found = refl; refused = refl }
+unfolding noColumns columnsOf number
+answer-mirrors = record { answered = λ c t j f. refl; refused = λ k j f. refl; searched = λ t. refl; search-refused = λ k. refl }

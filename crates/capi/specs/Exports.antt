@@ -1,5 +1,6 @@
 -- What the exported functions do, by the definitions of the finder and of the calls on a job: what they return, and what they leave in the lent arrays and
--- buffers. What is not lent is kept: shape and encode keep all arrays, and repair, which only reads the sums and the declared cells, the taps.
+-- buffers. (The contract of `tomkhadi_search`, which leaves nothing, needs none of these.) What is not lent is kept: shape and encode keep all arrays, and
+-- repair, which only reads the sums and the declared cells, the taps.
 use mathlib.Core.Path.{_≡_}
 use mathlib.Core.List.{List}
 use Prim.Native.Nat.{ℕ}

@@ -144,20 +144,25 @@ answeredOf o =
       head = mirrorOf (o .job .head);
     }
 
--- To the number: the answer of three columns of which the last was the 256th tried, whatever job and frame are left; the same of a search; and a search
--- refused by 5. Proved in proofs/RoundTrip.antt.
+-- What stands in the struct of an answer, whatever is counted and tried, and whatever job and frame are left: of the columns 0, 65 and 255, of a search that
+-- finds these, and of a call or a search refused by k, which carries the number alone. Proved in proofs/RoundTrip.antt.
 pub record AnswerMirrors : Type 0 where
-  pub located :
-      (j : Job) (f : List ℕ) →
-      answeredOf (record { answer = Calls.columns 3; marks = columnsOf (λ i. eqb i 0 || (eqb i 65 || eqb i 255)); tried = 256; job = j; frame = f }) .answer ≡
-      record { refusal = 0; count = 3; tried = 256; marks = 1 ∷ 2 ∷ 0 ∷ 9223372036854775808 ∷ [] }
-  pub found :
-      columnsFor
-      (record { outcome = Tested.passed; sought = record { columns = columnsOf (λ i. eqb i 0 || (eqb i 65 || eqb i 255)); tried = 256 } }) ≡
-      record { refusal = 0; tried = 256; marks = 1 ∷ 2 ∷ 0 ∷ 9223372036854775808 ∷ [] }
+  pub answered :
+      (c t : ℕ) (j : Job) (f : List ℕ) →
+      answeredOf
+      (record { answer = Calls.columns c; marks = columnsOf (λ i. eqb i 0 || (eqb i 65 || eqb i 255)); tried = t; job = j; frame = f }) .answer ≡
+      record { refusal = 0; count = c; tried = t; marks = 1 ∷ 2 ∷ 0 ∷ 9223372036854775808 ∷ [] }
   pub refused :
-      columnsFor (record { outcome = Tested.refused 5; sought = Search.nothing }) ≡
-      record { refusal = 5; tried = 0; marks = 0 ∷ 0 ∷ 0 ∷ 0 ∷ [] }
+      (k : ℕ) (j : Job) (f : List ℕ) →
+      answeredOf (Calls.refusing j f k) .answer ≡ record { refusal = k; count = 0; tried = 0; marks = 0 ∷ 0 ∷ 0 ∷ 0 ∷ [] }
+  pub searched :
+      (t : ℕ) →
+      columnsFor (record { outcome = Tested.passed; sought = record { columns = columnsOf (λ i. eqb i 0 || (eqb i 65 || eqb i 255)); tried = t } }) ≡
+      record { refusal = 0; tried = t; marks = 1 ∷ 2 ∷ 0 ∷ 9223372036854775808 ∷ [] }
+  pub search-refused :
+      (k : ℕ) →
+      columnsFor (record { outcome = Tested.refused k; sought = Search.nothing }) ≡
+      record { refusal = k; tried = 0; marks = 0 ∷ 0 ∷ 0 ∷ 0 ∷ [] }
 
 -- C reads off the number whether something is refused: it is 0 exactly where nothing is. Proved in proofs/Zero.antt.
 pub record ZeroIsNoRefusal : Type 0 where

@@ -16,8 +16,8 @@ pub record UpToLast (J : Columns) (t : ℕ) : Type 0 where
   pub below : (i : ℕ) → has J i ≡ true → i < t
   pub last : (t ≡ 0) ⊎ ((i : ℕ) × (has J i ≡ true) × (t ≡ suc i))
 
--- For every list of calls: a locate that is not refused has found all columns of its register, and tells as tried the columns up to and with the last one
--- marked, none where none is marked.
+-- For every list of calls: a locate that is not refused, which marks all columns of its register (`LocateFinds`), tells as tried the columns up to and with
+-- the last one marked, none where none is marked.
 abbrev pub LocateTries : Type 0
 LocateTries =
     (a : Arrays) (calls : List Call) (words f : List ℕ) → Taken (afterCalls a calls (locate words f)) →

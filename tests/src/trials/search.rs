@@ -1,4 +1,4 @@
-//! The search for the columns that taps name: registers of every length, products of locators inside
+//! The search for the columns that taps name: short and long registers, products of locators inside
 //! and outside the columns, taps that no register has, every refusal, and what locate tells of its own
 //! search.
 

@@ -25,7 +25,7 @@ abbrev start-of : tie.At-loop Inv-loop μ-loop → tie.Start Inv-loop μ-loop
 start-of c = c .before .before .before .before .before
 
 returns : tie.Need-returns Inv-loop μ-loop
-returns c = c .nothing .ensures ∙ nothing-sought _ _ (c .before .if1 .taken)
+returns c = c .nothing .ensures ∙ nothing-sought _ _ (let short = c .before .if1 .taken in omega arith)
 
 loop-holds : tie.Need-loop-holds Inv-loop μ-loop
 loop-holds c = (omega arith, c .empty .ensures ∙ search-none _, trying-starts _ _ (omega arith))
