@@ -1,6 +1,5 @@
 -- `reader::field_at` meets its contract: each test says which case of `fieldAt` holds.
-use mathlib.Core.Path.{ap₂, _∙_}
-use Prim.Native.Nat.{ℕ, _+_, _*_}
+use mathlib.Core.Path.{ap, _∙_}
 use native.Mathlib.Omega.{arith}
 use borrow.Author.Needs.{needs}
 use denote.Ref.{now}
@@ -25,9 +24,8 @@ returns-2 c =
 
 returns-3 : tie.Need-returns-3
 returns-3 c =
-    let start = start-of (c .before .before .before .before .before) in
-    ap₂ (λ (l h : ℕ). Value (l + 256 * h)) (c .before .before .wide .ensures .0) (c .wide2 .ensures .0)
-    ∙ value-handed (now (start .args .s)) (start .args .at) (omega arith)
+    let start = start-of (c .before .before .before .before) in
+    ap Value (c .pair .ensures) ∙ value-handed (now (start .args .s)) (start .args .at) (omega arith)
 
 pub field-at-spec : {M : Type 1} → statement M
 field-at-spec =
@@ -37,9 +35,6 @@ field-at-spec =
     (λ c. search needs)
     returns-2
     (λ c. search needs)
-    (λ c κs. search needs)
     (λ c. search needs)
     (λ c κs. search needs)
-    (λ c. search needs)
-    (λ c. search needs)
     returns-3)
