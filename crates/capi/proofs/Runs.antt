@@ -12,12 +12,12 @@ use Rattle.job.specs.Job.{Arrays, Job, beside, withRead, withFound, emptyJob}
 use Rattle.job.specs.declared.Head.{Head}
 use Rattle.job.proofs.Cases.{by-call}
 use Rattle.capi.specs.Exports.{CShapes, CEncodes, CLocates, CRepairs, HeadShapes, HeadEncodes, HeadRepairs}
-use Rattle.capi.specs.Mirror.{headOf, refusalOf, shapedOf, answeredOf}
+use Rattle.mirror.specs.Mirror.{headOf, refusalOf, shapedOf, answeredOf}
 use Rattle.capi.specs.Runs.{CJob, CReply, number, answer, CReturn, CStep, CRun, emptied, jobOf, mirrorJob, replyOf, returnOf, Given, CEdge}
-use Rattle.capi.specs.declared.CAnswered.{CAnswered}
-use Rattle.capi.specs.declared.CHead.{CHead}
-use Rattle.capi.specs.declared.CShaped.{CShaped}
-use Rattle.capi.proofs.RoundTrip.{there-and-back}
+use Rattle.mirror.specs.declared.CAnswered.{CAnswered}
+use Rattle.mirror.specs.declared.CHead.{CHead}
+use Rattle.mirror.specs.declared.CShaped.{CShaped}
+use Rattle.mirror.proofs.RoundTrip.{there-and-back}
 
 -- the job that a mirror stands for is the job
 same-job : (j : Job) → jobOf (mirrorJob j) ≡ j

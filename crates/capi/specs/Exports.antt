@@ -8,11 +8,11 @@ use lib.ListN.{length}
 use Rattle.finder.specs.Finder.{answer, tapsLeft}
 use Rattle.job.specs.Calls.{Outcome, step, shape, encode, locate, repair}
 use Rattle.job.specs.Job.{Arrays, Job, beside, withFound, withRead}
-use Rattle.capi.specs.Mirror.{headOf, registerOf, refusalOf, shapedOf, answeredOf}
-use Rattle.capi.specs.declared.CAnswered.{CAnswered}
-use Rattle.capi.specs.declared.CHead.{CHead}
-use Rattle.capi.specs.declared.CRegister.{CRegister}
-use Rattle.capi.specs.declared.CShaped.{CShaped}
+use Rattle.mirror.specs.Mirror.{headOf, registerOf, refusalOf, shapedOf, answeredOf}
+use Rattle.mirror.specs.declared.CAnswered.{CAnswered}
+use Rattle.mirror.specs.declared.CHead.{CHead}
+use Rattle.mirror.specs.declared.CRegister.{CRegister}
+use Rattle.mirror.specs.declared.CShaped.{CShaped}
 
 -- find: the register, and the buffer of the taps
 pub record CFinds (p : ℕ) (lengths symbols buffer left : List ℕ) (r : CRegister) : Type 0 where

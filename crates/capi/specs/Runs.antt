@@ -8,11 +8,11 @@ use Rattle.job.specs.Calls.{Call, shape, encode, locate, repair, Outcome, step}
 use Rattle.job.specs.Runs.{runFrom, run}
 use Rattle.job.specs.Job.{Arrays, Job, beside, withFound, emptyHead}
 use Rattle.capi.specs.Exports.{HeadShapes, HeadEncodes, HeadLocates, HeadRepairs}
-use Rattle.capi.specs.Mirror.{headOf, mirrorOf, refusalOf, answeredOf}
-use Rattle.capi.specs.declared.CAnswer.{CAnswer}
-use Rattle.capi.specs.declared.CAnswered.{CAnswered}
-use Rattle.capi.specs.declared.CHead.{CHead}
-use Rattle.capi.specs.declared.CShaped.{CShaped}
+use Rattle.mirror.specs.Mirror.{headOf, mirrorOf, refusalOf, answeredOf}
+use Rattle.mirror.specs.declared.CAnswer.{CAnswer}
+use Rattle.mirror.specs.declared.CAnswered.{CAnswered}
+use Rattle.mirror.specs.declared.CHead.{CHead}
+use Rattle.mirror.specs.declared.CShaped.{CShaped}
 
 -- tomkhadi_job: the head, and the arrays beside it
 pub record CJob : Type 0 where

@@ -1,60 +1,20 @@
 // The calls on a job for C: the head by value, the arrays by pointer. The header makes of each a call on a job by pointer.
-use crate::CAnswer;
-use crate::CAnswered;
-use crate::CHead;
-use crate::CShaped;
-use crate::mirror::head_of;
-use crate::mirror::mirror_of;
-use crate::mirror::refusal_of;
 use calls::encode::encode;
 use calls::locate::locate;
 use calls::repair::repair;
 use calls::shape::shape;
 use heads::states::empty;
-use job::Answered;
-use job::Reply;
-use refusal::number_of;
-ghost use mathlib.Core.List.{List};
+use mirror::CAnswered;
+use mirror::CHead;
+use mirror::CShaped;
+use mirror::answers::answered_of;
+use mirror::answers::refusal_of;
+use mirror::head::head_of;
+use mirror::head::mirror_of;
 ghost use mathlib.Core.Path.{_≡_};
-ghost use Prim.Native.Nat.{ℕ};
 ghost use Rattle.capi.specs.Exports.{HeadShapes, HeadEncodes, HeadLocates, HeadRepairs};
-ghost use Rattle.capi.specs.Mirror.{mirrorOf, refusalOf, countOf, answeredOf};
-ghost use Rattle.job.specs.Answers.{replyAnswer, answeredOutcome};
-ghost use Rattle.job.specs.Job.{Arrays, emptyHead};
-
-fn reply_refusal(reply: Reply) -> u32
-    ensures { λ r. ⌜ r ≡ refusalOf (replyAnswer reply) ⌝ }
-{
-    match reply {
-        Reply::Count(_) => 0,
-        Reply::Refused(why) => number_of(why),
-    }
-}
-
-fn reply_count(reply: Reply) -> usize
-    ensures { λ r. ⌜ r ≡ countOf (replyAnswer reply) ⌝ }
-{
-    match reply {
-        Reply::Count(c) => c,
-        Reply::Refused(_) => 0,
-    }
-}
-
-fn answered_of(a: Answered) -> CAnswered
-    ensures { λ r. ⌜ ((b : Arrays) (f : List ℕ) → r ≡ answeredOf (answeredOutcome a b f)) ⌝ }
-{
-    let columns = a.columns;
-    let marks = columns.words;
-    let reply = a.reply;
-    let answer = CAnswer {
-        refusal: reply_refusal(reply),
-        count: reply_count(reply),
-        tried: a.tried,
-        marks,
-    };
-    let head = mirror_of(a.head);
-    CAnswered { answer, head }
-}
+ghost use Rattle.mirror.specs.Mirror.{mirrorOf};
+ghost use Rattle.job.specs.Job.{emptyHead};
 
 #[no_mangle]
 pub extern "C" fn tomkhadi_head_empty() -> CHead

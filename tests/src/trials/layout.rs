@@ -7,14 +7,14 @@ use common::interface::{Answer, Columns, Head, Job, Register};
 
 use crate::judge::Judge;
 
-/// `CShaped` of `crates/capi`.
+/// `CShaped` of `crates/mirror`.
 #[repr(C)]
 struct HeadShaped {
     refusal: u32,
     head: Head,
 }
 
-/// `CAnswered` of `crates/capi`.
+/// `CAnswered` of `crates/mirror`.
 #[repr(C)]
 struct HeadAnswered {
     answer: Answer,

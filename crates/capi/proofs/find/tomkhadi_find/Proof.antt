@@ -1,7 +1,7 @@
 -- `capi::find::tomkhadi_find` meets its contract, by the finder's.
 use mathlib.Core.Path.{_∙_, ap}
 use borrow.Author.Needs.{needs}
-use Rattle.capi.specs.Mirror.{registerOf}
+use Rattle.mirror.specs.Mirror.{registerOf}
 use Rattle.capi.proofs.find.tomkhadi_find.Statement.{statement}
 use Rattle.capi.proofs.find.tomkhadi_find.Tie as tie
 

@@ -1,7 +1,7 @@
 -- `capi::jobs::tomkhadi_head_empty` meets its contract, by those of the functions that it calls.
 use mathlib.Core.Path.{_∙_, ap}
 use borrow.Author.Needs.{needs}
-use Rattle.capi.specs.Mirror.{mirrorOf}
+use Rattle.mirror.specs.Mirror.{mirrorOf}
 use Rattle.capi.proofs.jobs.tomkhadi_head_empty.Statement.{statement}
 use Rattle.capi.proofs.jobs.tomkhadi_head_empty.Tie as tie
 

@@ -1,7 +1,7 @@
 -- `capi::jobs::tomkhadi_head_encode` meets its contract, by those of the functions that it calls.
 use mathlib.Core.Path.{_∙_, ap, sym}
 use borrow.Author.Needs.{needs}
-use Rattle.capi.specs.Mirror.{refusalOf}
+use Rattle.mirror.specs.Mirror.{refusalOf}
 use Rattle.job.specs.Calls.{Outcome, step, encode}
 use Rattle.job.specs.Job.{beside}
 use Rattle.job.specs.declared.Head.{Head}

@@ -1,7 +1,7 @@
 -- `capi::jobs::tomkhadi_head_shape` meets its contract, by those of the functions that it calls.
 use mathlib.Core.Path.{_∙_, ap, sym}
 use borrow.Author.Needs.{needs}
-use Rattle.capi.specs.Mirror.{shapedOf}
+use Rattle.mirror.specs.Mirror.{shapedOf}
 use Rattle.job.specs.Calls.{Outcome, step, shape}
 use Rattle.job.specs.Job.{beside}
 use Rattle.job.specs.declared.Head.{Head}

@@ -1,7 +1,7 @@
 -- `capi::roots::tomkhadi_search` meets its contract, by the search's.
 use mathlib.Core.Path.{_∙_, ap}
 use borrow.Author.Needs.{needs}
-use Rattle.capi.specs.Mirror.{columnsFor}
+use Rattle.mirror.specs.Mirror.{columnsFor}
 use Rattle.capi.proofs.roots.tomkhadi_search.Statement.{statement}
 use Rattle.capi.proofs.roots.tomkhadi_search.Tie as tie
 

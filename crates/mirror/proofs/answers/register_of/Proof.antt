@@ -1,11 +1,11 @@
--- `capi::find::register_of` meets its contract, case by case.
+-- `mirror::answers::register_of` meets its contract, case by case.
 use mathlib.Core.Path.{ap}
 use borrow.Author.Needs.{needs}
 use Rattle.finder.specs.Finder.{answerOf}
 use Rattle.finder.specs.declared.Found.{Found}
-use Rattle.capi.specs.Mirror.{registerOf}
-use Rattle.capi.proofs.find.register_of.Statement.{statement}
-use Rattle.capi.proofs.find.register_of.Tie as tie
+use Rattle.mirror.specs.Mirror.{registerOf}
+use Rattle.mirror.proofs.answers.register_of.Statement.{statement}
+use Rattle.mirror.proofs.answers.register_of.Tie as tie
 
 enum-known-found : tie.Need-enum-known-found
 enum-known-found c = search needs

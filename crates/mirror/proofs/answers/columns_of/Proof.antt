@@ -1,10 +1,10 @@
--- `capi::roots::columns_of` meets its contract.
+-- `mirror::answers::columns_of` meets its contract.
 use mathlib.Core.Path.{_∙_, ap}
 use Prim.Native.Nat.{ℕ}
 use borrow.Author.Needs.{needs}
-use Rattle.capi.proofs.Zero.{same-refusal}
-use Rattle.capi.proofs.roots.columns_of.Statement.{statement}
-use Rattle.capi.proofs.roots.columns_of.Tie as tie
+use Rattle.mirror.proofs.Zero.{same-refusal}
+use Rattle.mirror.proofs.answers.columns_of.Statement.{statement}
+use Rattle.mirror.proofs.answers.columns_of.Tie as tie
 
 returns : tie.Need-returns
 returns c =

@@ -23,7 +23,7 @@ use Rattle.job.specs.Calls.{Call, shape, encode, locate, repair, Answer, done, 
 use Rattle.job.specs.Job.{Job}
 use Rattle.job.proofs.AfterRefusal.{same-number, gives-no-refusal}
 use Rattle.job.proofs.Cases.{by-call}
-use Rattle.capi.specs.Mirror.{refusalOf, refusalNumber, registerOf, ZeroIsNoRefusal}
+use Rattle.mirror.specs.Mirror.{refusalOf, refusalNumber, registerOf, ZeroIsNoRefusal}
 
 -- no test has the number 0
 abbrev Numbered : List Test → Type 0

@@ -6,7 +6,7 @@ use Rattle.frame.specs.Shape.{shapeOf}
 use Rattle.job.specs.Job.{noColumns}
 use Rattle.job.specs.declared.Phase.{Phase}
 use Rattle.job.specs.declared.Phase.the-variants.{Empty, Shaped, Located}
-use Rattle.capi.specs.Mirror.{phaseOf, phaseNumber, phaseLength, phaseAlone, ThereAndBack, EmptyMirror, LocatedMirror, AnswerMirrors}
+use Rattle.mirror.specs.Mirror.{phaseOf, phaseNumber, phaseLength, phaseAlone, ThereAndBack, EmptyMirror, LocatedMirror, AnswerMirrors}
 
 same-phase : (p : Phase) → phaseOf (phaseNumber p) (phaseLength p) (phaseAlone p) ≡ p
 same-phase Empty = refl

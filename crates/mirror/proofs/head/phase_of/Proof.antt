@@ -1,7 +1,7 @@
--- `capi::mirror::phase_of` meets its contract: each test picks its case.
+-- `mirror::head::phase_of` meets its contract: each test picks its case.
 use borrow.Author.Tests.{eq-eqb, ne-eqb}
-use Rattle.capi.proofs.mirror.phase_of.Statement.{statement}
-use Rattle.capi.proofs.mirror.phase_of.Tie as tie
+use Rattle.mirror.proofs.head.phase_of.Statement.{statement}
+use Rattle.mirror.proofs.head.phase_of.Tie as tie
 
 returns : tie.Need-returns
 returns c = simp (eq-eqb _ _ (c .if1 .taken))

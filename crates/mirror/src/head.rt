@@ -1,14 +1,11 @@
-// Heads of jobs and their mirrors on the other side of the C interface, and the numbers of refusals.
+// Heads of jobs and their mirrors on the other side of the C interface.
 use crate::CHead;
 use columns::Columns;
 use frame::Shape;
 use job::Head;
 use job::Phase;
-use refusal::Checked;
-use refusal::number_of;
 ghost use mathlib.Core.Path.{_≡_};
-ghost use Rattle.capi.specs.Mirror.{phaseOf, headOf, phaseNumber, phaseLength, phaseAlone, markOf, mirrorOf, refusalOf};
-ghost use Rattle.job.specs.Answers.{checkedAnswer};
+ghost use Rattle.mirror.specs.Mirror.{phaseOf, headOf, phaseNumber, phaseLength, phaseAlone, markOf, mirrorOf};
 
 fn phase_of(phase: u32, length: usize, alone: u32) -> Phase
     ensures { λ r. ⌜ r ≡ phaseOf phase length alone ⌝ }
@@ -85,16 +82,6 @@ fn phase_alone(p: Phase) -> u32
         Phase::Empty => 0,
         Phase::Shaped => 0,
         Phase::Located { length: _, alone } => mark_of(alone),
-    }
-}
-
-// 0 where nothing is refused.
-pub fn refusal_of(v: Checked) -> u32
-    ensures { λ r. ⌜ r ≡ refusalOf (checkedAnswer v) ⌝ }
-{
-    match v {
-        Checked::Pass => 0,
-        Checked::Refuse(why) => number_of(why),
     }
 }
 

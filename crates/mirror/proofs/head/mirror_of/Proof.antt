@@ -1,7 +1,7 @@
--- `capi::mirror::mirror_of` meets its contract, by those of the phase's numbers.
+-- `mirror::head::mirror_of` meets its contract, by those of the phase's numbers.
 use borrow.Author.Needs.{needs}
-use Rattle.capi.proofs.mirror.mirror_of.Statement.{statement}
-use Rattle.capi.proofs.mirror.mirror_of.Tie as tie
+use Rattle.mirror.proofs.head.mirror_of.Statement.{statement}
+use Rattle.mirror.proofs.head.mirror_of.Tie as tie
 
 phase-number-requires : tie.Need-phase-number-requires
 phase-number-requires c κs = search needs

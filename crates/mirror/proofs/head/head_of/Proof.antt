@@ -1,7 +1,7 @@
--- `capi::mirror::head_of` meets its contract, by that of the phase.
+-- `mirror::head::head_of` meets its contract, by that of the phase.
 use borrow.Author.Needs.{needs}
-use Rattle.capi.proofs.mirror.head_of.Statement.{statement}
-use Rattle.capi.proofs.mirror.head_of.Tie as tie
+use Rattle.mirror.proofs.head.head_of.Statement.{statement}
+use Rattle.mirror.proofs.head.head_of.Tie as tie
 
 phase-of-requires : tie.Need-phase-of-requires
 phase-of-requires c κs = search needs

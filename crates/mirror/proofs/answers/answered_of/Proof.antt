@@ -1,7 +1,7 @@
--- `capi::jobs::answered_of` meets its contract, by those of the functions that it calls.
+-- `mirror::answers::answered_of` meets its contract, by those of the functions that it calls.
 use borrow.Author.Needs.{needs}
-use Rattle.capi.proofs.jobs.answered_of.Statement.{statement}
-use Rattle.capi.proofs.jobs.answered_of.Tie as tie
+use Rattle.mirror.proofs.answers.answered_of.Statement.{statement}
+use Rattle.mirror.proofs.answers.answered_of.Tie as tie
 
 reply-refusal-requires : tie.Need-reply-refusal-requires
 reply-refusal-requires c κs = search needs

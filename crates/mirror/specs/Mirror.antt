@@ -17,11 +17,11 @@ use Rattle.job.specs.Job.{Job, emptyHead, locatedHead}
 use Rattle.job.specs.declared.Head.{Head}
 use Rattle.job.specs.declared.Phase.{Phase}
 use Rattle.job.specs.declared.Phase.the-variants.{Empty, Shaped, Located}
-use Rattle.capi.specs.declared.CAnswered.{CAnswered}
-use Rattle.capi.specs.declared.CColumns.{CColumns}
-use Rattle.capi.specs.declared.CHead.{CHead}
-use Rattle.capi.specs.declared.CRegister.{CRegister}
-use Rattle.capi.specs.declared.CShaped.{CShaped}
+use Rattle.mirror.specs.declared.CAnswered.{CAnswered}
+use Rattle.mirror.specs.declared.CColumns.{CColumns}
+use Rattle.mirror.specs.declared.CHead.{CHead}
+use Rattle.mirror.specs.declared.CRegister.{CRegister}
+use Rattle.mirror.specs.declared.CShaped.{CShaped}
 
 -- 1 and 2 are shaped and located; every other number is empty. The register is alone where the mark is 1.
 abbrev pub phaseOf : (phase length alone : ℕ) → Phase

@@ -1,0 +1,96 @@
+// Answers and refusals as structs and numbers of C.
+use crate::CAnswer;
+use crate::CAnswered;
+use crate::CColumns;
+use crate::CRegister;
+use crate::head::mark_of;
+use crate::head::mirror_of;
+use finder::Found;
+use job::Answered;
+use job::Reply;
+use refusal::Checked;
+use refusal::number_of;
+use search::Searched;
+ghost use mathlib.Core.List.{List};
+ghost use mathlib.Core.Path.{_≡_};
+ghost use Prim.Native.Nat.{ℕ};
+ghost use Rattle.finder.specs.Finder.{answerOf as Finder·answerOf};
+ghost use Rattle.job.specs.Answers.{checkedAnswer, replyAnswer, answeredOutcome};
+ghost use Rattle.job.specs.Job.{Arrays};
+ghost use Rattle.search.specs.Search.{answerOf as Search·answerOf};
+ghost use Rattle.mirror.specs.Mirror.{refusalOf, countOf, registerOf, columnsFor, answeredOf};
+
+// 0 where nothing is refused.
+pub fn refusal_of(v: Checked) -> u32
+    ensures { λ r. ⌜ r ≡ refusalOf (checkedAnswer v) ⌝ }
+{
+    match v {
+        Checked::Pass => 0,
+        Checked::Refuse(why) => number_of(why),
+    }
+}
+
+pub fn register_of(found: Found) -> CRegister
+    ensures { λ r. ⌜ r ≡ registerOf (Finder·answerOf found) ⌝ }
+{
+    match found {
+        Found::Register { length, alone } => CRegister {
+            refusal: 0,
+            alone: mark_of(alone),
+            length,
+        },
+        Found::Refused(why) => CRegister {
+            refusal: number_of(why),
+            alone: 0,
+            length: 0,
+        },
+    }
+}
+
+pub fn columns_of(found: Searched) -> CColumns
+    ensures { λ r. ⌜ r ≡ columnsFor (Search·answerOf found) ⌝ }
+{
+    let sought = found.sought;
+    let columns = sought.columns;
+    let marks = columns.words;
+    let checked = found.checked;
+    CColumns {
+        refusal: refusal_of(checked),
+        tried: sought.tried,
+        marks,
+    }
+}
+
+fn reply_refusal(reply: Reply) -> u32
+    ensures { λ r. ⌜ r ≡ refusalOf (replyAnswer reply) ⌝ }
+{
+    match reply {
+        Reply::Count(_) => 0,
+        Reply::Refused(why) => number_of(why),
+    }
+}
+
+fn reply_count(reply: Reply) -> usize
+    ensures { λ r. ⌜ r ≡ countOf (replyAnswer reply) ⌝ }
+{
+    match reply {
+        Reply::Count(c) => c,
+        Reply::Refused(_) => 0,
+    }
+}
+
+pub fn answered_of(a: Answered) -> CAnswered
+    ensures { λ r. ⌜ ((b : Arrays) (f : List ℕ) → r ≡ answeredOf (answeredOutcome a b f)) ⌝ }
+{
+    let columns = a.columns;
+    let marks = columns.words;
+    let reply = a.reply;
+    let answer = CAnswer {
+        refusal: reply_refusal(reply),
+        count: reply_count(reply),
+        tried: a.tried,
+        marks,
+    };
+    let head = mirror_of(a.head);
+    CAnswered { answer, head }
+}
