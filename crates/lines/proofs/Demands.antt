@@ -13,7 +13,8 @@ use Rattle.sequences.specs.Tests.{tests}
 use Rattle.finder.proofs.Demands as Finder·Demands
 use Rattle.finder.proofs.Demands.{first-left}
 use Rattle.finder.proofs.Reasons.{finder-says}
-use Rattle.record.specs.Line.{refusalLine, registerLine, columnsLine, frameLine, outputOf, lineOf}
+use Rattle.text.specs.Line.{refusalLine, registerLine, columnsLine}
+use Rattle.record.specs.Line.{frameLine, outputOf, lineOf}
 use Rattle.record.specs.Record.{bad, recordOf, sequences, frame}
 use Rattle.record.proofs.Parsing.{bad-line}
 use Rattle.reader.specs.Fields.{fieldOf}
@@ -42,7 +43,7 @@ use Rattle.lines.specs.Demands.{lengthsOf, sequenceSymbols, registerReas
 use Rattle.lines.specs.Demands.{checkCountsOf, frameSymbols, frameReasonsOf, ShowsColumns}
 use Rattle.refusal.proofs.Firsts.{first-same, first-or-none, first-before, first-after, none-append, none-in-turn, Below, below-append, first-below}
 use Rattle.lines.proofs.Newlines.{line-is-one, refusal-is-one}
-use Rattle.record.proofs.Numbers.{tells-number, other-letter}
+use Rattle.text.proofs.Numbers.{tells-number, other-letter}
 use Rattle.lines.proofs.Parsed.{Told, told, sequences-not-bad, frame-not-bad, bad-exactly}
 
 -- ---- a line by its reasons

@@ -24,9 +24,10 @@ use Rattle.register.specs.Algorithm4.{step as stepAt}
 use Rattle.register.specs.Register.{discrepancy}
 use Rattle.register.specs.Sequences.{largest, placed, ordered, split}
 use Rattle.reader.specs.Fields.{fieldOf, fieldsOf}
-use Rattle.record.specs.Line.{refusalLine, registerLine, columnsLine, frameLine, outputOf, lineOf}
+use Rattle.text.specs.Line.{refusalLine, registerLine, columnsLine}
+use Rattle.record.specs.Line.{frameLine, outputOf, lineOf}
 use Rattle.record.specs.Record.{claimedBy, isWhole, countedOf, bodyOf, recordOf}
-use Rattle.record.specs.Text.{decimalUpTo, decimal, spaced, line}
+use Rattle.text.specs.Text.{decimalUpTo, decimal, spaced, line}
 use Rattle.lines.specs.Examples.{written, table}
 use Rattle.lines.specs.Lines.{startsWhole, wholesUpTo, restUpTo, wholesOf, restOf, linesOfAll, wholeLines, linesOf}
 

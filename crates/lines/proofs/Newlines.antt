@@ -5,8 +5,8 @@ use mathlib.Core.List.{List, [], _∷_, _++_}
 use Prim.Native.Nat.{ℕ, zero, suc, _+_, _/_, _%_}
 use native.Mathlib.Omega.{arith}
 use lib.Dec.{ltb}
-use Rattle.record.specs.Line.{refusalLine}
-use Rattle.record.specs.Text.{decimalUpTo, decimal, spaced, line}
+use Rattle.text.specs.Line.{refusalLine}
+use Rattle.text.specs.Text.{decimalUpTo, decimal, spaced, line}
 use Rattle.lines.specs.Demands.{NoNewline, IsLine}
 
 none-append : (xs ys : List ℕ) → NoNewline xs → NoNewline ys → NoNewline (xs ++ ys)

@@ -10,7 +10,8 @@ use native.Mathlib.Omega.{arith}
 use lib.ListN.{length, take, drop}
 use lib.Seq.{take-length, drop-length}
 use borrow.Author.Tests.{leb-true}
-use Rattle.record.specs.Line.{refusalLine, lineOf}
+use Rattle.text.specs.Line.{refusalLine}
+use Rattle.record.specs.Line.{lineOf}
 use Rattle.record.specs.Record.{claimedBy}
 use Rattle.lines.specs.Lines.{startsWhole, restOf, wholeLines, lastLine, linesOf, textOf, nextSize}
 use Rattle.lines.proofs.Streams.{ends-inside, starts-none, first-line, no-line, rest-line}

@@ -13,7 +13,8 @@ use lib.Seq.{length-take-le, take-at, drop-at, getD-take}
 use borrow.Author.Tests.{le-leb, lt-leb, leb-true, leb-false, ne-eqb}
 use Rattle.lists.specs.Tabulate.{joined}
 use Rattle.reader.specs.Fields.{fieldOf}
-use Rattle.record.specs.Line.{refusalLine, lineOf}
+use Rattle.text.specs.Line.{refusalLine}
+use Rattle.record.specs.Line.{lineOf}
 use Rattle.record.specs.Record.{claimedBy, isWhole}
 use Rattle.record.proofs.Parsing.{broken-line}
 use Rattle.lines.specs.Lines.{startsWhole, wholesUpTo, restUpTo, wholesOf, restOf, linesOfAll, wholeLines, lastLine, linesOf}

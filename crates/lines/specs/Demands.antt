@@ -19,9 +19,10 @@ use Rattle.job.specs.NothingDeclared.{noWords}
 use Rattle.job.specs.Refusals.{registerReasons}
 use Rattle.lists.specs.Tabulate.{tabulate}
 use Rattle.reader.specs.Fields.{fieldOf}
-use Rattle.record.specs.Line.{markOf, refusalLine, lineOf}
+use Rattle.text.specs.Line.{markOf, refusalLine}
+use Rattle.record.specs.Line.{lineOf}
 use Rattle.record.specs.Record.{bad, recordOf}
-use Rattle.record.specs.Text.{line}
+use Rattle.text.specs.Text.{line}
 use Rattle.refusal.specs.Order.{Reason, First, None}
 use Rattle.register.specs.EachRound.{IsShortest}
 use Rattle.register.specs.Sequences.{split}

@@ -5,7 +5,8 @@ use Prim.Native.Nat.{ℕ, zero, suc, _+_}
 use lib.Dec.{leb}
 use lib.ListN.{length, take, drop}
 use Rattle.lists.specs.Tabulate.{joined}
-use Rattle.record.specs.Line.{refusalLine, lineOf}
+use Rattle.text.specs.Line.{refusalLine}
+use Rattle.record.specs.Line.{lineOf}
 use Rattle.record.specs.Record.{claimedBy}
 
 -- the bytes start with a whole record

@@ -7,7 +7,8 @@ use Prim.Native.Nat.{ℕ, _+_, _≤_, _<_}
 use lib.ListN.{length}
 use Rattle.lists.specs.Tabulate.{joined}
 use Rattle.reader.specs.Fields.{fieldOf}
-use Rattle.record.specs.Line.{refusalLine, lineOf}
+use Rattle.text.specs.Line.{refusalLine}
+use Rattle.record.specs.Line.{lineOf}
 use Rattle.lines.specs.Lines.{wholesOf, restOf, linesOfAll, wholeLines, linesOf}
 
 -- a whole record: two bytes of length, and as many bytes after them as these say

@@ -7,7 +7,6 @@ use native.Mathlib.Omega.{arith}
 use lib.ListN.{length}
 use Rattle.columns.specs.Columns.{number as bits, has, columnsOf, members}
 use Rattle.columns.specs.Listed.{listed}
-use Rattle.columns.specs.declared.Columns.{Columns}
 use Rattle.frame.specs.DeclaredCells.{Declared, declaredBy, asRead}
 use Rattle.frame.specs.Frame.{heldSums}
 use Rattle.frame.specs.Shape.{isShape}
@@ -35,8 +34,9 @@ use Rattle.refusal.specs.Number.{number}
 use Rattle.refusal.specs.declared.Refusal.{Refusal}
 use Rattle.refusal.specs.declared.Checked.{Checked}
 use Rattle.refusal.specs.declared.Checked.the-variants.{Pass, Refuse}
-use Rattle.record.specs.Answered.{columnCount}
-use Rattle.record.specs.Line.{refusalLine, columnsLine, frameLine, outputOf}
+use Rattle.text.specs.Answered.{columnCount}
+use Rattle.text.specs.Line.{refusalLine, columnsLine}
+use Rattle.record.specs.Line.{frameLine, outputOf}
 use Rattle.record.specs.Record.{frame}
 
 -- ---- how many columns are marked
@@ -82,18 +82,6 @@ few-marks j b words f a e =
     (omega (arith, few .0, reply-count (a .reply)), few .1)
 
 -- ---- the line, by what is returned
-
-module _ (reply : Reply) (marks : Columns) where
-  pub refusal-replied : (k : Refusal) → reply ≡ Refused k → refusalLine (number k) ≡ columnsLine (replyAnswer reply) marks
-  unfolding columnsLine
-  refusal-replied k e = ap (λ (x : Reply). columnsLine (replyAnswer x) marks) (sym e)
-
-  module _ (c : ℕ) (e : reply ≡ Count c) where
-    pub columns-replied : columnsLine (Calls.columns c) marks ≡ columnsLine (replyAnswer reply) marks
-    columns-replied = ap (λ (x : Reply). columnsLine (replyAnswer x) marks) (sym e)
-
-    pub count-replied : (n : ℕ) → columnCount reply ≤ n → c ≤ n
-    count-replied n h = subst (λ (x : Reply). columnCount x ≤ n) e h
 
 module _ (n : ℕ) (checks symbols : List ℕ) (h : Head) (start : h ≡ emptyHead) (shaped : Reshaped)
     (given : (a : Arrays) → shapeOutcome shaped a ≡ step (beside h a) (shape n checks 1)) where

@@ -1,9 +1,3 @@
-pub mod Digits
 pub mod Frames
-pub mod Lines
-pub mod Numbers
-pub mod Numerals
 pub mod Parsing
 pub mod Registers
-pub mod Spacing
-pub mod Writing

@@ -13,7 +13,8 @@ use Rattle.reader.specs.Fields.{fieldAt, fieldOf, fieldsOf, Filled}
 use Rattle.reader.specs.declared.Field.the-variants.{Value, End}
 use Rattle.reader.proofs.Filling.{length-fields}
 use Rattle.reader.proofs.Handed.{value-means, end-means}
-use Rattle.record.specs.Line.{refusalLine, outputOf, lineOf}
+use Rattle.text.specs.Line.{refusalLine}
+use Rattle.record.specs.Line.{outputOf, lineOf}
 use Rattle.record.specs.Record.{Record, bad, sequences, frame, claimedBy, isWhole, ofKind, countedOf, bodyOf, recordOf, fieldsLeft}
 
 module _ (bytes : List ℕ) where

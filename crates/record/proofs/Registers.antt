@@ -1,9 +1,8 @@
 -- The line of a record of sequences, by what the finder answers and leaves in its tap buffer.
-use mathlib.Core.Path.{_≡_, sym, ap, ap₂, _∙_, subst}
+use mathlib.Core.Path.{_≡_, sym, ap, ap₂, _∙_}
 use mathlib.Core.Bool.{Bool}
 use mathlib.Core.List.{List}
-use Prim.Native.Nat.{ℕ, suc, _+_, _-_, _≤_}
-use native.Mathlib.Nat.{sub-zero}
+use Prim.Native.Nat.{ℕ, suc, _+_, _≤_}
 use native.Mathlib.Numerals.{add-one}
 use native.Mathlib.Omega.{arith}
 use lib.ListN.{length, take, drop, length-append}
@@ -12,12 +11,12 @@ use Rattle.finder.specs.declared.Found.{Found}
 use Rattle.finder.specs.declared.Found.the-variants.{Register, Refused}
 use Rattle.finder.proofs.Demands.{tap-count, taps-left, first-left}
 use Rattle.refusal.specs.Number.{number}
-use Rattle.refusal.specs.declared.Refusal.{Refusal}
 use Rattle.register.specs.Algorithm4.{found}
 use Rattle.register.specs.Sequences.{longest, split}
-use Rattle.record.specs.Line.{refusalLine, registerLine, outputOf}
+use Rattle.text.specs.Line.{refusalLine, registerLine}
+use Rattle.record.specs.Line.{outputOf}
 use Rattle.record.specs.Record.{sequences}
-use Rattle.record.specs.Answered.{tapCount, foundLine}
+use Rattle.text.specs.Answered.{tapCount, foundLine}
 
 module _ (p : ℕ) (lengths symbols : List ℕ) where
   abbrev ss : List (List ℕ)
@@ -52,16 +51,3 @@ module _ (p : ℕ) (lengths symbols : List ℕ) where
     pub found-output : (r : Found) → answerOf r ≡ answer p lengths symbols (length buffer) → foundLine r left ≡ outputOf (sequences p lengths symbols)
     found-output (Register l a) e = sym (register-line l a e)
     found-output (Refused k) e = sym (refused-line (number k) e)
-
--- what is found, by cases
-module _ (r : Found) where
-  pub refusal-found : (left : List ℕ) (k : Refusal) → r ≡ Refused k → refusalLine (number k) ≡ foundLine r left
-  refusal-found left k e = ap (λ (x : Found). foundLine x left) (sym e)
-
-  module _ (l : ℕ) (a : Bool) (e : r ≡ Register l a) where
-    pub register-found : (left : List ℕ) → registerLine (register l a) (take (l + 1 - 0) left) ≡ foundLine r left
-    register-found left =
-        ap (λ (n : ℕ). registerLine (register l a) (take n left)) (sub-zero (l + 1)) ∙ ap (λ (x : Found). foundLine x left) (sym e)
-
-    pub count-found : (n : ℕ) → tapCount r ≤ n → l + 1 ≤ n
-    count-found n h = subst (λ (x : Found). tapCount x ≤ n) e h

@@ -1,6 +1,2 @@
-pub mod Answered
 pub mod Line
-pub mod Numerals
 pub mod Record
-pub mod Text
-pub mod Written

@@ -1,10 +1,6 @@
 -- The line that the program writes for a record (SPECIFICATION.md, "Records and lines").
-use mathlib.Core.Bool.{Bool, true, false}
-use mathlib.Core.List.{List, [], _∷_}
+use mathlib.Core.List.{List, []}
 use Prim.Native.Nat.{ℕ}
-use Rattle.columns.specs.Columns.{members}
-use Rattle.columns.specs.declared.Columns.{Columns}
-use Rattle.finder.specs.Finder as Finder
 use Rattle.finder.specs.Finder.{answer}
 use Rattle.job.specs.Calls as Calls
 use Rattle.job.specs.Calls.{Outcome, step}
@@ -13,26 +9,7 @@ use Rattle.job.specs.NothingDeclared.{noWords}
 use Rattle.register.specs.Algorithm4.{found}
 use Rattle.register.specs.Sequences.{longest, split}
 use Rattle.record.specs.Record.{Record, bad, sequences, frame, recordOf}
-use Rattle.record.specs.Text.{line}
-
--- `E` and the number of a refusal
-unfoldable pub refusalLine : ℕ → List ℕ
-refusalLine k = line 69 (k ∷ [])
-
-abbrev pub markOf : Bool → ℕ
-markOf true = 1
-markOf false = 0
-
--- `R`, the length, 1 where the register is alone, else 0, and the taps
-unfoldable pub registerLine : Finder.Answer → (taps : List ℕ) → List ℕ
-registerLine (Finder.register l a) taps = line 82 (l ∷ markOf a ∷ taps)
-registerLine (Finder.refused k) taps = refusalLine k
-
--- `F`, the number of columns, and the columns rising
-unfoldable pub columnsLine : Calls.Answer → Columns → List ℕ
-columnsLine Calls.done J = []
-columnsLine (Calls.columns c) J = line 70 (c ∷ members J)
-columnsLine (Calls.refused k) J = refusalLine k
+use Rattle.text.specs.Line.{refusalLine, registerLine, columnsLine}
 
 -- the line of a frame located, with nothing declared, on an empty job that was given its shape; refusals of the shape come first
 unfoldable pub frameLine : Calls.Answer → (shaped located : Outcome) → List ℕ

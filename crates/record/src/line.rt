@@ -1,7 +1,4 @@
 // The line of a record: from the bytes got to the text.
-use crate::answers::found_line;
-use crate::answers::refusal_line;
-use crate::answers::reply_line;
 use crate::parse::whole;
 use calls::locate::locate;
 use calls::shape::shape;
@@ -10,12 +7,15 @@ use heads::states::empty;
 use reader::fields;
 use refusal::Checked;
 use refusal::Refusal;
+use text::answers::found_line;
+use text::answers::refusal_line;
+use text::answers::reply_line;
 ghost use mathlib.Core.Path.{_≡_};
 ghost use Prim.Native.Nat.{_+_, _≤_};
 ghost use lib.ListN.{length, getD};
 ghost use Rattle.record.specs.Line.{outputOf, lineOf};
 ghost use Rattle.record.specs.Record.{sequences, frame, ofKind, countedOf, bodyOf, fieldsLeft};
-ghost use Rattle.record.specs.Written.{Written};
+ghost use Rattle.text.specs.Written.{Written};
 
 // The finder's tap buffer has room for the longest length that it takes.
 fn register_line(out: &mut [u8], at: usize, p: u16, lengths: &[u16], symbols: &[u16]) -> usize

@@ -11,8 +11,8 @@ use lib.Seq.{length-take-le, take-take, take-add, drop-drop, drop-at}
 use borrow.Author.Tests.{le-leb, lt-leb}
 use Rattle.record.specs.Line.{lineOf}
 use Rattle.record.specs.Record.{claimedBy}
-use Rattle.record.specs.Written.{Written}
-use Rattle.record.proofs.Writing.{before-end, same-length}
+use Rattle.text.specs.Written.{Written}
+use Rattle.text.proofs.Writing.{before-end, same-length}
 use Rattle.lines.specs.Lines.{startsWhole, restOf, textOf, nextSize}
 use Rattle.lines.proofs.NextLine.{next-fits, next-line, next-kept, none-due}
 use Rattle.tomkhadi.specs.Lined.{Lined}

@@ -5,7 +5,7 @@ use borrow.Author.Needs.{needs}
 use Rattle.record.specs.Line.{outputOf}
 use Rattle.record.specs.Record.{bodyOf}
 use Rattle.record.proofs.Parsing.{bad-line, body-short, body-unknown, body-sequences, body-frame}
-use Rattle.record.proofs.Writing.{line-as}
+use Rattle.text.proofs.Writing.{line-as}
 use Rattle.record.proofs.line.body_line.Statement.{statement}
 use Rattle.record.proofs.line.body_line.Tie as tie
 

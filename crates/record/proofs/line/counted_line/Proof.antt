@@ -4,7 +4,7 @@ use native.Mathlib.Omega.{arith}
 use borrow.Author.Needs.{needs}
 use Rattle.record.specs.Line.{outputOf}
 use Rattle.record.proofs.Parsing.{bad-line, counted-short, counted-said}
-use Rattle.record.proofs.Writing.{line-as}
+use Rattle.text.proofs.Writing.{line-as}
 use Rattle.record.proofs.line.counted_line.Statement.{statement}
 use Rattle.record.proofs.line.counted_line.Tie as tie
 

@@ -2,7 +2,7 @@
 use borrow.Author.Needs.{needs}
 use Rattle.job.specs.Job.{noArrays}
 use Rattle.record.proofs.Frames.{few-marks, frame-refused, frame-located}
-use Rattle.record.proofs.Writing.{line-as}
+use Rattle.text.proofs.Writing.{line-as}
 use Rattle.record.proofs.line.frame_line.Statement.{statement}
 use Rattle.record.proofs.line.frame_line.Tie as tie
 

@@ -2,7 +2,7 @@
 use borrow.Author.Needs.{needs}
 use borrow.Author.Tests.{not-true, not-false}
 use Rattle.record.proofs.Parsing.{broken-line, broken-left, whole-line, whole-left}
-use Rattle.record.proofs.Writing.{written-as}
+use Rattle.text.proofs.Writing.{written-as}
 use Rattle.record.proofs.line.line.Statement.{statement}
 use Rattle.record.proofs.line.line.Tie as tie
 

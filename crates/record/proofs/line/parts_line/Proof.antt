@@ -3,7 +3,7 @@ use mathlib.Core.Path.{ap}
 use borrow.Author.Needs.{needs}
 use Rattle.record.specs.Line.{outputOf}
 use Rattle.record.proofs.Parsing.{kind-sequences, kind-frame}
-use Rattle.record.proofs.Writing.{line-as}
+use Rattle.text.proofs.Writing.{line-as}
 use Rattle.record.proofs.line.parts_line.Statement.{statement}
 use Rattle.record.proofs.line.parts_line.Tie as tie
 

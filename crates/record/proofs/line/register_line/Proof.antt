@@ -3,7 +3,7 @@ use mathlib.Core.Path.{refl}
 use native.Mathlib.Omega.{arith}
 use borrow.Author.Needs.{needs}
 use Rattle.record.proofs.Registers.{found-taps, found-output}
-use Rattle.record.proofs.Writing.{line-as}
+use Rattle.text.proofs.Writing.{line-as}
 use Rattle.record.proofs.line.register_line.Statement.{statement}
 use Rattle.record.proofs.line.register_line.Tie as tie
 

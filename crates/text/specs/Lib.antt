@@ -1,0 +1,5 @@
+pub mod Answered
+pub mod Line
+pub mod Numerals
+pub mod Text
+pub mod Written
