@@ -10,7 +10,7 @@ use Rattle.plain.proofs.Tests.{each-none, each-more}
 use Rattle.plain.specs.Plain.{Each, sequence, sum}
 use Rattle.brute.proofs.Gathering.{gathered-cleared, gathered-none}
 use Rattle.brute.proofs.InRange.{part-residues}
-use Rattle.brute.specs.Equations.{Cleared, SolvesRows}
+use Rattle.elimination.specs.Equations.{Cleared, SolvesRows}
 use Rattle.brute.specs.Registers.{Gathered, Given, Meets, MeetsOne, SequenceAdded, Solvable}
 
 -- a length of a register has a successor

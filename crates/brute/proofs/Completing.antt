@@ -18,14 +18,14 @@ use Rattle.plain.proofs.Tests.{each-none, each-more}
 use Rattle.plain.specs.Plain.{Each, rem, sum}
 use Rattle.plain.specs.Written.{Wrote}
 use Rattle.brute.proofs.AllSequences.{next-length}
-use Rattle.brute.proofs.BackSubstitution.{some-solution}
+use Rattle.elimination.proofs.BackSubstitution.{some-solution}
 use Rattle.brute.proofs.Gathering.{contradicted, gathered-as, gathered-cleared, gathered-more}
-use Rattle.brute.proofs.Primes.{in-field, plain-prime-257}
-use Rattle.brute.specs.Equations.{Cleared, Decided, Numbers, Room, Solves}
+use Rattle.elimination.proofs.Primes.{in-field, plain-prime-257}
+use Rattle.elimination.specs.Equations.{Cleared, Decided, Numbers, Room, Solves}
 use Rattle.brute.specs.Erasures.{Completable, sumEquation}
 use Rattle.brute.specs.Registers.{Gathered, Residues}
-use Rattle.brute.specs.declared.eliminate.Added.{Added}
-use Rattle.brute.specs.declared.eliminate.Added.the-variants.{Contradicts}
+use Rattle.elimination.specs.declared.Added.{Added}
+use Rattle.elimination.specs.declared.Added.the-variants.{Contradicts}
 
 sum-posed : (list : List ℕ) (s y : ℕ) → sumEquation list s y 0 ≡ s
 unfolding sumEquation

@@ -7,12 +7,12 @@ use Prim.Native.Nat.{ℕ, _≤_, _<_}
 use native.Mathlib.Omega.{arith}
 use lib.ListN.{getD}
 use Rattle.plain.specs.Written.{Wrote}
-use Rattle.brute.proofs.SameRows.{solves-ext, same-echelon, same-solved}
-use Rattle.brute.specs.Equations.{Cleared, Decided, Echelon, Numbers, Posed, Room, Solves, SolvesAdded, SolvesRows}
-use Rattle.brute.specs.Prime.{Prime}
+use Rattle.elimination.proofs.SameRows.{solves-ext, same-echelon, same-solved}
+use Rattle.elimination.specs.Equations.{Cleared, Decided, Echelon, Numbers, Posed, Room, Solves, SolvesAdded, SolvesRows}
+use Rattle.elimination.specs.Prime.{Prime}
 use Rattle.brute.specs.Registers.{Gathered}
-use Rattle.brute.specs.declared.eliminate.Added.{Added}
-use Rattle.brute.specs.declared.eliminate.Added.the-variants.{Contradicts}
+use Rattle.elimination.specs.declared.Added.{Added}
+use Rattle.elimination.specs.declared.Added.the-variants.{Contradicts}
 
 -- an equation of residues e that is written into row 0
 module _ (p n : ℕ) (table posed : List ℕ) (e : ℕ → ℕ) (room : Room n table) (w : Wrote table posed 0 n e) where

@@ -8,7 +8,7 @@ use lib.ListN.{length, getD, drop, List·getD-eq-default}
 use lib.Seq.{getD-take, getD-drop}
 use Rattle.plain.proofs.Choices.{before-in, before-out, part-in, part-out, part-length-le}
 use Rattle.plain.specs.Plain.{before, part}
-use Rattle.brute.specs.Prime.{Prime}
+use Rattle.elimination.specs.Prime.{Prime}
 use Rattle.brute.specs.Registers.{Residues}
 
 module _ (p : ℕ) (prime : Prime p) where

@@ -1,8 +1,5 @@
 pub mod AllSequences
-pub mod BackSubstitution
-pub mod Cancelling
 pub mod Completing
-pub mod Crossing
 pub mod Erased
 pub mod Gathering
 pub mod InRange
@@ -10,15 +7,5 @@ pub mod Locating
 pub mod Marks
 pub mod Naming
 pub mod OneSequence
-pub mod OneSolution
-pub mod Places
-pub mod Primes
 pub mod Producing
-pub mod Reducing
-pub mod Roots
-pub mod SameRows
 pub mod Searching
-pub mod Settling
-pub mod Storing
-pub mod Tables
-pub mod Taps

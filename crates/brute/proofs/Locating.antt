@@ -8,7 +8,7 @@ use native.Mathlib.Decide.{decLt}
 use native.Mathlib.Omega.{arith}
 use lib.ListN.{length, getD, replicate, length-replicate}
 use Rattle.plain.specs.Plain.{Tells, capped, sum}
-use Rattle.brute.proofs.Primes.{plain-prime-257}
+use Rattle.elimination.proofs.Primes.{plain-prime-257}
 use Rattle.brute.proofs.Producing.{taps-numbers, taps-meet}
 use Rattle.brute.proofs.AllSequences.{next-length}
 use Rattle.brute.specs.Locating.{Determined, Located, MarkedRoots, RootAt}

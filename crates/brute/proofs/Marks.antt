@@ -11,7 +11,7 @@ use lib.Seq.{getD-set-same, getD-set-other}
 use mir.Val.{boolByte}
 use Rattle.plain.specs.Plain.{Tells}
 use Rattle.brute.proofs.Naming.{still-determined, still-solved}
-use Rattle.brute.specs.Equations.{Numbers, SolvesRows}
+use Rattle.elimination.specs.Equations.{Numbers, SolvesRows}
 use Rattle.brute.specs.Locating.{Determined, Marked, MarkedRoots, Named, RootAt}
 
 marked-none : (l : List ℕ) → Marked l l 0

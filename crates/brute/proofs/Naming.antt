@@ -10,14 +10,14 @@ use lib.ListN.{length, getD}
 use Rattle.plain.specs.Plain.{Tells}
 use Rattle.plain.specs.Written.{Wrote}
 use Rattle.brute.proofs.Gathering.{posing, rows-posed, equation-posed, equation-before}
-use Rattle.brute.proofs.Places.{rows-kept}
-use Rattle.brute.proofs.Primes.{plain-prime-257}
-use Rattle.brute.proofs.Roots.{root-solves}
-use Rattle.brute.proofs.SameRows.{same-leads, same-echelon, same-solved}
-use Rattle.brute.specs.Equations.{Decided, Numbers, Posed, Settled, SolvesRows}
+use Rattle.elimination.proofs.Places.{rows-kept}
+use Rattle.elimination.proofs.Primes.{plain-prime-257}
+use Rattle.elimination.proofs.Roots.{root-solves}
+use Rattle.elimination.proofs.SameRows.{same-leads, same-echelon, same-solved}
+use Rattle.elimination.specs.Equations.{Decided, Numbers, Posed, Settled, SolvesRows}
 use Rattle.brute.specs.Locating.{Determined, Named, RootAt}
-use Rattle.brute.specs.declared.eliminate.Added.{Added}
-use Rattle.brute.specs.declared.eliminate.Added.the-variants.{Follows, Leads, Contradicts}
+use Rattle.elimination.specs.declared.Added.{Added}
+use Rattle.elimination.specs.declared.Added.the-variants.{Follows, Leads, Contradicts}
 
 module _ (n i y : ℕ) (old posed new : List ℕ) (at : y ≡ (3 ^ i % 257) ^ 255 % 257) (wrote : Wrote old posed 0 n (λ k. y ^ k % 257))
     (answer : Added) (decided : Decided 257 n answer posed new) where

@@ -10,11 +10,11 @@ use Rattle.plain.specs.Plain.{Each, before}
 use Rattle.plain.specs.Written.{Wrote}
 use Rattle.brute.proofs.Gathering.{gathered-more, contradicted, gathered-rows, gathered-as, gathered-none}
 use Rattle.brute.proofs.InRange.{before-below}
-use Rattle.brute.specs.Equations.{Decided, Echelon, Room, Solves, SolvesRows}
-use Rattle.brute.specs.Prime.{Prime}
+use Rattle.elimination.specs.Equations.{Decided, Echelon, Room, Solves, SolvesRows}
+use Rattle.elimination.specs.Prime.{Prime}
 use Rattle.brute.specs.Registers.{Gathered, MeetsOne, Residues, SequenceAdded}
-use Rattle.brute.specs.declared.eliminate.Added.{Added}
-use Rattle.brute.specs.declared.eliminate.Added.the-variants.{Contradicts}
+use Rattle.elimination.specs.declared.Added.{Added}
+use Rattle.elimination.specs.declared.Added.the-variants.{Contradicts}
 
 -- t solves the rows that were there, and the equations of the symbols from l up to j
 abbrev pub MeetsUpTo : (p l : ℕ) (s old : List ℕ) (j : ℕ) (t : ℕ → ℕ) → Type 0

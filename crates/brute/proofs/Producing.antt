@@ -13,12 +13,12 @@ use Rattle.lists.proofs.Tabulated.{getD-tabulate, length-tabulate}
 use Rattle.lists.specs.Tabulate.{tabulate}
 use Rattle.plain.proofs.Tests.{each-more}
 use Rattle.plain.specs.Plain.{Each, sequence}
-use Rattle.brute.proofs.BackSubstitution.{some-solution, two-solutions}
-use Rattle.brute.proofs.Primes.{in-field}
-use Rattle.brute.proofs.OneSolution.{one-solution}
-use Rattle.brute.proofs.Taps.{discrepancy-solves, tabulated-solves}
-use Rattle.brute.specs.Equations.{LeadsRow, Numbers, valueAt}
-use Rattle.brute.specs.Prime.{Prime}
+use Rattle.elimination.proofs.BackSubstitution.{some-solution, two-solutions}
+use Rattle.elimination.proofs.Primes.{in-field}
+use Rattle.elimination.proofs.OneSolution.{one-solution}
+use Rattle.elimination.proofs.Taps.{discrepancy-solves, tabulated-solves}
+use Rattle.elimination.specs.Equations.{LeadsRow, Numbers, valueAt}
+use Rattle.elimination.specs.Prime.{Prime}
 use Rattle.brute.specs.Registers.{Gathered, Meets, Produces, Register}
 
 -- a test that fails at some number fails at one that is found

@@ -8,7 +8,7 @@ use native.Mathlib.Omega.{arith}
 use lib.ListN.{length}
 use Rattle.plain.specs.Plain.{Each, Tells}
 use Rattle.brute.proofs.Producing.{some-register, one-register, two-registers, no-register}
-use Rattle.brute.specs.Equations.{LeadsRow}
+use Rattle.elimination.specs.Equations.{LeadsRow}
 use Rattle.brute.specs.Registers.{Gathered, Given, Meets, Produces, Searched, Solvable}
 
 -- no register of a length below l generates the sequences

@@ -6,7 +6,7 @@ use mathlib.Core.List.{List}
 use Prim.Native.Nat.{ℕ, _+_, _*_, _^_, _<_, _≤_}
 use lib.ListN.{length, getD}
 use Rattle.plain.specs.Plain.{Each, Tells, capped, rem, sum}
-use Rattle.brute.specs.Equations.{Echelon, LeadsRow, Numbers, Room, SolvesRows}
+use Rattle.elimination.specs.Equations.{Echelon, LeadsRow, Numbers, Room, SolvesRows}
 use Rattle.brute.specs.Registers.{Produces, Residues, Shortest}
 
 -- the polynomial of the n taps t is 0 at the inverse of 3^i, which is the power 255 of it

@@ -6,8 +6,8 @@ use mathlib.Core.Logic.{_↔_}
 use Prim.Native.Nat.{ℕ, _+_, _<_, _≤_}
 use lib.ListN.{length, getD}
 use Rattle.plain.specs.Plain.{Each, before, discrepancy, sequence}
-use Rattle.brute.specs.Equations.{Echelon, LeadsRow, Numbers, Room, Solves, SolvesRows}
-use Rattle.brute.specs.Prime.{Prime}
+use Rattle.elimination.specs.Equations.{Echelon, LeadsRow, Numbers, Room, Solves, SolvesRows}
+use Rattle.elimination.specs.Prime.{Prime}
 
 -- a register of length l has l + 1 taps, residues modulo p, of which the first is 1
 pub record Register (p l : ℕ) (taps : List ℕ) : Type 0 where

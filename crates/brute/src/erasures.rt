@@ -1,9 +1,9 @@
 // Rows with columns that are lost: what is left of their check sums where these are taken out, one after the other, and whether some symbols for them make
 // all check sums 0.
-use crate::eliminate::add;
-use crate::eliminate::clear;
-use crate::eliminate::contradicts;
-use crate::eliminate::table;
+use elimination::add;
+use elimination::clear;
+use elimination::contradicts;
+use elimination::table;
 use plain::frames::power;
 use plain::values::get;
 use plain::values::minus;

@@ -1,5 +1,4 @@
 // The second locator, which asks elimination: whether a column is named is whether its equation follows from those of the taps.
-use crate::eliminate;
 use crate::shortest::shortest;
 use plain::frames::power;
 use plain::frames::size;
@@ -47,7 +46,7 @@ fn names(table: &mut [u16], i: u16, n: usize) -> bool
 {
     let y = power(power(3, i as usize), 255);
     pose_root(table, y, n);
-    eliminate::follows(eliminate::add(257, table, n))
+    elimination::follows(elimination::add(257, table, n))
 }
 
 fn mark(table: &mut [u16], columns: u16, n: usize, named: &mut [u16])
@@ -65,7 +64,7 @@ pub fn locate(columns: u16, checks: &[u16], sums: &[u16], named: &mut [u16]) -> 
         Located columns (now (checks .entry)) (now (sums .entry)) (now (named .entry)) (now (named .exit)) (r .number) (r .length)
         ⌝ }
 {
-    let mut table = eliminate::table();
+    let mut table = elimination::table();
     let found = shortest(257, checks, sums, &mut table);
     let length = found.length;
     if !found.alone {

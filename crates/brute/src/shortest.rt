@@ -1,9 +1,9 @@
 // The shortest register of sequences from Problem 2 itself: for l = 0, 1, .. the conditions on the taps are linear equations, and
 // elimination tells whether they have a solution and whether it is the only one.
-use crate::eliminate::add;
-use crate::eliminate::clear;
-use crate::eliminate::contradicts;
-use crate::eliminate::determined;
+use elimination::add;
+use elimination::clear;
+use elimination::contradicts;
+use elimination::determined;
 use plain::sequences::discrepancy;
 use plain::sequences::sequence;
 use plain::values::before;

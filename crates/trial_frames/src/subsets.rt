@@ -1,6 +1,5 @@
 // How far the nearest legal frame is, for frames of few columns: all sets of columns are tried, and elimination tells whether errors in
 // them alone give the check sums.
-use brute::eliminate;
 use plain::counting::advance;
 use plain::frames::power;
 use plain::frames::size;
@@ -20,11 +19,11 @@ fn pose(table: &mut [u16], marks: &[u16], sum: u16, step: u16) {
 
 fn explain_row(table: &mut [u16], exponent: u32, marks: &[u16], sums: &[u16]) -> bool {
     let n = std::num::wrapping_add_usize(marks.len(), 1);
-    eliminate::clear(table, n);
+    elimination::clear(table, n);
     let mut step = power(3, exponent as usize);
     for j in 0..sums.len() {
         pose(table, marks, get(sums, j), step);
-        if eliminate::contradicts(eliminate::add(257, table, n)) {
+        if elimination::contradicts(elimination::add(257, table, n)) {
             return false;
         }
         step = times(257, step, 3);
@@ -34,7 +33,7 @@ fn explain_row(table: &mut [u16], exponent: u32, marks: &[u16], sums: &[u16]) ->
 
 // Errors in the marked columns alone give the check sums of every row.
 pub(crate) fn explain(exponent: u32, marks: &[u16], checks: &[u16], sums: &[u16]) -> bool {
-    let mut room = eliminate::table();
+    let mut room = elimination::table();
     let table: &mut [u16] = &mut room;
     for h in 0..checks.len() {
         if !explain_row(table, exponent, marks, sequence(checks, sums, h)) {

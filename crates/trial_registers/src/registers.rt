@@ -7,7 +7,6 @@ use crate::sorted::sort;
 use crate::tallies::ALONE;
 use crate::tallies::LONGER_FROM_STARTS;
 use crate::tallies::NOT_ALONE;
-use brute::eliminate;
 use brute::shortest::Answer;
 use brute::shortest::generates;
 use brute::shortest::shortest;
@@ -103,7 +102,7 @@ fn is_shortest(
             return false;
         }
     }
-    let mut table = eliminate::table();
+    let mut table = elimination::table();
     same(length, alone, shortest(p, lengths, symbols, &mut table))
 }
 

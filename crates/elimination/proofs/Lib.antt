@@ -1,0 +1,13 @@
+pub mod BackSubstitution
+pub mod Cancelling
+pub mod Crossing
+pub mod OneSolution
+pub mod Places
+pub mod Primes
+pub mod Reducing
+pub mod Roots
+pub mod SameRows
+pub mod Settling
+pub mod Storing
+pub mod Tables
+pub mod Taps
