@@ -1,3 +1,3 @@
-pub mod FoldedRows
-pub mod FoldedSums
-pub mod Gathering
+pub mod Crossing
+pub mod FactorTables
+pub mod StagedSums

@@ -1,2 +1,2 @@
-pub mod Foldable
-pub mod Folded
+pub mod Stages
+pub mod Summable

@@ -1,3 +1,4 @@
 // Check sums of frames.
+mod factors;
 pub mod stages;
 pub mod sums;

@@ -1,20 +1,20 @@
-// Check sums of a row in two stages of 16: the row is folded into 16 columns in each of the 16 ways that there are, and each
-// check sum is that of a folded row. A row of 256 columns and 64 sums takes 5,120 products instead of 16,384.
-use field257::powers::entry;
+// Check sums of a row in four stages: a number-theoretic transform of 256 points to base 4, of which 64 are asked. In each stage every four columns that lie 64
+// apart, each times its factor, become four, one for each of the classes modulo 4 that the exponents of a class fall into. A row of 256 columns and 64 sums
+// takes 1,024 products instead of 16,384.
+use field257::montgomery::companion;
+use field257::montgomery::product;
 use field257::values::times;
-use field257::values::value_at;
 ghost use mathlib.Core.Path.{_≡_};
 ghost use Prim.Native.Nat.{ℕ, _+_, _*_, _%_, _≤_, _<_};
-ghost use lib.ListN.{length, getD, take, drop};
+ghost use lib.ListN.{length, getD};
 ghost use Rattle.lists.specs.Tabulate.{tabulate};
-ghost use Rattle.codec.specs.Foldable.{Foldable, FoldableEach, FoldableInto, Summable};
-ghost use Rattle.codec.specs.Folded.{gathered, folded};
-ghost use Rattle.frame.specs.Frame.{checkSums};
+ghost use Rattle.codec.specs.Stages.{Crossed, Factors, Staging, crossed, reversal, weighedSums};
 
 // The row with zeros after it.
 fn padded(x: &[u16]) -> [u16; 256]
     requires { ⌜ length (now x) ≤ 256 ⌝ }
-    ensures { λ r. ⌜ ((k : ℕ) → getD r k 0 ≡ getD (now (x .entry)) k 0) ⌝ }
+    ensures entries { λ r. ⌜ ((k : ℕ) → getD r k 0 ≡ getD (now (x .entry)) k 0) ⌝ }
+    ensures size { λ r. ⌜ length r ≡ 256 ⌝ }
 {
     let mut y = [0u16; 256];
     let mut i = 0;
@@ -39,73 +39,100 @@ pub fn add_multiple(cells: &mut [u32], x: &[u16], w: u16)
     }
 }
 
-// The columns of the row folded for the exponent e, not reduced: 16 products of 65535 and 256 fit each.
-fn gather(powers: &[u16; 256], x: &[u16], blocks: usize, e: u32) -> [u32; 16]
-    requires { ⌜ Foldable (now powers) (now x) blocks e ⌝ }
-    ensures { λ r. ⌜ r ≡ tabulate 16 (gathered blocks (now (x .entry)) e) ⌝ }
+// Column k times its factor, modulo 257 and not reduced.
+fn weighed(t: &[u16], x: &[u16; 256], k: usize) -> u16
+    requires { ⌜ Factors (now t) × (k < 256) ⌝ }
+    ensures same { λ r. ⌜ r % 257 ≡ (getD (now (x .entry)) k 0 * getD (now (t .entry)) k 0) % 257 ⌝ }
+    ensures bounded { λ r. ⌜ r ≤ 513 ⌝ }
 {
-    let mut cells = [0u32; 16];
-    let mut block: usize = 0;
-    while block < blocks {
-        let a = 16 * block;
-        let to = a + 16;
-        add_multiple(&mut cells, &x[a..to], entry(powers, (a as u32) * e));
-        block += 1;
-    }
-    cells
+    let w = t[k];
+    product(x[k], w, companion(w))
 }
 
-// The row folded for the exponent e.
-fn fold(powers: &[u16; 256], x: &[u16], blocks: usize, e: u32, y: &mut [u16])
-    requires { ⌜ FoldableInto (now powers) (now x) blocks e (now y) ⌝ }
-    ensures { λ r. ⌜ now (y .exit) ≡ folded blocks (now (x .entry)) e ⌝ }
+// a + b + c + d modulo 257.
+fn together(a: u16, b: u16, c: u16, d: u16) -> u16
+    requires { ⌜ (a ≤ 513) × (b ≤ 513) × (c ≤ 513) × (d ≤ 513) ⌝ }
+    ensures { λ r. ⌜ r % 257 ≡ (a * 1 + b * 1 + c * 1 + d * 1) % 257 ⌝ }
 {
-    let cells = gather(powers, x, blocks, e);
-    let mut a = 0;
-    while a < y.len() {
-        y[a] = (cells[a] % 257) as u16;
-        a += 1;
+    a + b + c + d
+}
+
+// a - 16 b - c + 16 d modulo 257: 3^64 is -16. 8738 is 34 times 257.
+fn turned(a: u16, b: u16, c: u16, d: u16) -> u16
+    requires { ⌜ (a ≤ 513) × (b ≤ 513) × (c ≤ 513) × (d ≤ 513) ⌝ }
+    ensures { λ r. ⌜ r % 257 ≡ (a * 1 + b * 241 + c * 256 + d * 16) % 257 ⌝ }
+{
+    (a + 16 * d + 8738) - (16 * b + c)
+}
+
+// a - b + c - d modulo 257. 1028 is 4 times 257.
+fn alternating(a: u16, b: u16, c: u16, d: u16) -> u16
+    requires { ⌜ (a ≤ 513) × (b ≤ 513) × (c ≤ 513) × (d ≤ 513) ⌝ }
+    ensures { λ r. ⌜ r % 257 ≡ (a * 1 + b * 256 + c * 1 + d * 256) % 257 ⌝ }
+{
+    (a + c + 1028) - (b + d)
+}
+
+// One stage: the columns l, 64 + l, 128 + l and 192 + l become the four from 4 l on.
+fn cross(t: &[u16], x: &[u16; 256], y: &mut [u16; 256])
+    requires { ⌜ Factors (now t) × (length (now y) ≡ 256) ⌝ }
+    ensures { λ r. ⌜ Crossed (now (t .entry)) (now (x .entry)) (now (y .exit)) ⌝ }
+{
+    let mut l = 0;
+    while l < 64 {
+        let a = weighed(t, x, l);
+        let b = weighed(t, x, 64 + l);
+        let c = weighed(t, x, 128 + l);
+        let d = weighed(t, x, 192 + l);
+        y[4 * l] = together(a, b, c, d);
+        y[4 * l + 1] = turned(a, b, c, d);
+        y[4 * l + 2] = alternating(a, b, c, d);
+        y[4 * l + 3] = turned(a, d, c, b);
+        l += 1;
     }
 }
 
-// The row folded for each of the first exponents from b on, one after the other.
-fn fold_each(powers: &[u16; 256], x: &[u16], blocks: usize, b: u32, ways: usize) -> [u16; 256]
-    requires { ⌜ FoldableEach (now powers) (now x) blocks b ways ⌝ }
-    ensures { λ r. ⌜ ((k : ℕ) → k < ways → take 16 (drop (16 * k) r) ≡ folded blocks (now (x .entry)) (b + k)) ⌝ }
+// The last stage: one of each four is asked, and reduced.
+fn last(t: &[u16], x: &[u16; 256]) -> [u16; 64]
+    requires { ⌜ Factors (now t) ⌝ }
+    ensures { λ r. ⌜ r ≡ tabulate 64 (λ l. crossed (now (t .entry)) (now (x .entry)) l 0 % 257) ⌝ }
 {
-    let mut rows = [0u16; 256];
-    let mut k: usize = 0;
-    while k < ways {
-        let a = 16 * k;
-        let to = a + 16;
-        fold(powers, x, blocks, b + k as u32, &mut rows[a..to]);
-        k += 1;
+    let mut y = [0u16; 64];
+    let mut l = 0;
+    while l < 64 {
+        let a = weighed(t, x, l);
+        let b = weighed(t, x, 64 + l);
+        let c = weighed(t, x, 128 + l);
+        let d = weighed(t, x, 192 + l);
+        y[l] = together(a, b, c, d) % 257;
+        l += 1;
     }
-    rows
+    y
 }
 
-fn at_most_16(n: usize) -> usize
-    ensures within { λ r. ⌜ r ≤ 16 ⌝ }
-    ensures enough { λ r. ⌜ ((k : ℕ) → k < n → k % 16 < r) ⌝ }
+// The digits of c to base 4 in the other order.
+fn reversed(c: usize) -> usize
+    requires { ⌜ c < 64 ⌝ }
+    ensures equals { λ r. ⌜ r ≡ reversal c ⌝ }
+    ensures below { λ r. ⌜ r < 64 ⌝ }
 {
-    if n < 16 {
-        return n;
-    }
-    16
+    c / 16 + 4 * (c / 4 % 4) + 16 * (c % 4)
 }
 
-// The check sums of a row x from the exponent b on, as many as there are places for them.
-pub fn staged_sums(powers: &[u16; 256], b: u32, x: &[u16], sums: &mut [u16])
-    requires { ⌜ Summable (now powers) b (now x) (now sums) ⌝ }
-    ensures { λ r. ⌜ now (sums .exit) ≡ checkSums b (length (now (x .entry))) (length (now (sums .entry))) (now (x .entry)) ⌝ }
+// The values at 3^0, 3^1, .. of the row x with each symbol times its factor, as many as there are places for them.
+pub fn staged_sums(t: &[u16], x: &[u16], sums: &mut [u16])
+    requires { ⌜ Staging (now t) × (length (now x) ≤ 256) × (length (now sums) ≤ 64) ⌝ }
+    ensures { λ r. ⌜ now (sums .exit) ≡ weighedSums (now (t .entry)) (length (now (sums .entry))) (now (x .entry)) ⌝ }
 {
-    let y = padded(x);
-    let rows = fold_each(powers, &y, (x.len() + 15) / 16, b, at_most_16(sums.len()));
+    let mut y = padded(x);
+    let mut z = [0u16; 256];
+    cross(&t[0..256], &y, &mut z);
+    cross(&t[256..512], &z, &mut y);
+    cross(&t[512..768], &y, &mut z);
+    let v = last(&t[768..1024], &z);
     let mut k = 0;
     while k < sums.len() {
-        let a = 16 * (k % 16);
-        let to = a + 16;
-        sums[k] = value_at(powers, &rows[a..to], b + k as u32);
+        sums[k] = v[reversed(k)];
         k += 1;
     }
 }

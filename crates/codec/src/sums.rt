@@ -1,12 +1,15 @@
 // Check sums of a row and of a frame.
+use crate::factors::weights;
 use crate::stages::staged_sums;
 use field257::powers::powers;
 use field257::values::value_at;
 use frame::Shape;
 ghost use mathlib.Core.Path.{_≡_};
-ghost use Prim.Native.Nat.{_*_};
+ghost use Prim.Native.Nat.{_*_, _≤_};
 ghost use lib.ListN.{length};
-ghost use Rattle.codec.specs.Foldable.{Summable};
+ghost use Rattle.codec.specs.Stages.{Weights};
+ghost use Rattle.codec.specs.Summable.{Summable};
+ghost use Rattle.field257.specs.Table.{table};
 ghost use mathlib.Core.Bool.{true};
 ghost use Rattle.frame.specs.Frame.{checkSums, heldSums};
 ghost use Rattle.frame.specs.Shape.{isShape};
@@ -24,24 +27,24 @@ fn plain_sums(powers: &[u16; 256], b: u32, x: &[u16], sums: &mut [u16])
     }
 }
 
-// The same, in two stages from 64 columns on: measured, shorter rows gain nothing by them.
-fn row_sums(powers: &[u16; 256], b: u32, x: &[u16], sums: &mut [u16])
-    requires { ⌜ Summable (now powers) b (now x) (now sums) ⌝ }
+// The same, in stages where the table for them is lent.
+fn row_sums(powers: &[u16; 256], b: u32, t: &[u16], x: &[u16], sums: &mut [u16])
+    requires { ⌜ Summable (now powers) b (now x) (now sums) × (1024 ≤ length (now t) → Weights b (now t)) ⌝ }
     ensures { λ r. ⌜ now (sums .exit) ≡ checkSums b (length (now (x .entry))) (length (now (sums .entry))) (now (x .entry)) ⌝ }
 {
-    if x.len() < 64 {
+    if t.len() < 1024 {
         plain_sums(powers, b, x, sums);
         return;
     }
-    staged_sums(powers, b, x, sums);
+    staged_sums(t, x, sums);
 }
 
 // The check sums of the rows of a frame, row after row, and zeros after them.
-pub fn frame_sums(s: Shape, frame: &[u16]) -> [u16; 512]
-    requires { ⌜ (isShape s ≡ true) × (length (now frame) ≡ s .rows * s .columns) ⌝ }
+fn summed(s: Shape, powers: &[u16; 256], t: &[u16], frame: &[u16]) -> [u16; 512]
+    requires { ⌜ (isShape s ≡ true) × (length (now frame) ≡ s .rows * s .columns) × (now powers ≡ table)
+        × (1024 ≤ length (now t) → Weights (s .exponent) (now t)) ⌝ }
     ensures { λ r. ⌜ r ≡ heldSums s (now (frame .entry)) ⌝ }
 {
-    let powers = powers();
     let rows = s.rows;
     let columns = s.columns;
     let mut sums = [0u16; 512];
@@ -51,9 +54,36 @@ pub fn frame_sums(s: Shape, frame: &[u16]) -> [u16; 512]
         let a = h * columns;
         let e = a + columns;
         let to = at + s.checks[h] as usize;
-        row_sums(&powers, s.exponent, &frame[a..e], &mut sums[at..to]);
+        row_sums(powers, s.exponent, t, &frame[a..e], &mut sums[at..to]);
         at = to;
         h += 1;
     }
     sums
+}
+
+// Whether there is so little to sum that stages gain nothing: their tables cost as much as 512 products one after the other, and so does each row.
+fn is_little(s: Shape) -> bool
+    requires { ⌜ isShape s ≡ true ⌝ }
+{
+    let mut checks: usize = 0;
+    let mut h = 0;
+    while h < s.rows {
+        checks += s.checks[h] as usize;
+        h += 1;
+    }
+    checks * s.columns < 512 * (s.rows + 1)
+}
+
+// The same, with the table for stages where they gain something.
+pub fn frame_sums(s: Shape, frame: &[u16]) -> [u16; 512]
+    requires { ⌜ (isShape s ≡ true) × (length (now frame) ≡ s .rows * s .columns) ⌝ }
+    ensures { λ r. ⌜ r ≡ heldSums s (now (frame .entry)) ⌝ }
+{
+    let powers = powers();
+    if is_little(s) {
+        let none = [0u16; 1];
+        return summed(s, &powers, &none, frame);
+    }
+    let t = weights(&powers, s.exponent);
+    summed(s, &powers, &t, frame)
 }

@@ -25,7 +25,8 @@ loop-again c =
 returns : tie.Need-returns Inv-loop μ-loop
 returns c =
     let x = c .before .before .args .x .now in
-    filled-zeros _ 256 _ _ (c .before .loop .inv) (λ k h. List·getD-eq-default x 0 (omega arith))
+    let filled = c .before .loop .inv in
+    (filled-zeros _ 256 _ _ filled (λ k h. List·getD-eq-default x 0 (omega arith)), filled .size)
 
 pub padded-spec : {M : Type 1} → statement M
 padded-spec =

@@ -1,45 +1,56 @@
--- `codec::stages::staged_sums` meets its contract. The loop fills the list with the check sums.
-use mathlib.Core.Path.{_∙_}
-use Prim.Native.Nat.{suc, _-_, _%_}
+-- `codec::stages::staged_sums` meets its contract. The loop fills the list with what the last stage has, class after class.
+use mathlib.Core.Path.{refl, _∙_}
+use Prim.Native.Nat.{_-_}
 use native.Mathlib.Omega.{arith}
 use lib.ListN.{length}
 use Rattle.lists.proofs.Filling.{Filled, filled-none, filled-more, filled-all}
-use Rattle.frame.specs.Frame.{checkSum, checkSums}
-use Rattle.codec.proofs.FoldedSums.{staged-sum}
+use Rattle.codec.specs.Stages.{weighedSum, weighedSums}
+use Rattle.codec.proofs.FactorTables.{first-part, first-factors, later-part, later-factors, weighed-same}
+use Rattle.codec.proofs.StagedSums.{staged-sum}
 use borrow.Author.Needs.{needs}
 use Rattle.codec.proofs.stages.staged_sums.Statement.{statement}
 use Rattle.codec.proofs.stages.staged_sums.Tie as tie
 
 abbrev Inv-loop : tie.InvT-loop
-Inv-loop powers b x sums₀ rows k₀ sums k = Filled (λ i. checkSum b (length x) x (suc i)) sums₀ k sums
+Inv-loop t x sums₀ v k₀ sums k = Filled (weighedSum t x) sums₀ k sums
 
 abbrev μ-loop : tie.MeasureT-loop
-μ-loop powers b x sums₀ rows k₀ sums k = length sums₀ - k
+μ-loop t x sums₀ v k₀ sums k = length sums₀ - k
 
-fold-each-requires : tie.Need-fold-each-requires Inv-loop μ-loop
-fold-each-requires c κs =
-    let asked = c .before .before .before .before .before .pre in
-    record {
-      foldable = record { powers-known = asked .powers-known; whole = omega arith; few-blocks = omega arith; exponent = omega arith };
-      few-ways = c .at-most-16 .ensures .0;
-    }
+cross-requires : tie.Need-cross-requires Inv-loop μ-loop
+cross-requires c κs = (first-factors _ (c .before .before .before .before .before .before .before .pre .0), refl)
+
+cross-requires-2 : tie.Need-cross-requires-2 Inv-loop μ-loop
+cross-requires-2 c κs = (later-factors _ (c .before .before .before .before .before .before .before .before .before .before .before .pre .0) 1 (omega arith) (omega arith), c .before .before .before .before .before .before .before .padded .ensures .1)
+
+cross-requires-3 : tie.Need-cross-requires-3 Inv-loop μ-loop
+cross-requires-3 c κs = (later-factors _ (c .before .before .before .before .before .before .before .before .before .before .before .before .before .before .before .pre .0) 2 (omega arith) (omega arith), c .before .before .before .before .before .before .before .cross .ensures .size)
+
+last-requires : tie.Need-last-requires Inv-loop μ-loop
+last-requires c κs = later-factors _ (c .before .before .before .before .before .before .before .before .before .before .before .before .before .before .before .before .before .before .pre .0) 3 (omega arith) (omega arith)
 
 loop-holds : tie.Need-loop-holds Inv-loop μ-loop
 loop-holds c = filled-none _ _
 
 loop-again : tie.Need-loop-again Inv-loop μ-loop
 loop-again c =
-    let at = c .before .before .before .before in
-    let folds = at .before in
-    let padded = folds .before .before .before in
+    let at = c .before .before in
+    let fourth = at .before in
+    let third = fourth .before .before .before in
+    let second = third .before .before .before .before in
+    let first = second .before .before .before .before in
+    let padding = first .before .before .before .before in
+    let start = padding .before .before .before .before in
     let k = at .loop .k in
-    filled-more _ _ k (c .value-at .result) (at .loop .sums) (at .loop .inv) (omega arith)
-    (c .value-at .ensures .0
-    ∙ staged-sum _ _ k (padded .before .before .before .args .x .now) _ (folds .fold-each .result) (padded .padded .ensures) (omega arith)
-    (folds .fold-each .ensures (k % 16) (folds .before .at-most-16 .ensures .1 k (omega arith))))
+    let t = start .args .t .now in
+    filled-more _ _ k _ (at .loop .sums) (at .loop .inv) (omega arith)
+    (staged-sum k (omega arith) _ _ _ _ _ _ _ _ (first .cross .ensures) (second .cross2 .ensures) (third .cross3 .ensures)
+    (later-part t (start .pre .0) 1 (omega arith) (omega arith)) (later-part t (start .pre .0) 2 (omega arith) (omega arith))
+    (later-part t (start .pre .0) 3 (omega arith) (omega arith)) _ _ (fourth .last .ensures) (c .reversed .ensures .0) (c .reversed .ensures .1)
+    ∙ weighed-same _ _ _ _ k (first-part t (start .pre .0)) (padding .padded .ensures .0))
 
 returns : tie.Need-returns Inv-loop μ-loop
-unfolding checkSums
+unfolding weighedSums
 returns c = filled-all _ _ _ _ (c .before .loop .inv) (omega arith)
 
 pub staged-sums-spec : {M : Type 1} → statement M
@@ -51,18 +62,24 @@ staged-sums-spec =
     (λ c κs. search needs)
     (λ c. omega arith)
     (λ c. omega arith)
-    (λ c κs. search needs)
-    fold-each-requires
+    (λ c. omega arith)
+    cross-requires
+    (λ c. omega arith)
+    (λ c. omega arith)
+    (λ c. omega arith)
+    cross-requires-2
+    (λ c. omega arith)
+    (λ c. omega arith)
+    (λ c. omega arith)
+    cross-requires-3
+    (λ c. omega arith)
+    (λ c. omega arith)
+    (λ c. omega arith)
+    last-requires
     loop-holds
-    (λ c. omega arith)
-    (λ c. omega arith)
-    (λ c. omega arith)
-    (λ c. omega arith)
-    (λ c. omega arith)
-    (λ c. omega arith)
-    (λ c. omega arith)
-    (λ c. omega arith)
     (λ c κs. search needs)
+    (λ c. omega arith)
+    (λ c. omega arith)
     (λ c. omega arith)
     (λ c. omega arith)
     (λ c. omega arith)

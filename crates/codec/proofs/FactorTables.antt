@@ -1,0 +1,97 @@
+-- The table of factors and its parts, and that a row whose symbols are multiplied by the powers of 3^b has the check sums from the exponent b on as its values.
+use mathlib.Core.Path.{_≡_, sym, ap, ap₂, _∙_}
+use mathlib.Core.List.{List}
+use Prim.Native.Nat.{ℕ, suc, _+_, _-_, _*_, _/_, _%_, _^_, _≤_, _<_}
+use native.Mathlib.Nat.{mul-assoc, zero-mul}
+use native.Mathlib.Omega.{arith}
+use borrow.Rule.Slice.PartMut.{midOf, mid-len}
+use lib.ListN.{length, getD, drop, length-drop, List·getD-eq-default}
+use lib.Seq.{length-take-le}
+use Rattle.field257.specs.Powers.{powerOf3}
+use Rattle.frame.specs.Frame.{checkSum, checkSums, weight}
+use Rattle.lists.specs.Total.{total}
+use Rattle.lists.proofs.BlockSums.{total-rest}
+use Rattle.lists.proofs.Entries.{getD-part}
+use Rattle.lists.proofs.Filling.{Filled, filled-entry, filled-rest}
+use Rattle.lists.proofs.Tabulated.{getD-tabulate, length-tabulate, tabulate-ext}
+use Rattle.lists.proofs.Totals.{total-ext}
+use Rattle.codec.specs.Stages.{Factors, Staging, Weights, factorOf, factorTable, weighedSum, weighedSums}
+use Rattle.codec.proofs.StagedSums.{total-same, same-times, power-product}
+
+pub length-factors : length factorTable ≡ 1024
+unfolding factorTable
+length-factors = length-tabulate 1024 (λ k. factorOf (4 ^ (k / 256)) (k % 256))
+
+-- the table with the powers of 3^b written over its first part
+pub weights-all : (b i : ℕ) (t : List ℕ) → Filled (λ k. powerOf3 (b * k)) factorTable i t → i ≡ 256 → Weights b t
+unfolding factorTable
+weights-all b i t a e = record {
+  staging = record {
+    size = a .size ∙ length-factors;
+    small = λ k h. let q = columns k h in let l : powerOf3 (b * k) ≤ 256 = omega arith in omega arith;
+    later = λ s k one four h.
+        filled-rest _ _ i t a (256 * s + k) (omega arith) (let l = length-factors in omega arith)
+        ∙ getD-tabulate 1024 (λ k. factorOf (4 ^ (k / 256)) (k % 256)) (256 * s + k) 0 (omega arith)
+        ∙ ap₂ (λ (u v : ℕ). factorOf (4 ^ u) v) (let q : (256 * s + k) / 256 ≡ s = omega arith in q) (let q : (256 * s + k) % 256 ≡ k = omega arith in q);
+  };
+  columns = columns;
+}
+  where
+    columns : (k : ℕ) → k < 256 → getD t k 0 ≡ powerOf3 (b * k)
+    columns k h = filled-entry _ _ i t a k (omega arith)
+
+-- ---- the parts
+
+factor-small : (n k : ℕ) → factorOf n k ≤ 257
+unfolding factorOf
+factor-small n k = omega arith
+
+module _ (t : List ℕ) (staging : Staging t) where
+  pub first-part : (k : ℕ) → k < 256 → getD (midOf 0 256 t) k 0 ≡ getD t k 0
+  first-part k h = getD-part 0 256 t k 0 h ∙ ap (λ (i : ℕ). getD t i 0) (let e : 0 + k ≡ k = omega arith in e)
+
+  pub first-factors : Factors (midOf 0 256 t)
+  first-factors = record {
+    size = mid-len 0 256 t (let s = staging .size in omega arith);
+    small = λ k h. let e = first-part k h in let l = staging .small k h in omega arith;
+  }
+
+  -- before stage s
+  module _ (s : ℕ) (one : 1 ≤ s) (four : s < 4) where
+    pub later-part : (k : ℕ) → k < 256 → getD (midOf (256 * s) 256 t) k 0 ≡ factorOf (4 ^ s) k
+    later-part k h = getD-part (256 * s) 256 t k 0 h ∙ staging .later s k one four h
+
+    pub later-factors : Factors (midOf (256 * s) 256 t)
+    later-factors = record {
+      size = length-take-le 256 (drop (256 * s) t) (let size = staging .size in omega (arith, length-drop (256 * s) t));
+      small = λ k h. let e = later-part k h in let l = factor-small (4 ^ s) k in omega arith;
+    }
+
+-- ---- the values of the weighed row
+
+-- the row may have zeros after it, and the factors others
+pub weighed-same : (t u x y : List ℕ) (k : ℕ) → ((i : ℕ) → i < 256 → getD t i 0 ≡ getD u i 0) → ((i : ℕ) → getD x i 0 ≡ getD y i 0)
+    → weighedSum t x k ≡ weighedSum u y k
+unfolding weighedSum
+weighed-same t u x y k factors symbols =
+    ap (λ (s : ℕ). s % 257)
+    (total-ext 256 (λ i. getD x i 0 * (getD t i 0 * 3 ^ (i * k))) (λ i. getD y i 0 * (getD u i 0 * 3 ^ (i * k)))
+    (λ i h. ap₂ (λ (v w : ℕ). v * (w * 3 ^ (i * k))) (symbols i) (factors i h)))
+
+weighed-sum : (b : ℕ) (t x : List ℕ) → Weights b t → length x ≤ 256 → (k : ℕ) → weighedSum t x k ≡ checkSum b (length x) x (suc k)
+unfolding weighedSum checkSum weight
+weighed-sum b t x w narrow k =
+    total-same 256 (λ i. getD x i 0 * (getD t i 0 * 3 ^ (i * k))) (λ i. getD x i 0 * weight b i (suc k))
+    (λ i h. same-times (getD x i 0) (getD t i 0 * 3 ^ (i * k)) (weight b i (suc k))
+    (ap (λ (v : ℕ). (v * 3 ^ (i * k)) % 257) (w .columns i h) ∙ power-product (b * i) (i * k) ∙ ap powerOf3 (exponents i)))
+    ∙ ap (λ (s : ℕ). s % 257)
+    (total-rest (length x) 256 (λ i. getD x i 0 * weight b i (suc k)) narrow
+    (λ i h. ap (λ (v : ℕ). v * weight b i (suc k)) (List·getD-eq-default x 0 h) ∙ zero-mul (weight b i (suc k))))
+  where
+    exponents : (i : ℕ) → b * i + i * k ≡ i * (b + suc k - 1)
+    exponents i =
+        (let e : b * i + i * k ≡ i * (b + k) = omega arith in e) ∙ ap (λ (e : ℕ). i * e) (let e : b + k ≡ b + suc k - 1 = omega arith in e)
+
+pub weighed-sums : (b : ℕ) (t x : List ℕ) (m : ℕ) → Weights b t → length x ≤ 256 → weighedSums t m x ≡ checkSums b (length x) m x
+unfolding weighedSums checkSums
+weighed-sums b t x m w narrow = tabulate-ext m (weighedSum t x) (λ j. checkSum b (length x) x (suc j)) (λ k h. weighed-sum b t x w narrow k)

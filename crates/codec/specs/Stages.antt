@@ -1,0 +1,55 @@
+-- Check sums in stages (docs/REFERENCES.md). A stage makes 4 n classes of exponents of n: the column i of class c of what it reads is entry n i + c, and
+-- class 4 c + m of what it writes is of the exponents of class c that have digit m to base 4 next. After three stages each class has 4 columns and one exponent
+-- below 64, whose digits stand in the class in the other order.
+use mathlib.Core.List.{List}
+use Prim.Native.Nat.{ℕ, _+_, _*_, _/_, _%_, _^_, _≤_, _<_}
+use mathlib.Core.Path.{_≡_}
+use lib.ListN.{length, getD}
+use Rattle.lists.specs.Tabulate.{tabulate}
+use Rattle.lists.specs.Total.{total}
+use Rattle.field257.specs.Powers.{powerOf3}
+
+-- the number with the three digits of c to base 4 in the other order
+abbrev pub reversal : ℕ → ℕ
+reversal c = c / 16 + 4 * (c / 4 % 4) + 16 * (c % 4)
+
+-- the columns l, 64 + l, 128 + l and 192 + l, each times its factor in t and times a power of 3^(64 m), not reduced
+unfoldable pub crossed : (t x : List ℕ) (l m : ℕ) → ℕ
+crossed t x l m = total 4 (λ j. getD x (64 * j + l) 0 * (getD t (64 * j + l) 0 * powerOf3 (64 * j * m)))
+
+-- a stage
+pub record Crossed (t x y : List ℕ) : Type 0 where
+  pub size : length y ≡ 256
+  pub entries : (l m : ℕ) → l < 64 → m < 4 → getD y (4 * l + m) 0 % 257 ≡ crossed t x l m % 257
+
+-- factors by which columns may be multiplied
+pub record Factors (t : List ℕ) : Type 0 where
+  pub size : length t ≡ 256
+  pub small : (k : ℕ) → k < 256 → getD t k 0 ≤ 257
+
+-- the factor of entry k before a stage that reads n classes
+unfoldable pub factorOf : (n k : ℕ) → ℕ
+factorOf n k = powerOf3 (k / 64 * reversal (k % n))
+
+-- for 1, 4, 16 and 64 classes
+unfoldable pub factorTable : List ℕ
+factorTable = tabulate 1024 (λ k. factorOf (4 ^ (k / 256)) (k % 256))
+
+-- factors of any columns, then those before the later stages
+pub record Staging (t : List ℕ) : Type 0 where
+  pub size : length t ≡ 1024
+  pub small : (k : ℕ) → k < 256 → getD t k 0 ≤ 257
+  pub later : (s k : ℕ) → 1 ≤ s → s < 4 → k < 256 → getD t (256 * s + k) 0 ≡ factorOf (4 ^ s) k
+
+-- the same, where the columns are multiplied by the powers of 3^b
+pub record Weights (b : ℕ) (t : List ℕ) : Type 0 where
+  pub staging : Staging t
+  pub columns : (k : ℕ) → k < 256 → getD t k 0 ≡ powerOf3 (b * k)
+
+-- the value at 3^k of a row x of up to 256 columns with each symbol times its factor
+unfoldable pub weighedSum : (t x : List ℕ) (k : ℕ) → ℕ
+weighedSum t x k = total 256 (λ i. getD x i 0 * (getD t i 0 * 3 ^ (i * k))) % 257
+
+-- the values at 3^0 .. 3^(m − 1)
+unfoldable pub weighedSums : (t : List ℕ) (m : ℕ) (x : List ℕ) → List ℕ
+weighedSums t m x = tabulate m (weighedSum t x)
