@@ -1,22 +1,22 @@
 -- The table of factors and its parts, and that a row whose symbols are multiplied by the powers of 3^b has the check sums from the exponent b on as its values.
-use mathlib.Core.Path.{_≡_, sym, ap, ap₂, _∙_}
+use mathlib.Core.Path.{_≡_, ap, ap₂, _∙_}
 use mathlib.Core.List.{List}
 use Prim.Native.Nat.{ℕ, suc, _+_, _-_, _*_, _/_, _%_, _^_, _≤_, _<_}
-use native.Mathlib.Nat.{mul-assoc, zero-mul}
+use native.Mathlib.Nat.{zero-mul}
 use native.Mathlib.Omega.{arith}
 use borrow.Rule.Slice.PartMut.{midOf, mid-len}
 use lib.ListN.{length, getD, drop, length-drop, List·getD-eq-default}
 use lib.Seq.{length-take-le}
 use Rattle.field257.specs.Powers.{powerOf3}
 use Rattle.frame.specs.Frame.{checkSum, checkSums, weight}
-use Rattle.lists.specs.Total.{total}
 use Rattle.lists.proofs.BlockSums.{total-rest}
 use Rattle.lists.proofs.Entries.{getD-part}
 use Rattle.lists.proofs.Filling.{Filled, filled-entry, filled-rest}
 use Rattle.lists.proofs.Tabulated.{getD-tabulate, length-tabulate, tabulate-ext}
 use Rattle.lists.proofs.Totals.{total-ext}
 use Rattle.codec.specs.Stages.{Factors, Staging, Weights, factorOf, factorTable, weighedSum, weighedSums}
-use Rattle.codec.proofs.StagedSums.{total-same, same-times, power-product}
+use Rattle.codec.proofs.StageSums.{total-same, same-times}
+use Rattle.codec.proofs.StagedSums.{power-product}
 
 pub length-factors : length factorTable ≡ 1024
 unfolding factorTable

@@ -1,6 +1,6 @@
--- Check sums in stages (docs/REFERENCES.md). A stage makes 4 n classes of exponents of n: the column i of class c of what it reads is entry n i + c, and
--- class 4 c + m of what it writes is of the exponents of class c that have digit m to base 4 next. After three stages each class has 4 columns and one exponent
--- below 64, whose digits stand in the class in the other order.
+-- Check sums in stages: a number-theoretic transform to base 4. A stage reads n classes of exponents and writes 4 n: column i of class c stands at n i + c,
+-- and class 4 c + m is of those exponents of class c whose next digit to base 4 is m. After three stages each class has four columns and one exponent below 64,
+-- whose digits stand in the class in the other order.
 use mathlib.Core.List.{List}
 use Prim.Native.Nat.{ℕ, _+_, _*_, _/_, _%_, _^_, _≤_, _<_}
 use mathlib.Core.Path.{_≡_}
@@ -13,21 +13,21 @@ use Rattle.field257.specs.Powers.{powerOf3}
 abbrev pub reversal : ℕ → ℕ
 reversal c = c / 16 + 4 * (c / 4 % 4) + 16 * (c % 4)
 
--- the columns l, 64 + l, 128 + l and 192 + l, each times its factor in t and times a power of 3^(64 m), not reduced
-unfoldable pub crossed : (t x : List ℕ) (l m : ℕ) → ℕ
-crossed t x l m = total 4 (λ j. getD x (64 * j + l) 0 * (getD t (64 * j + l) 0 * powerOf3 (64 * j * m)))
+-- the columns l, 64 + l, 128 + l and 192 + l, each times its factor in t, as coefficients of a polynomial: its value at 3^(64 m), not reduced
+unfoldable pub butterfly : (t x : List ℕ) (l m : ℕ) → ℕ
+butterfly t x l m = total 4 (λ j. getD x (64 * j + l) 0 * (getD t (64 * j + l) 0 * powerOf3 (64 * j * m)))
 
--- a stage
-pub record Crossed (t x y : List ℕ) : Type 0 where
+-- a stage has a butterfly for each four columns
+pub record Butterflies (t x y : List ℕ) : Type 0 where
   pub size : length y ≡ 256
-  pub entries : (l m : ℕ) → l < 64 → m < 4 → getD y (4 * l + m) 0 % 257 ≡ crossed t x l m % 257
+  pub entries : (l m : ℕ) → l < 64 → m < 4 → getD y (4 * l + m) 0 % 257 ≡ butterfly t x l m % 257
 
 -- factors by which columns may be multiplied
 pub record Factors (t : List ℕ) : Type 0 where
   pub size : length t ≡ 256
   pub small : (k : ℕ) → k < 256 → getD t k 0 ≤ 257
 
--- the factor of entry k before a stage that reads n classes
+-- the factor of entry k before a stage that reads n classes: the difference that the digits so far make
 unfoldable pub factorOf : (n k : ℕ) → ℕ
 factorOf n k = powerOf3 (k / 64 * reversal (k % n))
 

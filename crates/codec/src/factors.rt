@@ -1,9 +1,9 @@
 // The factors of the columns before the stages in which check sums are worked out.
 use field257::powers::entry;
+use field257::powers::powers;
 ghost use mathlib.Core.Path.{_≡_};
 ghost use Prim.Native.Nat.{_≤_};
 ghost use Rattle.codec.specs.Stages.{Weights, factorTable};
-ghost use Rattle.field257.specs.Table.{table};
 
 // For 1, 4, 16 and 64 classes of exponents, 256 each.
 const FACTORS: [u16; 1024] = [
@@ -1040,14 +1040,15 @@ fn factors() -> [u16; 1024]
 }
 
 // The table, to be lent, for check sums from the exponent b on: before the first stage the columns are multiplied by the powers of 3^b.
-pub fn weights(powers: &[u16; 256], b: u32) -> [u16; 1024]
-    requires { ⌜ (now powers ≡ table) × (b ≤ 255) ⌝ }
+pub fn weights(b: u32) -> [u16; 1024]
+    requires { ⌜ b ≤ 255 ⌝ }
     ensures { λ r. ⌜ Weights b r ⌝ }
 {
+    let powers = powers();
     let mut t = factors();
     let mut i: usize = 0;
     while i < 256 {
-        t[i] = entry(powers, b * i as u32);
+        t[i] = entry(&powers, b * i as u32);
         i += 1;
     }
     t

@@ -1,6 +1,6 @@
-// Check sums of a row in four stages: a number-theoretic transform of 256 points to base 4, of which 64 are asked. In each stage every four columns that lie 64
-// apart, each times its factor, become four, one for each of the classes modulo 4 that the exponents of a class fall into. A row of 256 columns and 64 sums
-// takes 1,024 products instead of 16,384.
+// Check sums of a row in four stages: a number-theoretic transform to base 4 of 256 points, of which the first 64 are asked. In each stage every four columns
+// that lie 64 apart, each times its factor, become four others, for four classes of exponents. A row of 256 columns and 64 sums takes 1,024 products instead
+// of 16,384.
 use field257::montgomery::companion;
 use field257::montgomery::product;
 use field257::values::times;
@@ -8,7 +8,7 @@ ghost use mathlib.Core.Path.{_≡_};
 ghost use Prim.Native.Nat.{ℕ, _+_, _*_, _%_, _≤_, _<_};
 ghost use lib.ListN.{length, getD};
 ghost use Rattle.lists.specs.Tabulate.{tabulate};
-ghost use Rattle.codec.specs.Stages.{Crossed, Factors, Staging, crossed, reversal, weighedSums};
+ghost use Rattle.codec.specs.Stages.{Butterflies, Factors, Staging, butterfly, reversal, weighedSums};
 
 // The row with zeros after it.
 fn padded(x: &[u16]) -> [u16; 256]
@@ -73,10 +73,11 @@ fn alternating(a: u16, b: u16, c: u16, d: u16) -> u16
     (a + c + 1028) - (b + d)
 }
 
-// One stage: the columns l, 64 + l, 128 + l and 192 + l become the four from 4 l on.
-fn cross(t: &[u16], x: &[u16; 256], y: &mut [u16; 256])
+// One stage, of 64 butterflies: the columns l, 64 + l, 128 + l and 192 + l become the four from 4 l on. So the loop is the same in each stage, and several
+// butterflies are worked out at once.
+fn butterflies(t: &[u16], x: &[u16; 256], y: &mut [u16; 256])
     requires { ⌜ Factors (now t) × (length (now y) ≡ 256) ⌝ }
-    ensures { λ r. ⌜ Crossed (now (t .entry)) (now (x .entry)) (now (y .exit)) ⌝ }
+    ensures { λ r. ⌜ Butterflies (now (t .entry)) (now (x .entry)) (now (y .exit)) ⌝ }
 {
     let mut l = 0;
     while l < 64 {
@@ -92,10 +93,10 @@ fn cross(t: &[u16], x: &[u16; 256], y: &mut [u16; 256])
     }
 }
 
-// The last stage: one of each four is asked, and reduced.
+// The last stage: of each butterfly one column is asked, and reduced.
 fn last(t: &[u16], x: &[u16; 256]) -> [u16; 64]
     requires { ⌜ Factors (now t) ⌝ }
-    ensures { λ r. ⌜ r ≡ tabulate 64 (λ l. crossed (now (t .entry)) (now (x .entry)) l 0 % 257) ⌝ }
+    ensures { λ r. ⌜ r ≡ tabulate 64 (λ l. butterfly (now (t .entry)) (now (x .entry)) l 0 % 257) ⌝ }
 {
     let mut y = [0u16; 64];
     let mut l = 0;
@@ -126,9 +127,9 @@ pub fn staged_sums(t: &[u16], x: &[u16], sums: &mut [u16])
 {
     let mut y = padded(x);
     let mut z = [0u16; 256];
-    cross(&t[0..256], &y, &mut z);
-    cross(&t[256..512], &z, &mut y);
-    cross(&t[512..768], &y, &mut z);
+    butterflies(&t[0..256], &y, &mut z);
+    butterflies(&t[256..512], &z, &mut y);
+    butterflies(&t[512..768], &y, &mut z);
     let v = last(&t[768..1024], &z);
     let mut k = 0;
     while k < sums.len() {

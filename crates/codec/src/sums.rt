@@ -6,10 +6,9 @@ use field257::values::value_at;
 use frame::Shape;
 ghost use mathlib.Core.Path.{_≡_};
 ghost use Prim.Native.Nat.{_*_, _≤_};
-ghost use lib.ListN.{length};
+ghost use lib.ListN.{length, replicate};
 ghost use Rattle.codec.specs.Stages.{Weights};
 ghost use Rattle.codec.specs.Summable.{Summable};
-ghost use Rattle.field257.specs.Table.{table};
 ghost use mathlib.Core.Bool.{true};
 ghost use Rattle.frame.specs.Frame.{checkSums, heldSums};
 ghost use Rattle.frame.specs.Shape.{isShape};
@@ -39,29 +38,28 @@ fn row_sums(powers: &[u16; 256], b: u32, t: &[u16], x: &[u16], sums: &mut [u16])
     staged_sums(t, x, sums);
 }
 
-// The check sums of the rows of a frame, row after row, and zeros after them.
-fn summed(s: Shape, powers: &[u16; 256], t: &[u16], frame: &[u16]) -> [u16; 512]
-    requires { ⌜ (isShape s ≡ true) × (length (now frame) ≡ s .rows * s .columns) × (now powers ≡ table)
-        × (1024 ≤ length (now t) → Weights (s .exponent) (now t)) ⌝ }
-    ensures { λ r. ⌜ r ≡ heldSums s (now (frame .entry)) ⌝ }
+// The check sums of the rows of a frame, row after row, written over zeros.
+fn sum_rows(s: Shape, t: &[u16], frame: &[u16], sums: &mut [u16])
+    requires { ⌜ (isShape s ≡ true) × (length (now frame) ≡ s .rows * s .columns)
+        × (1024 ≤ length (now t) → Weights (s .exponent) (now t)) × (now sums ≡ replicate 512 0) ⌝ }
+    ensures { λ r. ⌜ now (sums .exit) ≡ heldSums s (now (frame .entry)) ⌝ }
 {
+    let powers = powers();
     let rows = s.rows;
     let columns = s.columns;
-    let mut sums = [0u16; 512];
     let mut at: usize = 0;
     let mut h = 0;
     while h < rows {
         let a = h * columns;
         let e = a + columns;
         let to = at + s.checks[h] as usize;
-        row_sums(powers, s.exponent, t, &frame[a..e], &mut sums[at..to]);
+        row_sums(&powers, s.exponent, t, &frame[a..e], &mut sums[at..to]);
         at = to;
         h += 1;
     }
-    sums
 }
 
-// Whether there is so little to sum that stages gain nothing: their tables cost as much as 512 products one after the other, and so does each row.
+// Whether there is so little to sum that stages gain nothing: measured, their table costs as much as 512 products one after the other, and so does each row.
 fn is_little(s: Shape) -> bool
     requires { ⌜ isShape s ≡ true ⌝ }
 {
@@ -74,16 +72,18 @@ fn is_little(s: Shape) -> bool
     checks * s.columns < 512 * (s.rows + 1)
 }
 
-// The same, with the table for stages where they gain something.
+// The check sums of the rows of a frame, row after row, and zeros after them. The table for stages is made where they gain something.
 pub fn frame_sums(s: Shape, frame: &[u16]) -> [u16; 512]
     requires { ⌜ (isShape s ≡ true) × (length (now frame) ≡ s .rows * s .columns) ⌝ }
     ensures { λ r. ⌜ r ≡ heldSums s (now (frame .entry)) ⌝ }
 {
-    let powers = powers();
+    let mut sums = [0u16; 512];
     if is_little(s) {
         let none = [0u16; 1];
-        return summed(s, &powers, &none, frame);
+        sum_rows(s, &none, frame, &mut sums);
+        return sums;
     }
-    let t = weights(&powers, s.exponent);
-    summed(s, &powers, &t, frame)
+    let t = weights(s.exponent);
+    sum_rows(s, &t, frame, &mut sums);
+    sums
 }

@@ -11,25 +11,26 @@ use Rattle.codec.proofs.factors.weights.Statement.{statement}
 use Rattle.codec.proofs.factors.weights.Tie as tie
 
 abbrev Inv-loop : tie.InvT-loop
-Inv-loop powers b t₀ i₀ t i = (i ≤ 256) × Filled (λ k. powerOf3 (b * k)) factorTable i t
+Inv-loop b powers t₀ i₀ t i = (i ≤ 256) × Filled (λ k. powerOf3 (b * k)) factorTable i t
 
 abbrev μ-loop : tie.MeasureT-loop
-μ-loop powers b t₀ i₀ t i = 256 - i
+μ-loop b powers t₀ i₀ t i = 256 - i
 
 loop-holds : tie.Need-loop-holds Inv-loop μ-loop
 loop-holds c = (omega arith, rw (c .factors .ensures) (filled-none _ _))
 
 mul-entry : tie.Need-mul-entry Inv-loop μ-loop
 mul-entry c =
-    let most = mul-le-mul (c .before .before .before .pre .1) (let l : c .before .loop .i ≤ 255 = omega arith in l) in
+    let most = mul-le-mul (c .before .before .before .before .before .pre) (let l : c .before .before .loop .i ≤ 255 = omega arith in l) in
     omega arith
 
 loop-again : tie.Need-loop-again Inv-loop μ-loop
 loop-again c =
-    let at = c .before .before in
-    let start = at .before .before in
-    (omega arith, filled-more _ _ (at .loop .i) _ (at .loop .t) (at .loop .inv .1) (let s = at .loop .inv .1 .size in omega (arith, length-factors))
-    (c .entry .ensures .0 (start .pre .0)))
+    let at = c .before .before .before in (
+      omega arith,
+      filled-more _ _ (at .loop .i) _ (at .loop .t) (at .loop .inv .1) (let s = at .loop .inv .1 .size in omega (arith, length-factors))
+          (c .entry .ensures .0 (at .before .before .powers .ensures)),
+    )
 
 returns : tie.Need-returns Inv-loop μ-loop
 returns c = weights-all _ _ _ (c .before .loop .inv .1) (omega arith)
@@ -40,6 +41,7 @@ weights-spec =
     (tie.spec
     Inv-loop
     μ-loop
+    (λ c κs. search needs)
     (λ c κs. search needs)
     loop-holds
     (λ c. omega arith)

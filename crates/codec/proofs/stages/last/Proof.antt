@@ -1,15 +1,15 @@
 -- `codec::stages::last` meets its contract.
-use Prim.Native.Nat.{_-_, _+_, _*_, _%_, _≤_}
+use Prim.Native.Nat.{_-_, _%_}
 use native.Mathlib.Omega.{arith}
 use borrow.Author.Needs.{needs}
 use Rattle.lists.proofs.Filling.{Filled, filled-none, filled-more, filled-all}
-use Rattle.codec.specs.Stages.{crossed}
-use Rattle.codec.proofs.Crossing.{crossed-four}
+use Rattle.codec.specs.Stages.{butterfly}
+use Rattle.codec.proofs.ButterflyLaws.{butterfly-four}
 use Rattle.codec.proofs.stages.last.Statement.{statement}
 use Rattle.codec.proofs.stages.last.Tie as tie
 
 abbrev Inv-loop : tie.InvT-loop
-Inv-loop t x y₀ l₀ y l = Filled (λ k. crossed t x k 0 % 257) y₀ l y
+Inv-loop t x y₀ l₀ y l = Filled (λ k. butterfly t x k 0 % 257) y₀ l y
 
 abbrev μ-loop : tie.MeasureT-loop
 μ-loop t x y₀ l₀ y l = 64 - l
@@ -34,7 +34,7 @@ loop-again c =
     let d = c .before in
     let at = d .before .before .before .before .before in
     filled-more _ _ (at .loop .l) _ (at .loop .y) (at .loop .inv) (let s = at .loop .inv .size in omega arith)
-    (crossed-four (at .before .before .args .t .now) (at .before .before .args .x .now) (at .loop .l) _ _ _ _ (d .before .before .before .weighed .ensures .0)
+    (butterfly-four (at .before .before .args .t .now) (at .before .before .args .x .now) (at .loop .l) _ _ _ _ (d .before .before .before .weighed .ensures .0)
     (d .before .before .weighed2 .ensures .0) (d .before .weighed3 .ensures .0) (d .weighed4 .ensures .0) 0 _ (c .together .ensures))
 
 returns : tie.Need-returns Inv-loop μ-loop

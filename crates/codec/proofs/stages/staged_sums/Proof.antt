@@ -17,17 +17,26 @@ Inv-loop t x sums₀ v k₀ sums k = Filled (weighedSum t x) sums₀ k sums
 abbrev μ-loop : tie.MeasureT-loop
 μ-loop t x sums₀ v k₀ sums k = length sums₀ - k
 
-cross-requires : tie.Need-cross-requires Inv-loop μ-loop
-cross-requires c κs = (first-factors _ (c .before .before .before .before .before .before .before .pre .0), refl)
+butterflies-requires : tie.Need-butterflies-requires Inv-loop μ-loop
+butterflies-requires c κs = (first-factors _ (c .before .before .before .before .before .before .before .pre .0), refl)
 
-cross-requires-2 : tie.Need-cross-requires-2 Inv-loop μ-loop
-cross-requires-2 c κs = (later-factors _ (c .before .before .before .before .before .before .before .before .before .before .before .pre .0) 1 (omega arith) (omega arith), c .before .before .before .before .before .before .before .padded .ensures .1)
+butterflies-requires-2 : tie.Need-butterflies-requires-2 Inv-loop μ-loop
+butterflies-requires-2 c κs =
+    let padding = c .before .before .before .before .before .before .before in
+    let start = padding .before .before .before .before in
+    (later-factors _ (start .pre .0) 1 (omega arith) (omega arith), padding .padded .ensures .1)
 
-cross-requires-3 : tie.Need-cross-requires-3 Inv-loop μ-loop
-cross-requires-3 c κs = (later-factors _ (c .before .before .before .before .before .before .before .before .before .before .before .before .before .before .before .pre .0) 2 (omega arith) (omega arith), c .before .before .before .before .before .before .before .cross .ensures .size)
+butterflies-requires-3 : tie.Need-butterflies-requires-3 Inv-loop μ-loop
+butterflies-requires-3 c κs =
+    let first = c .before .before .before .before .before .before .before in
+    let start = first .before .before .before .before .before .before .before .before in
+    (later-factors _ (start .pre .0) 2 (omega arith) (omega arith), first .butterflies .ensures .size)
 
 last-requires : tie.Need-last-requires Inv-loop μ-loop
-last-requires c κs = later-factors _ (c .before .before .before .before .before .before .before .before .before .before .before .before .before .before .before .before .before .before .pre .0) 3 (omega arith) (omega arith)
+last-requires c κs =
+    let second = c .before .before .before .before .before .before in
+    let start = second .before .before .before .before .before .before .before .before .before .before .before .before in
+    later-factors _ (start .pre .0) 3 (omega arith) (omega arith)
 
 loop-holds : tie.Need-loop-holds Inv-loop μ-loop
 loop-holds c = filled-none _ _
@@ -44,7 +53,7 @@ loop-again c =
     let k = at .loop .k in
     let t = start .args .t .now in
     filled-more _ _ k _ (at .loop .sums) (at .loop .inv) (omega arith)
-    (staged-sum k (omega arith) _ _ _ _ _ _ _ _ (first .cross .ensures) (second .cross2 .ensures) (third .cross3 .ensures)
+    (staged-sum k (omega arith) _ _ _ _ _ _ _ _ (first .butterflies .ensures) (second .butterflies2 .ensures) (third .butterflies3 .ensures)
     (later-part t (start .pre .0) 1 (omega arith) (omega arith)) (later-part t (start .pre .0) 2 (omega arith) (omega arith))
     (later-part t (start .pre .0) 3 (omega arith) (omega arith)) _ _ (fourth .last .ensures) (c .reversed .ensures .0) (c .reversed .ensures .1)
     ∙ weighed-same _ _ _ _ k (first-part t (start .pre .0)) (padding .padded .ensures .0))
@@ -63,15 +72,15 @@ staged-sums-spec =
     (λ c. omega arith)
     (λ c. omega arith)
     (λ c. omega arith)
-    cross-requires
+    butterflies-requires
     (λ c. omega arith)
     (λ c. omega arith)
     (λ c. omega arith)
-    cross-requires-2
+    butterflies-requires-2
     (λ c. omega arith)
     (λ c. omega arith)
     (λ c. omega arith)
-    cross-requires-3
+    butterflies-requires-3
     (λ c. omega arith)
     (λ c. omega arith)
     (λ c. omega arith)

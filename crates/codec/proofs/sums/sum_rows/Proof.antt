@@ -1,4 +1,5 @@
--- `codec::sums::summed` meets its contract.
+-- `codec::sums::sum_rows` meets its contract.
+use mathlib.Core.Path.{sym, ap, _∙_}
 use Prim.Native.Nat.{_-_}
 use native.Mathlib.Omega.{arith}
 use lib.ListN.{length, length-take}
@@ -6,23 +7,26 @@ use Rattle.frame.proofs.Held.{Held, held-none, held-more, held-all, length-row}
 use Rattle.frame.proofs.RowPlace.{RowPlace, row-place}
 use Rattle.frame.proofs.Shapes.{shape-ranges}
 use borrow.Author.Needs.{needs}
-use Rattle.codec.proofs.sums.summed.Statement.{statement}
-use Rattle.codec.proofs.sums.summed.Tie as tie
+use Rattle.codec.proofs.sums.sum_rows.Statement.{statement}
+use Rattle.codec.proofs.sums.sum_rows.Tie as tie
 
 abbrev Inv-loop : tie.InvT-loop
-Inv-loop powers t frame s rows columns sums₀ at₀ h₀ sums at h = Held s frame h at sums
+Inv-loop t frame sums₀ s powers rows columns at₀ h₀ sums at h = Held s frame h at sums
 
 abbrev μ-loop : tie.MeasureT-loop
-μ-loop powers t frame s rows columns sums₀ at₀ h₀ sums at h = rows - h
+μ-loop t frame sums₀ s powers rows columns at₀ h₀ sums at h = rows - h
 
-place : (c : tie.In-loop Inv-loop μ-loop) →
-    RowPlace (c .before .before .before .before .args .t1) (length (c .before .before .before .before .args .frame .now)) (c .before .loop .h)
+-- the way back
+abbrev start-of : tie.In-loop Inv-loop μ-loop → tie.Start Inv-loop μ-loop
+start-of c = c .before .before .before .before .before .before
+
+place : (c : tie.In-loop Inv-loop μ-loop) → RowPlace (start-of c .args .t1) (length (start-of c .args .frame .now)) (c .before .loop .h)
 place c =
-    let start = c .before .before .before .before in
+    let start = start-of c in
     row-place (start .args .t1) (length (start .args .frame .now)) (c .before .loop .h) (start .pre .0) (start .pre .1) (c .loop-test .taken)
 
 loop-holds : tie.Need-loop-holds Inv-loop μ-loop
-loop-holds c = held-none _ _
+loop-holds c = rw (c .before .before .before .before .pre .3) (held-none _ _)
 
 mul-a : tie.Need-mul-a Inv-loop μ-loop
 mul-a c = let p = place c in omega arith
@@ -43,54 +47,58 @@ add-to : tie.Need-add-to Inv-loop μ-loop
 add-to c = let p = place (c .before) in omega arith
 
 mul-row-sums : tie.Need-mul-row-sums Inv-loop μ-loop
-mul-row-sums c = let p = place (c .before) in omega arith
+mul-row-sums c = let p = place (c .before .before) in omega arith
 
 part-row-sums-start : tie.Need-part-row-sums-start Inv-loop μ-loop
-part-row-sums-start c = let p = place (c .before) in omega arith
+part-row-sums-start c = let p = place (c .before .before) in omega arith
 
 part-row-sums-end : tie.Need-part-row-sums-end Inv-loop μ-loop
-part-row-sums-end c = let p = place (c .before) in omega arith
+part-row-sums-end c = let p = place (c .before .before) in omega arith
 
-mul-sums : tie.Need-mul-sums Inv-loop μ-loop
-mul-sums c = let p = place (c .before .before) in omega arith
+mul-row-sums-2 : tie.Need-mul-row-sums-2 Inv-loop μ-loop
+mul-row-sums-2 c = let p = place (c .before .before .before) in omega arith
 
 sub-row-sums-2 : tie.Need-sub-row-sums-2 Inv-loop μ-loop
-sub-row-sums-2 c = let p = place (c .before .before) in omega arith
+sub-row-sums-2 c = let p = place (c .before .before .before) in omega arith
 
-part-sums-start : tie.Need-part-sums-start Inv-loop μ-loop
-part-sums-start c = let p = place (c .before .before) in omega arith
+part-row-sums-start-2 : tie.Need-part-row-sums-start-2 Inv-loop μ-loop
+part-row-sums-start-2 c = let p = place (c .before .before .before) in omega arith
 
-part-sums-end : tie.Need-part-sums-end Inv-loop μ-loop
-part-sums-end c = let p = place (c .before .before) in omega arith
+part-row-sums-end-2 : tie.Need-part-row-sums-end-2 Inv-loop μ-loop
+part-row-sums-end-2 c = let p = place (c .before .before .before) in omega arith
 
 row-sums-requires : tie.Need-row-sums-requires Inv-loop μ-loop
 row-sums-requires c κs =
-    let at = c .before .before .before in
-    let start = at .before .before .before .before in
+    let at = c .before .before .before .before in
+    let start = start-of at in
     let p = place at in (
       record {
-        powers-known = start .pre .2;
+        powers-known = at .before .before .powers .ensures;
         exponent = omega (arith, shape-ranges (start .args .t1) (start .pre .0) .exponent-most);
         narrow = omega (arith, length-row _ _ _ _ _ (at .before .loop .inv) p);
         few = simp length-take (omega arith);
       },
-      start .pre .3,
+      start .pre .2,
     )
 
 loop-again : tie.Need-loop-again Inv-loop μ-loop
 loop-again c =
-    let at = c .before .before .before .before .before in
-    held-more _ _ _ _ _ (at .before .loop .inv) (place at) _ (at .loop-test .taken) (c .before .row-sums .ensures)
+    let at = c .before .before .before .before .before .before .before in
+    held-more _ _ _ _ _ (at .before .loop .inv) (place at) _ (at .loop-test .taken) (c .before .before .row-sums .ensures)
+
+same-length : tie.Need-same-length Inv-loop μ-loop
+same-length c = c .before .loop .inv .size ∙ sym (ap length (c .before .before .before .before .before .before .pre .3))
 
 returns : tie.Need-returns Inv-loop μ-loop
 returns c = held-all _ _ _ _ _ (c .before .loop .inv) (c .loop-test .left)
 
-pub summed-spec : {M : Type 1} → statement M
-summed-spec =
+pub sum-rows-spec : {M : Type 1} → statement M
+sum-rows-spec =
     tie.close
     (tie.spec
     Inv-loop
     μ-loop
+    (λ c κs. search needs)
     loop-holds
     mul-a
     add-e
@@ -102,12 +110,13 @@ summed-spec =
     (λ c. omega arith)
     part-row-sums-start
     part-row-sums-end
-    mul-sums
+    mul-row-sums-2
     sub-row-sums-2
-    part-sums-start
-    part-sums-end
+    part-row-sums-start-2
+    part-row-sums-end-2
     row-sums-requires
     (λ c. omega arith)
     (λ c. omega arith)
     loop-again
+    same-length
     returns)

@@ -1,19 +1,19 @@
--- `codec::stages::cross` meets its contract.
-use Prim.Native.Nat.{_-_, _+_, _*_, _≤_}
+-- `codec::stages::butterflies` meets its contract.
+use Prim.Native.Nat.{_-_, _*_, _≤_}
 use native.Mathlib.Omega.{arith}
 use borrow.Author.Needs.{needs}
-use Rattle.codec.proofs.Crossing.{Crossing, crossing-none, crossing-four, crossing-all, crossed-four, crossed-turned-back}
-use Rattle.codec.proofs.stages.cross.Statement.{statement}
-use Rattle.codec.proofs.stages.cross.Tie as tie
+use Rattle.codec.proofs.ButterflyLaws.{Written, written-none, written-four, written-all, butterfly-four, butterfly-back}
+use Rattle.codec.proofs.stages.butterflies.Statement.{statement}
+use Rattle.codec.proofs.stages.butterflies.Tie as tie
 
 abbrev Inv-loop : tie.InvT-loop
-Inv-loop t x y₀ l₀ y l = (l ≤ 64) × Crossing t x (4 * l) y
+Inv-loop t x y₀ l₀ y l = (l ≤ 64) × Written t x (4 * l) y
 
 abbrev μ-loop : tie.MeasureT-loop
 μ-loop t x y₀ l₀ y l = 64 - l
 
 loop-holds : tie.Need-loop-holds Inv-loop μ-loop
-loop-holds c = (omega arith, crossing-none _ _ _ (c .before .pre .1))
+loop-holds c = (omega arith, written-none _ _ _ (c .before .pre .1))
 
 weighed-requires : tie.Need-weighed-requires Inv-loop μ-loop
 weighed-requires c κs = (c .before .before .before .pre .0, omega arith)
@@ -46,20 +46,20 @@ loop-again c =
     let t = at .before .before .args .t .now in
     let x = at .before .before .args .x .now in
     let l = at .loop .l in
-    let four = crossed-four t x l _ _ _ _ (d .before .before .before .weighed .ensures .0) (d .before .before .weighed2 .ensures .0)
-        (d .before .weighed3 .ensures .0) (d .weighed4 .ensures .0) in
-    let back = crossed-turned-back t x l _ _ _ _ (d .before .before .before .weighed .ensures .0) (d .before .before .weighed2 .ensures .0)
-        (d .before .weighed3 .ensures .0) (d .weighed4 .ensures .0) in (
+    let four = butterfly-four t x l _ _ _ _ (d .before .before .before .weighed .ensures .0) (d .before .before .weighed2 .ensures .0)
+    (d .before .weighed3 .ensures .0) (d .weighed4 .ensures .0) in
+    let back = butterfly-back t x l _ _ _ _ (d .before .before .before .weighed .ensures .0) (d .before .before .weighed2 .ensures .0)
+    (d .before .weighed3 .ensures .0) (d .weighed4 .ensures .0) in (
       omega arith,
-      crossing-four t x l _ _ _ _ (at .loop .y) (at .loop .inv .1) (omega arith) (four 0 _ (c .before .before .before .together .ensures))
+      written-four t x l _ _ _ _ (at .loop .y) (at .loop .inv .1) (omega arith) (four 0 _ (c .before .before .before .together .ensures))
           (four 1 _ (c .before .before .turned .ensures)) (four 2 _ (c .before .alternating .ensures)) (back _ (c .turned2 .ensures)),
     )
 
 returns : tie.Need-returns Inv-loop μ-loop
-returns c = crossing-all _ _ _ _ (c .before .loop .inv .1) (omega arith)
+returns c = written-all _ _ _ _ (c .before .loop .inv .1) (omega arith)
 
-pub cross-spec : {M : Type 1} → statement M
-cross-spec =
+pub butterflies-spec : {M : Type 1} → statement M
+butterflies-spec =
     tie.close
     (tie.spec
     Inv-loop
