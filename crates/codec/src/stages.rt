@@ -3,7 +3,6 @@
 // of 16,384.
 use field257::montgomery::companion;
 use field257::montgomery::product;
-use field257::values::times;
 ghost use mathlib.Core.Path.{_≡_};
 ghost use Prim.Native.Nat.{ℕ, _+_, _*_, _%_, _≤_, _<_};
 ghost use lib.ListN.{length, getD};
@@ -23,20 +22,6 @@ fn padded(x: &[u16]) -> [u16; 256]
         i += 1;
     }
     y
-}
-
-// Adds w times x to the cells.
-pub fn add_multiple(cells: &mut [u32], x: &[u16], w: u16)
-    requires { ⌜ (length (now cells) ≡ length (now x))
-        × ((k : ℕ) → k < length (now x) → getD (now cells) k 0 + getD (now x) k 0 * w < 4294967296) ⌝ }
-    ensures { λ r. ⌜ now (cells .exit)
-        ≡ tabulate (length (now (x .entry))) (λ k. getD (now (cells .entry)) k 0 + getD (now (x .entry)) k 0 * w) ⌝ }
-{
-    let mut a = 0;
-    while a < x.len() {
-        cells[a] += times(x[a], w);
-        a += 1;
-    }
 }
 
 // Column k times its factor, modulo 257 and not reduced.

@@ -1,11 +1,11 @@
 // A row completed at its first m columns by polynomial division. The check sums are values of the row as a polynomial,
 // and a multiple of the generator polynomial has check sums 0. So what is left of the data after division by it has the
 // data's check sums, and stands in the check cells with its sign changed.
-use codec::stages::add_multiple;
 use field257::powers::wide;
+use field257::values::times;
 ghost use mathlib.Core.Path.{_≡_};
 ghost use mathlib.Core.Bool.{cond};
-ghost use Prim.Native.Nat.{ℕ, suc, _-_, _%_, _≤_, _<_};
+ghost use Prim.Native.Nat.{ℕ, suc, _+_, _-_, _*_, _%_, _≤_, _<_};
 ghost use lib.Dec.{ltb};
 ghost use lib.ListN.{length, getD};
 ghost use Rattle.columns.specs.Columns.{columnsOf};
@@ -27,6 +27,20 @@ fn data_cells(row: &[u16], m: usize) -> [u32; 256]
         i += 1;
     }
     cells
+}
+
+// Adds w times x to the cells.
+fn add_multiple(cells: &mut [u32], x: &[u16], w: u16)
+    requires { ⌜ (length (now cells) ≡ length (now x))
+        × ((k : ℕ) → k < length (now x) → getD (now cells) k 0 + getD (now x) k 0 * w < 4294967296) ⌝ }
+    ensures { λ r. ⌜ now (cells .exit)
+        ≡ tabulate (length (now (x .entry))) (λ k. getD (now (cells .entry)) k 0 + getD (now (x .entry)) k 0 * w) ⌝ }
+{
+    let mut a = 0;
+    while a < x.len() {
+        cells[a] += times(x[a], w);
+        a += 1;
+    }
 }
 
 // What is left in the first m cells has the check sums of all cells at entry, from whichever exponent on the generator has them 0.

@@ -1,4 +1,4 @@
--- `codec::stages::add_multiple` meets its contract.
+-- `encoder::division::add_multiple` meets its contract.
 use mathlib.Core.Path.{ap, ap₂, _∙_}
 use Prim.Native.Nat.{ℕ, _+_, _-_, _*_}
 use native.Mathlib.Omega.{arith}
@@ -6,8 +6,8 @@ use lib.ListN.{length, getD}
 use Rattle.lists.specs.Tabulate.{tabulate}
 use Rattle.lists.proofs.Filling.{Filled, filled-none, filled-more, filled-rest, filled-all}
 use borrow.Author.Needs.{needs}
-use Rattle.codec.proofs.stages.add_multiple.Statement.{statement}
-use Rattle.codec.proofs.stages.add_multiple.Tie as tie
+use Rattle.encoder.proofs.division.add_multiple.Statement.{statement}
+use Rattle.encoder.proofs.division.add_multiple.Tie as tie
 
 abbrev Inv-loop : tie.InvT-loop
 Inv-loop cells₀ x w a₀ cells a = Filled (λ k. getD cells₀ k 0 + getD x k 0 * w) cells₀ a cells
