@@ -1,4 +1,2 @@
 // Check sums of frames.
-mod factors;
-pub mod stages;
 pub mod sums;

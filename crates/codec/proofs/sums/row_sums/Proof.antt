@@ -2,7 +2,7 @@
 use mathlib.Core.Path.{_∙_}
 use native.Mathlib.Omega.{arith}
 use borrow.Author.Needs.{needs}
-use Rattle.codec.proofs.FactorTables.{weighed-sums}
+use Rattle.codec.proofs.WeighedSums.{weighed-sums}
 use Rattle.codec.proofs.sums.row_sums.Statement.{statement}
 use Rattle.codec.proofs.sums.row_sums.Tie as tie
 

@@ -3,7 +3,7 @@ use field257::powers::entry;
 use field257::powers::powers;
 ghost use mathlib.Core.Path.{_≡_};
 ghost use Prim.Native.Nat.{_≤_};
-ghost use Rattle.codec.specs.Stages.{Weights, factorTable};
+ghost use Rattle.transform.specs.Stages.{Weights, factorTable};
 
 // For 1, 4, 16 and 64 classes of exponents, 256 each.
 const FACTORS: [u16; 1024] = [

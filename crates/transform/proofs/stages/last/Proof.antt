@@ -1,12 +1,12 @@
--- `codec::stages::last` meets its contract.
+-- `transform::stages::last` meets its contract.
 use Prim.Native.Nat.{_-_, _%_}
 use native.Mathlib.Omega.{arith}
 use borrow.Author.Needs.{needs}
 use Rattle.lists.proofs.Filling.{Filled, filled-none, filled-more, filled-all}
-use Rattle.codec.specs.Stages.{butterfly}
-use Rattle.codec.proofs.ButterflyLaws.{butterfly-four}
-use Rattle.codec.proofs.stages.last.Statement.{statement}
-use Rattle.codec.proofs.stages.last.Tie as tie
+use Rattle.transform.specs.Stages.{butterfly}
+use Rattle.transform.proofs.ButterflyLaws.{butterfly-four}
+use Rattle.transform.proofs.stages.last.Statement.{statement}
+use Rattle.transform.proofs.stages.last.Tie as tie
 
 abbrev Inv-loop : tie.InvT-loop
 Inv-loop t x y₀ l₀ y l = Filled (λ k. butterfly t x k 0 % 257) y₀ l y

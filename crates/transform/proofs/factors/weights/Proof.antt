@@ -1,14 +1,14 @@
--- `codec::factors::weights` meets its contract.
+-- `transform::factors::weights` meets its contract.
 use Prim.Native.Nat.{_-_, _*_, _≤_}
 use native.Mathlib.Nat.{mul-le-mul}
 use native.Mathlib.Omega.{arith}
 use borrow.Author.Needs.{needs}
 use Rattle.lists.proofs.Filling.{Filled, filled-none, filled-more}
 use Rattle.field257.specs.Powers.{powerOf3}
-use Rattle.codec.specs.Stages.{factorTable}
-use Rattle.codec.proofs.FactorTables.{length-factors, weights-all}
-use Rattle.codec.proofs.factors.weights.Statement.{statement}
-use Rattle.codec.proofs.factors.weights.Tie as tie
+use Rattle.transform.specs.Stages.{factorTable}
+use Rattle.transform.proofs.FactorTables.{length-factors, weights-all}
+use Rattle.transform.proofs.factors.weights.Statement.{statement}
+use Rattle.transform.proofs.factors.weights.Tie as tie
 
 abbrev Inv-loop : tie.InvT-loop
 Inv-loop b powers t₀ i₀ t i = (i ≤ 256) × Filled (λ k. powerOf3 (b * k)) factorTable i t

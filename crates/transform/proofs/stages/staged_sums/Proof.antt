@@ -1,15 +1,15 @@
--- `codec::stages::staged_sums` meets its contract. The loop fills the list with what the last stage has, class after class.
+-- `transform::stages::staged_sums` meets its contract. The loop fills the list with what the last stage has, class after class.
 use mathlib.Core.Path.{refl, _∙_}
 use Prim.Native.Nat.{_-_}
 use native.Mathlib.Omega.{arith}
 use lib.ListN.{length}
 use Rattle.lists.proofs.Filling.{Filled, filled-none, filled-more, filled-all}
-use Rattle.codec.specs.Stages.{weighedSum, weighedSums}
-use Rattle.codec.proofs.FactorTables.{first-part, first-factors, later-part, later-factors, weighed-same}
-use Rattle.codec.proofs.StagedSums.{staged-sum}
+use Rattle.transform.specs.Stages.{weighedSum, weighedSums}
+use Rattle.transform.proofs.FactorTables.{first-part, first-factors, later-part, later-factors, weighed-same}
+use Rattle.transform.proofs.StagedSums.{staged-sum}
 use borrow.Author.Needs.{needs}
-use Rattle.codec.proofs.stages.staged_sums.Statement.{statement}
-use Rattle.codec.proofs.stages.staged_sums.Tie as tie
+use Rattle.transform.proofs.stages.staged_sums.Statement.{statement}
+use Rattle.transform.proofs.stages.staged_sums.Tie as tie
 
 abbrev Inv-loop : tie.InvT-loop
 Inv-loop t x sums₀ v k₀ sums k = Filled (weighedSum t x) sums₀ k sums

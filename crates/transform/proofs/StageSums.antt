@@ -10,7 +10,7 @@ use Rattle.field257.specs.Powers.{powerOf3}
 use Rattle.lists.specs.Total.{total}
 use Rattle.lists.proofs.BlockSums.{total-swap, total-blocks}
 use Rattle.lists.proofs.Totals.{total-ext, total-mul, total-mod}
-use Rattle.codec.specs.Stages.{Butterflies, butterfly}
+use Rattle.transform.specs.Stages.{Butterflies, butterfly}
 
 -- terms with the same remainders
 pub total-same : (n : ℕ) (f g : ℕ → ℕ) → ((k : ℕ) → k < n → f k % 257 ≡ g k % 257) → total n f % 257 ≡ total n g % 257

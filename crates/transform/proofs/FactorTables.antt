@@ -1,22 +1,17 @@
--- The table of factors and its parts, and that a row whose symbols are multiplied by the powers of 3^b has the check sums from the exponent b on as its values.
+-- The table of factors and its parts, and what of a row and of the table tells the values of the weighed row.
 use mathlib.Core.Path.{_≡_, ap, ap₂, _∙_}
 use mathlib.Core.List.{List}
-use Prim.Native.Nat.{ℕ, suc, _+_, _-_, _*_, _/_, _%_, _^_, _≤_, _<_}
-use native.Mathlib.Nat.{zero-mul}
+use Prim.Native.Nat.{ℕ, _+_, _*_, _/_, _%_, _^_, _≤_, _<_}
 use native.Mathlib.Omega.{arith}
 use borrow.Rule.Slice.PartMut.{midOf, mid-len}
-use lib.ListN.{length, getD, drop, length-drop, List·getD-eq-default}
+use lib.ListN.{length, getD, drop, length-drop}
 use lib.Seq.{length-take-le}
 use Rattle.field257.specs.Powers.{powerOf3}
-use Rattle.frame.specs.Frame.{checkSum, checkSums, weight}
-use Rattle.lists.proofs.BlockSums.{total-rest}
 use Rattle.lists.proofs.Entries.{getD-part}
 use Rattle.lists.proofs.Filling.{Filled, filled-entry, filled-rest}
-use Rattle.lists.proofs.Tabulated.{getD-tabulate, length-tabulate, tabulate-ext}
+use Rattle.lists.proofs.Tabulated.{getD-tabulate, length-tabulate}
 use Rattle.lists.proofs.Totals.{total-ext}
-use Rattle.codec.specs.Stages.{Factors, Staging, Weights, factorOf, factorTable, weighedSum, weighedSums}
-use Rattle.codec.proofs.StageSums.{total-same, same-times}
-use Rattle.codec.proofs.StagedSums.{power-product}
+use Rattle.transform.specs.Stages.{Factors, Staging, Weights, factorOf, factorTable, weighedSum}
 
 pub length-factors : length factorTable ≡ 1024
 unfolding factorTable
@@ -77,21 +72,3 @@ weighed-same t u x y k factors symbols =
     ap (λ (s : ℕ). s % 257)
     (total-ext 256 (λ i. getD x i 0 * (getD t i 0 * 3 ^ (i * k))) (λ i. getD y i 0 * (getD u i 0 * 3 ^ (i * k)))
     (λ i h. ap₂ (λ (v w : ℕ). v * (w * 3 ^ (i * k))) (symbols i) (factors i h)))
-
-weighed-sum : (b : ℕ) (t x : List ℕ) → Weights b t → length x ≤ 256 → (k : ℕ) → weighedSum t x k ≡ checkSum b (length x) x (suc k)
-unfolding weighedSum checkSum weight
-weighed-sum b t x w narrow k =
-    total-same 256 (λ i. getD x i 0 * (getD t i 0 * 3 ^ (i * k))) (λ i. getD x i 0 * weight b i (suc k))
-    (λ i h. same-times (getD x i 0) (getD t i 0 * 3 ^ (i * k)) (weight b i (suc k))
-    (ap (λ (v : ℕ). (v * 3 ^ (i * k)) % 257) (w .columns i h) ∙ power-product (b * i) (i * k) ∙ ap powerOf3 (exponents i)))
-    ∙ ap (λ (s : ℕ). s % 257)
-    (total-rest (length x) 256 (λ i. getD x i 0 * weight b i (suc k)) narrow
-    (λ i h. ap (λ (v : ℕ). v * weight b i (suc k)) (List·getD-eq-default x 0 h) ∙ zero-mul (weight b i (suc k))))
-  where
-    exponents : (i : ℕ) → b * i + i * k ≡ i * (b + suc k - 1)
-    exponents i =
-        (let e : b * i + i * k ≡ i * (b + k) = omega arith in e) ∙ ap (λ (e : ℕ). i * e) (let e : b + k ≡ b + suc k - 1 = omega arith in e)
-
-pub weighed-sums : (b : ℕ) (t x : List ℕ) (m : ℕ) → Weights b t → length x ≤ 256 → weighedSums t m x ≡ checkSums b (length x) m x
-unfolding weighedSums checkSums
-weighed-sums b t x m w narrow = tabulate-ext m (weighedSum t x) (λ j. checkSum b (length x) x (suc j)) (λ k h. weighed-sum b t x w narrow k)

@@ -11,7 +11,7 @@ use Rattle.lists.specs.Total.{total}
 use Rattle.lists.proofs.Totals.{total-zero, total-suc}
 use Rattle.field.proofs.Remainders.{mod-mul-mod, same-sums}
 use Rattle.field257.specs.Powers.{powerOf3}
-use Rattle.codec.specs.Stages.{Butterflies, butterfly}
+use Rattle.transform.specs.Stages.{Butterflies, butterfly}
 
 four : (f : ℕ → ℕ) → total 4 f ≡ f 0 + f 1 + f 2 + f 3
 four f =

@@ -1,10 +1,10 @@
--- `codec::stages::butterflies` meets its contract.
+-- `transform::stages::butterflies` meets its contract.
 use Prim.Native.Nat.{_-_, _*_, _≤_}
 use native.Mathlib.Omega.{arith}
 use borrow.Author.Needs.{needs}
-use Rattle.codec.proofs.ButterflyLaws.{Written, written-none, written-four, written-all, butterfly-four, butterfly-back}
-use Rattle.codec.proofs.stages.butterflies.Statement.{statement}
-use Rattle.codec.proofs.stages.butterflies.Tie as tie
+use Rattle.transform.proofs.ButterflyLaws.{Written, written-none, written-four, written-all, butterfly-four, butterfly-back}
+use Rattle.transform.proofs.stages.butterflies.Statement.{statement}
+use Rattle.transform.proofs.stages.butterflies.Tie as tie
 
 abbrev Inv-loop : tie.InvT-loop
 Inv-loop t x y₀ l₀ y l = (l ≤ 64) × Written t x (4 * l) y

@@ -1,12 +1,12 @@
--- `codec::stages::padded` meets its contract.
+-- `transform::stages::padded` meets its contract.
 use mathlib.Core.Path.{refl}
 use Prim.Native.Nat.{_-_}
 use native.Mathlib.Omega.{arith}
 use lib.ListN.{length, getD, List·getD-eq-default}
 use Rattle.lists.proofs.Filling.{Filled, filled-none, filled-more, filled-zeros}
 use Rattle.lists.proofs.Zeros.{zeros}
-use Rattle.codec.proofs.stages.padded.Statement.{statement}
-use Rattle.codec.proofs.stages.padded.Tie as tie
+use Rattle.transform.proofs.stages.padded.Statement.{statement}
+use Rattle.transform.proofs.stages.padded.Tie as tie
 
 abbrev Inv-loop : tie.InvT-loop
 Inv-loop x y₀ i₀ y i = Filled (λ k. getD x k 0) (zeros 256) i y

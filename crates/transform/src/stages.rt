@@ -7,7 +7,7 @@ ghost use mathlib.Core.Path.{_≡_};
 ghost use Prim.Native.Nat.{ℕ, _+_, _*_, _%_, _≤_, _<_};
 ghost use lib.ListN.{length, getD};
 ghost use Rattle.lists.specs.Tabulate.{tabulate};
-ghost use Rattle.codec.specs.Stages.{Butterflies, Factors, Staging, butterfly, reversal, weighedSums};
+ghost use Rattle.transform.specs.Stages.{Butterflies, Factors, Staging, butterfly, reversal, weighedSums};
 
 // The row with zeros after it.
 fn padded(x: &[u16]) -> [u16; 256]

@@ -1,11 +1,11 @@
--- `codec::stages::weighed` meets its contract.
+-- `transform::stages::weighed` meets its contract.
 use mathlib.Core.Path.{ap, _∙_}
 use Prim.Native.Nat.{ℕ, _%_}
 use native.Mathlib.Omega.{arith}
 use borrow.Author.Needs.{needs}
 use Rattle.field257.proofs.MontgomeryProduct.{montgomery-is}
-use Rattle.codec.proofs.stages.weighed.Statement.{statement}
-use Rattle.codec.proofs.stages.weighed.Tie as tie
+use Rattle.transform.proofs.stages.weighed.Statement.{statement}
+use Rattle.transform.proofs.stages.weighed.Tie as tie
 
 product-requires : tie.Need-product-requires
 product-requires c κs =

@@ -1,0 +1,5 @@
+pub mod ButterflyLaws
+pub mod FactorTables
+pub mod Reversals
+pub mod StageSums
+pub mod StagedSums

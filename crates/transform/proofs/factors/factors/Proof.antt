@@ -1,0 +1,13 @@
+-- `transform::factors::factors` meets its contract: the whole table follows its rule, by one computed equation.
+use mathlib.Core.Path.{refl}
+use Rattle.lists.specs.Tabulate.{tabulate}
+use Rattle.transform.specs.Stages.{factorOf, factorTable}
+use Rattle.transform.proofs.factors.factors.Statement.{statement}
+use Rattle.transform.proofs.factors.factors.Tie as tie
+
+returns : tie.Need-returns
+unfolding factorTable factorOf tabulate
+returns c = refl
+
+pub factors-spec : {M : Type 1} → statement M
+factors-spec = tie.close (tie.spec returns)
