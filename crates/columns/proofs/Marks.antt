@@ -2,7 +2,7 @@
 -- rising, as many as there are marks.
 use mathlib.Core.Path.{_≡_, refl, sym, ap, ap₂, _∙_, subst⁻¹}
 use mathlib.Core.Bool.{Bool, true, false, _||_, or-true, or-false}
-use mathlib.Core.List.{List}
+use mathlib.Core.List.{List, [], _∷_}
 use mathlib.Core.Logic.{_≢_}
 use Prim.Native.Nat.{ℕ, zero, suc, _+_, _*_, _/_, _%_, _^_, _≤_, _<_}
 use native.Mathlib.Nat.{div-add-mod}
@@ -16,7 +16,7 @@ use lib.Seq.{ext-getD}
 use borrow.Author.Tests.{eq-eqb, ne-eqb, lt-ltb, le-ltb}
 use Rattle.columns.specs.declared.Columns.{Columns}
 use Rattle.columns.specs.Listed.{listed}
-use Rattle.columns.specs.Columns.{bit, number, has, columnsOf, members, Sound}
+use Rattle.columns.specs.Columns.{bit, number, has, marking, columnsOf, members, Sound}
 use Rattle.columns.proofs.Bits.{bit-of-zero, bit-number, number-lt, number-ext, number-bit}
 use Rattle.columns.proofs.Listing.{count-le, length-listed, listed-ext}
 
@@ -32,6 +32,11 @@ word P (suc zero) h = refl
 word P (suc (suc zero)) h = refl
 word P (suc (suc (suc zero))) h = refl
 word P (suc (suc (suc (suc w)))) h = absurd (let z : ⊥ = omega arith in z)
+
+-- with no marks it is 0
+pub none-marked : marking (0 ∷ 0 ∷ 0 ∷ 0 ∷ []) ≡ columnsOf (λ k. false)
+unfolding number columnsOf
+none-marked = refl
 
 pub columnsOf-sound : (P : ℕ → Bool) → Sound (columnsOf P)
 unfolding columnsOf

@@ -22,6 +22,10 @@ number (suc n) P = cond (P 0) 1 0 + 2 * number n (λ k. P (suc k))
 unfoldable pub has : Columns → ℕ → Bool
 has c i = bit (getD (c .words) (i / 64) 0) (i % 64)
 
+-- the value with these words
+abbrev pub marking : List ℕ → Columns
+marking l = record { words = l }
+
 -- the value that marks exactly the columns i below 256 with P i: word w holds columns 64·w to 64·w + 63
 unfoldable pub columnsOf : (ℕ → Bool) → Columns
 columnsOf P = record { words = map (λ w. number 64 (λ k. P (64 * w + k))) (0 ∷ 1 ∷ 2 ∷ 3 ∷ []) }

@@ -4,7 +4,7 @@ ghost use mathlib.Core.Bool.{false, _&&_, _||_};
 ghost use Prim.Native.Nat.{_<_, _≤_};
 ghost use lib.Dec.{eqb, leb};
 ghost use lib.ListN.{length};
-ghost use Rattle.columns.specs.Columns.{bit, has, columnsOf, members, either};
+ghost use Rattle.columns.specs.Columns.{bit, has, marking, columnsOf, members, either, Sound};
 ghost use Rattle.columns.specs.Listed.{count, least};
 
 pub struct Columns {
@@ -29,15 +29,23 @@ pub fn contains(c: Columns, i: usize) -> bool
     (c.words[i / 64] >> (i % 64)) & 1 == 1
 }
 
+// Marks column i in the words of a set.
+pub fn mark(words: &mut [u64; 4], i: usize)
+    requires { ⌜ (i < 256) × Sound (marking (now words)) ⌝ }
+    ensures { λ r. ⌜ marking (now (words .exit)) ≡ columnsOf (λ k. has (marking (now (words .entry))) k || eqb k i) ⌝ }
+{
+    let w = i / 64;
+    words[w] = words[w] | (1u64 << (i % 64));
+}
+
 // The set with column i besides.
 pub fn with(c: Columns, i: usize) -> Columns
     requires { ⌜ i < 256 ⌝ }
     ensures { λ r. ⌜ r ≡ columnsOf (λ k. has c k || eqb k i) ⌝ }
 {
-    let mut r = c;
-    let w = i / 64;
-    r.words[w] = r.words[w] | (1u64 << (i % 64));
-    r
+    let mut words = c.words;
+    mark(&mut words, i);
+    Columns { words }
 }
 
 // The columns of either set.

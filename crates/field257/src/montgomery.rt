@@ -2,13 +2,29 @@
 use crate::values::times;
 ghost use mathlib.Core.Path.{_≡_};
 ghost use Prim.Native.Nat.{_≤_};
+ghost use lib.ListN.{length, getD};
 ghost use Rattle.field257.specs.Montgomery.{companion as companionOf, montgomery};
+ghost use Rattle.lists.specs.Tabulate.{tabulate};
 
 // What is kept beside a factor that many numbers are multiplied by.
 pub fn companion(y: u16) -> u16
     ensures { λ r. ⌜ r ≡ companionOf y ⌝ }
 {
     (times(y, 65281) % 65536) as u16
+}
+
+// The companions of 64 factors.
+pub fn companions(x: &[u16]) -> [u16; 64]
+    requires { ⌜ length (now x) ≡ 64 ⌝ }
+    ensures { λ r. ⌜ r ≡ tabulate 64 (λ k. companionOf (getD (now (x .entry)) k 0)) ⌝ }
+{
+    let mut z = [0u16; 64];
+    let mut k = 0;
+    while k < 64 {
+        z[k] = companion(x[k]);
+        k += 1;
+    }
+    z
 }
 
 // a times the factor y, whose companion is z, modulo 257 and not reduced.

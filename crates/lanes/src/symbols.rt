@@ -7,7 +7,7 @@ use columns::size;
 use field::residue::difference;
 use field257::inverses::inverse;
 use field257::locator::locator_polynomial;
-use field257::montgomery::companion;
+use field257::montgomery::companions;
 use field257::powers::entry;
 use field257::powers::wide;
 use field257::values::times;
@@ -15,10 +15,8 @@ ghost use mathlib.Core.Path.{_≡_};
 ghost use Prim.Native.Nat.{ℕ, _≤_};
 ghost use lib.ListN.{length, getD};
 ghost use Rattle.columns.specs.Columns.{members};
-ghost use Rattle.field257.specs.Montgomery.{companion as companionOf};
 ghost use Rattle.field257.specs.Table.{table};
 ghost use Rattle.lanes.specs.Symbols.{Listable, ReadableSet, locatorsTo, symbolOf, symbolsIn, symbolsOf};
-ghost use Rattle.lists.specs.Tabulate.{tabulate};
 
 // The columns of the set, rising, and zeros after them.
 fn listed(set: Columns) -> [u16; 64]
@@ -48,18 +46,6 @@ fn locators_to(powers: &[u16; 256], m: usize, list: &[u16; 64], e: u32) -> [u16;
         k += 1;
     }
     x
-}
-
-fn companions(x: &[u16; 64]) -> [u16; 64]
-    ensures { λ r. ⌜ r ≡ tabulate 64 (λ k. companionOf (getD (now (x .entry)) k 0)) ⌝ }
-{
-    let mut z = [0u16; 64];
-    let mut k = 0;
-    while k < 64 {
-        z[k] = companion(x[k]);
-        k += 1;
-    }
-    z
 }
 
 // The symbol at a column with this weight in the first check sum: what its lane read off is the symbol times the weight and the value, with the other sign.

@@ -36,12 +36,18 @@ module _ (i : ℕ) (f : List ℕ) where
       ap res257 (carried-suc f (locatorOf i) k) ∙ res-mod 257 prime-257 _ ∙ res-add 257 prime-257 _ _
       ∙ ap (λ z. symbols f k ⊕ z) (res-mul 257 prime-257 _ _ ∙ ap (λ x. x ⊗ res257 (carried f (locatorOf i) k)) (res-locator i))
 
-  carried-value : (k : ℕ) → res257 (carried f (locatorOf i) (suc k)) ≡ pow R257 (locatorAt i) k ⊗ eval R257 k (symbols f) (inv (locatorAt i))
+  pub carried-value : (k : ℕ) → res257 (carried f (locatorOf i) (suc k)) ≡ pow R257 (locatorAt i) k ⊗ eval R257 k (symbols f) (inv (locatorAt i))
   carried-value =
       horner R257 (symbols f) (λ k. res257 (carried f (locatorOf i) (suc k))) (locatorAt i) (inv (locatorAt i)) (mul-inv (locatorAt i) (locator-nonzero i))
       (res-carried 0 ∙ ap (λ z. symbols f 0 ⊕ z) (ap (λ x. locatorAt i ⊗ x) (ap res257 (carried-zero f (locatorOf i)) ∙ res-zero 257 prime-257)
       ∙ mul-zero R257 (locatorAt i)) ∙ add-zero (symbols f 0))
       (λ k. res-carried (suc k))
+
+  -- the value at the inverse of the locator
+  pub value-there : (d : ℕ) → length f ≡ suc d → res257 (value 257 f (inverse 257 (locatorOf i))) ≡ eval R257 d (symbols f) (inv (locatorAt i))
+  value-there d sized =
+      res-value d f (inverse 257 (locatorOf i)) sized
+      ∙ ap (eval R257 d (symbols f)) (res-inverse 257 prime-257 (locatorOf i) ∙ ap inv (res-locator i))
 
   pub carried-scale : (b d : ℕ) → length f ≡ suc d
       → times 257 (weight b i 1 % 257) (carried f (locatorOf i) (suc d)) ≡ times 257 (weight b i (suc d) % 257) (value 257 f (inverse 257 (locatorOf i)))
@@ -52,8 +58,7 @@ module _ (i : ℕ) (f : List ℕ) where
       ∙ ap (λ w. w ⊗ there) (sym (pow-add R257 (locatorAt i) (b + 0) d)
       ∙ ap (pow R257 (locatorAt i)) (let q : b + 0 + d ≡ b + d = omega arith in q))
       ∙ sym (res-times 257 prime-257 _ _ ∙ ap₂ _⊗_ (res-mod 257 prime-257 (weight b i (suc d)) ∙ res-weight b i d)
-      (res-value d f (inverse 257 (locatorOf i)) sized
-      ∙ ap (eval R257 d (symbols f)) (res-inverse 257 prime-257 (locatorOf i) ∙ ap inv (res-locator i)))))
+      (value-there d sized)))
     where
       there : car
       there = eval R257 d (symbols f) (inv (locatorAt i))

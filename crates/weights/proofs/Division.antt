@@ -1,12 +1,15 @@
 -- Synthetic division, coefficient after coefficient, and what it gives: where f is g times 1 − x·z, the quotient is g.
 use mathlib.Core.Path.{_≡_, refl, sym, ap, ap₂, _∙_}
 use mathlib.Core.List.{List}
-use Prim.Native.Nat.{ℕ, suc, _+_, _*_, _%_, _≤_, _<_}
+use Prim.Native.Nat.{ℕ, zero, suc, _+_, _*_, _%_, _≤_, _<_}
 use native.Mathlib.Nat.{mod-lt, mul-le-mul}
 use native.Mathlib.Numerals.{add-one}
 use native.Mathlib.Omega.{arith}
 use lib.Dec.{lit<}
 use lib.ListN.{length, getD, set}
+use Rattle.field.proofs.Remainders.{same-sums}
+use Rattle.field257.specs.Montgomery.{montgomery}
+use Rattle.field257.proofs.MontgomeryProduct.{montgomery-residue}
 use Rattle.lists.proofs.Filling.{Filled, filled-none, filled-more}
 use Rattle.weights.specs.Weights.{carried}
 
@@ -17,6 +20,16 @@ carried-zero f x = refl
 pub carried-suc : (f : List ℕ) (x k : ℕ) → carried f x (suc k) ≡ (getD f k 0 + x * carried f x k) % 257
 unfolding carried
 carried-suc f x k = refl
+
+pub carried-below : (f : List ℕ) (x k : ℕ) → carried f x k < 257
+unfolding carried
+carried-below f x zero = lit< tt
+carried-below f x (suc k) = mod-lt _ (lit< tt)
+
+-- one coefficient more, where v and c stand for residues and the product is Montgomery's
+pub carried-more : (f : List ℕ) (x k v c : ℕ) → v % 257 ≡ carried f x k → c % 257 ≡ getD f k 0 % 257 → (c + montgomery v x) % 257 ≡ carried f x (suc k)
+carried-more f x k v c e same =
+    same-sums c (montgomery v x) (getD f k 0) (x * carried f x k) 257 same (montgomery-residue v x (carried f x k) e) ∙ sym (carried-suc f x k)
 
 module _ (f : List ℕ) (x : ℕ) (from : List ℕ) where
   -- k coefficients are done, and `carry` is the last of them

@@ -8,13 +8,12 @@ use native.Mathlib.Omega.{arith}
 use lib.ListN.{getD}
 use Rattle.field.proofs.Remainders.{mod-mul-mod, same-sums}
 use Rattle.field257.specs.Montgomery.{montgomery}
-use Rattle.field257.proofs.MontgomeryProduct.{montgomery-residue}
 use Rattle.lists.specs.Tabulate.{tabulate}
 use Rattle.lists.specs.Total.{total}
 use Rattle.lists.proofs.Tabulated.{getD-tabulate}
 use Rattle.lists.proofs.Totals.{total-zero, total-suc}
 use Rattle.weights.specs.Weights.{carried}
-use Rattle.weights.proofs.Division.{carried-zero, carried-suc}
+use Rattle.weights.proofs.Division.{carried-zero, carried-more}
 
 module _ (f : List ℕ) (x : ℕ) (sums : List ℕ) (m : ℕ) where
   abbrev coefficient : ℕ → ℕ
@@ -46,19 +45,14 @@ module _ (f : List ℕ) (x : ℕ) (sums : List ℕ) (m : ℕ) where
       (next : q′ ≡ c + montgomery q x) (evaluated : v′ ≡ q′ + montgomery v x) (added : t′ ≡ t + q′ * s) (small : q′ ≤ 769) (sum-small : s ≤ 256) where
     next-coefficient : q′ % 257 ≡ coefficient k
     next-coefficient =
-        ap (λ (u : ℕ). u % 257) next
-        ∙ same-sums c (montgomery q x) (getD f k 0) (x * carried f x k) 257 (ap (λ (u : ℕ). u % 257) dividend)
-        (montgomery-residue q x (carried f x k) (lane .last))
-        ∙ sym (carried-suc f x k)
+        ap (λ (u : ℕ). u % 257) next ∙ carried-more f x k q c (lane .last) (ap (λ (u : ℕ). u % 257) dividend)
 
     pub lane-more : Lane (k + 1) q′ v′ t′
     lane-more = rw (add-one k) (record {
       last = next-coefficient;
       value =
           ap (λ (u : ℕ). u % 257) evaluated
-          ∙ same-sums q′ (montgomery v x) (getD quotient k 0) (x * carried quotient x k) 257
-          (next-residue ∙ ap (λ (u : ℕ). u % 257) (sym (getD-tabulate m coefficient k 0 inside))) (montgomery-residue v x (carried quotient x k) (lane .value))
-          ∙ sym (carried-suc quotient x k);
+          ∙ carried-more quotient x k v q′ (lane .value) (next-residue ∙ ap (λ (u : ℕ). u % 257) (sym (getD-tabulate m coefficient k 0 inside)));
       read =
           ap (λ (u : ℕ). u % 257) added
           ∙ same-sums t (q′ * s) (total k term) (term k) 257 (lane .read)

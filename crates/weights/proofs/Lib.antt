@@ -1,3 +1,4 @@
+pub mod CarriedRoot
 pub mod CarriedValue
 pub mod ColumnWeights
 pub mod Division

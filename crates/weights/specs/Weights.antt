@@ -13,7 +13,8 @@ use Rattle.field257.specs.Powers.{locatorOf}
 use Rattle.frame.specs.Frame.{weight}
 use Rattle.lists.specs.Total.{total}
 
--- Synthetic division of f by 1 − x·z: what is carried to coefficient k is coefficient k − 1 of the quotient.
+-- Synthetic division of f by 1 − x·z: what is carried to coefficient k is coefficient k − 1 of the quotient. It is Horner's rule at x from the constant
+-- coefficient on, so that what is carried past the last coefficient is 0 exactly where the value at the inverse of x is (`carried-root`).
 unfoldable pub carried : (f : List ℕ) (x k : ℕ) → ℕ
 carried f x zero = 0
 carried f x (suc k) = (getD f k 0 + x * carried f x k) % 257

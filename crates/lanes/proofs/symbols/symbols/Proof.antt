@@ -86,6 +86,7 @@ symbols-spec =
     (λ c κs. search needs)
     (λ c κs. search needs)
     (λ c κs. search needs)
+    (λ c. search needs)
     (λ c κs. search needs)
     run-requires
     divided-requires

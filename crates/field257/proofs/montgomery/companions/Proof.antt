@@ -1,14 +1,14 @@
--- `lanes::symbols::companions` meets its contract.
+-- `field257::montgomery::companions` meets its contract.
 use mathlib.Core.Path.{_∙_}
 use Prim.Native.Nat.{_-_}
 use native.Mathlib.Omega.{arith}
 use lib.ListN.{getD}
 use Rattle.field257.specs.Montgomery.{companion}
 use Rattle.lists.proofs.Filling.{Filled, filled-none, filled-more, filled-all}
 use Rattle.lists.proofs.Zeros.{zeros}
 use borrow.Author.Needs.{needs}
-use Rattle.lanes.proofs.symbols.companions.Statement.{statement}
-use Rattle.lanes.proofs.symbols.companions.Tie as tie
+use Rattle.field257.proofs.montgomery.companions.Statement.{statement}
+use Rattle.field257.proofs.montgomery.companions.Tie as tie
 
 abbrev Inv-loop : tie.InvT-loop
 Inv-loop x z₀ k₀ z k = Filled (λ k. companion (getD x k 0)) (zeros 64) k z
