@@ -17,12 +17,9 @@ use Rattle.columns.proofs.Listing.{count-zero, count-pass, count-fail}
 use Rattle.columns.proofs.Marks.{columnsOf-ext, columnsOf-add}
 use Rattle.decoding.specs.Locating.{isRoot}
 use Rattle.decoding.specs.Search.{triedFor, soughtColumns}
+use Rattle.decoding.specs.Searching.{searched, Trying}
 use Rattle.decoding.proofs.Tried.{tried-least}
 use Rattle.lists.proofs.Filling.{ltb-next}
-
--- what is found when the columns below i are searched
-abbrev pub searched : (σ : List ℕ) (i : ℕ) → Columns
-searched σ i = columnsOf (λ k. ltb k i && isRoot σ k)
 
 module _ (σ : List ℕ) where
   pub search-none : columnsOf (λ k. false) ≡ searched σ 0
@@ -60,21 +57,15 @@ module _ (σ : List ℕ) where
     unfolding triedFor
     none-tried short = let e = tried-least .ends n (isRoot σ) (length σ - 1) 0 (omega arith) in omega arith
 
-    -- the columns below i are tried, and some are left to find
-    pub record Trying (i left : ℕ) : Type 0 where
-      pub tried : i ≤ triedFor n σ
-      pub found : left + count i (isRoot σ) ≡ length σ - 1
-      pub more : 0 < left
-
-    pub trying-starts : 2 ≤ length σ → Trying 0 (length σ - 1)
+    pub trying-starts : 2 ≤ length σ → Trying σ n 0 (length σ - 1)
     trying-starts long = record { tried = zero-le; found = (let z = count-zero (isRoot σ) in omega arith); more = omega arith }
 
-    pub trying-all : (i left : ℕ) → Trying i left → n ≤ i → n ≡ triedFor n σ
+    pub trying-all : (i left : ℕ) → Trying σ n i left → n ≤ i → n ≡ triedFor n σ
     unfolding triedFor
     trying-all i left t all = omega (arith, t .tried, tried-least .most n (isRoot σ) (length σ - 1))
 
     -- column i is tried too
-    module _ (i left : ℕ) (t : Trying i left) (below : i < n) where
+    module _ (i left : ℕ) (t : Trying σ n i left) (below : i < n) where
       next : i + 1 ≤ triedFor n σ
       unfolding triedFor
       next = let l = tried-least .goes-on n (isRoot σ) (length σ - 1) i below (omega (arith, t .found, t .more)) in omega arith
@@ -82,10 +73,10 @@ module _ (σ : List ℕ) where
       counted : isRoot σ i ≡ true → count (i + 1) (isRoot σ) ≡ suc (count i (isRoot σ))
       counted root = ap (λ (k : ℕ). count k (isRoot σ)) (add-one i) ∙ count-pass i (isRoot σ) root
 
-      pub trying-root : isRoot σ i ≡ true → 0 < left - 1 → Trying (i + 1) (left - 1)
+      pub trying-root : isRoot σ i ≡ true → 0 < left - 1 → Trying σ n (i + 1) (left - 1)
       trying-root root more = record { tried = next; found = omega (arith, t .found, counted root); more = more }
 
-      pub trying-other : isRoot σ i ≡ false → Trying (i + 1) left
+      pub trying-other : isRoot σ i ≡ false → Trying σ n (i + 1) left
       trying-other none =
           let same = ap (λ (k : ℕ). count k (isRoot σ)) (add-one i) ∙ count-fail i (isRoot σ) none in
           record { tried = next; found = omega (arith, t .found, same); more = t .more }

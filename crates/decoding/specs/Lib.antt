@@ -2,3 +2,4 @@ pub mod Locating
 pub mod NamedAlike
 pub mod Remaining
 pub mod Search
+pub mod Searching

@@ -1,5 +1,4 @@
 pub mod Accumulation
-pub mod Blocks
 pub mod Field257
 pub mod LocatorBuilding
 pub mod LocatorPolynomial

@@ -2,12 +2,11 @@
 use crate::powers::entry;
 ghost use mathlib.Core.Path.{_≡_};
 ghost use Prim.Native.Nat.{_+_, _*_, _/_, _%_, _^_, _≤_, _<_};
-ghost use lib.ListN.{length, getD, take};
+ghost use lib.ListN.{length, getD};
 ghost use Rattle.field257.specs.Evaluable.{Evaluable, cubicAt};
 ghost use Rattle.field.specs.Coefficients.{value};
 ghost use Rattle.lists.specs.Total.{total};
 ghost use Rattle.field257.specs.Powers.{powerOf3};
-ghost use Rattle.field257.specs.Table.{table};
 
 // The whole product.
 pub fn times(a: u16, b: u16) -> u32
@@ -79,37 +78,4 @@ pub fn value_at(powers: &[u16; 256], f: &[u16], e: u32) -> u16
         k += 1;
     }
     (total % 257) as u16
-}
-
-// What the coefficients up to the last multiple of 256 add to the value at 3^e: the powers of 3^e come round after 256, so that
-// each 256 coefficients are a polynomial of their own.
-fn blocks(powers: &[u16; 256], f: &[u16], e: u32) -> u16
-    requires { ⌜ (now powers ≡ table) × (e < 16777216) ⌝ }
-    ensures equals { λ r. ⌜ r ≡ value 257 (take (256 * (length (now (f .entry)) / 256)) (now (f .entry))) (powerOf3 e) ⌝ }
-    ensures below { λ r. ⌜ r < 257 ⌝ }
-{
-    let count = f.len() / 256;
-    let mut sum: u16 = 0;
-    let mut b = 0;
-    while b < count {
-        let a = 256 * b;
-        let to = a + 256;
-        sum = (sum + value_at(powers, &f[a..to], e)) % 257;
-        b += 1;
-    }
-    sum
-}
-
-// The value at 3^e of a polynomial with any number of coefficients.
-pub fn value_of(powers: &[u16; 256], f: &[u16], e: u32) -> u16
-    requires { ⌜ (now powers ≡ table) × (e < 16777216) ⌝ }
-    ensures { λ r. ⌜ r ≡ value 257 (now (f .entry)) (powerOf3 e) ⌝ }
-{
-    if f.len() <= 256 {
-        return value_at(powers, f, e);
-    }
-    let front = blocks(powers, f, e);
-    let a = 256 * (f.len() / 256);
-    let to = f.len();
-    (front + value_at(powers, &f[a..to], e)) % 257
 }

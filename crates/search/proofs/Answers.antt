@@ -9,7 +9,8 @@ use lib.ListN.{length, getD}
 use borrow.Author.Tests.{leb-true, ltb-true}
 use Rattle.columns.specs.declared.Columns.{Columns}
 use Rattle.decoding.specs.Search.{triedFor}
-use Rattle.decoding.proofs.Searching.{searched, search-none, search-ends, none-tried}
+use Rattle.decoding.specs.Searching.{searched}
+use Rattle.decoding.proofs.Searching.{search-none, search-ends, none-tried}
 use Rattle.field.proofs.Coefficients.{residues-past}
 use Rattle.frame.specs.Shape.{columnsInRange}
 use Rattle.lists.specs.Tabulate.{every}

@@ -1,2 +1,4 @@
 pub mod Answers
 pub mod Demands
+pub mod Trials
+pub mod Valuing

@@ -1,2 +1,4 @@
+pub mod Block
 pub mod Demands
 pub mod Search
+pub mod Values

@@ -1,5 +1,7 @@
 // The search for the columns that a register names, which goes up from column 0 and ends as soon as they are found (SPECIFICATION.md, "Search").
+mod blocks;
 pub mod roots;
+mod values;
 
 use columns::Columns;
 use refusal::Checked;

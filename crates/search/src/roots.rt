@@ -1,26 +1,17 @@
 // The search for roots of taps at the columns.
 use crate::Searched;
 use crate::Sought;
+use crate::blocks::try_block;
+use columns::Columns;
 use field257::powers::powers;
-use field257::values::value_of;
 use refusal::Checked;
 use refusal::Refusal;
 use shapes::shape::columns_in_range;
 use shapes::symbols::all_below;
 ghost use mathlib.Core.Path.{_≡_};
 ghost use Prim.Native.Nat.{_≤_};
-ghost use Rattle.decoding.specs.Locating.{isRoot};
-ghost use Rattle.field257.specs.Table.{table};
 ghost use Rattle.refusal.specs.Outcome.{outcomeOf, outcome};
 ghost use Rattle.search.specs.Search.{nothing, sought, searchTests, answerOf, answer};
-
-// The inverse of the locator of column i is a root of the taps. The inverse of 3^i is 3^(256 − i).
-fn is_root(powers: &[u16; 256], taps: &[u16], i: usize) -> bool
-    requires { ⌜ (now powers ≡ table) × (i ≤ 256) ⌝ }
-    ensures { λ r. ⌜ r ≡ isRoot (now (taps .entry)) i ⌝ }
-{
-    value_of(powers, taps, (256 - i) as u32) == 0
-}
 
 // No column found, none tried.
 fn nothing() -> Sought
@@ -39,25 +30,25 @@ pub fn sought_columns(columns: usize, taps: &[u16]) -> Sought
         return nothing();
     }
     let powers = powers();
-    let mut found = columns::empty();
+    let mut words = [0u64; 4];
     let mut left = taps.len() - 1;
-    let mut i = 0;
-    while i < columns {
-        if is_root(&powers, taps, i) {
-            found = columns::with(found, i);
-            left -= 1;
-            if left == 0 {
-                return Sought {
-                    columns: found,
-                    tried: i + 1,
-                };
-            }
+    let mut tried = 0;
+    while tried < columns {
+        let trial = try_block(&powers, taps, columns, tried, left, &mut words);
+        left = trial.left;
+        tried = trial.tried;
+        if left == 0 {
+            let found = Columns { words };
+            return Sought {
+                columns: found,
+                tried,
+            };
         }
-        i += 1;
     }
+    let found = Columns { words };
     Sought {
         columns: found,
-        tried: columns,
+        tried,
     }
 }
 
