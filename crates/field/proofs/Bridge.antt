@@ -10,7 +10,7 @@ use Rattle.algebra.specs.Sum.{sum, pow}
 use Rattle.algebra.proofs.Powers.{pow-zero as ring-pow-zero, pow-suc as ring-pow-suc}
 use Rattle.algebra.proofs.Sums.{sum-zero, sum-suc}
 use Rattle.field.specs.Prime.{Prime}
-use Rattle.field.specs.Residue.{plus, minus, times, power, inverse, quotient}
+use Rattle.field.specs.Residue.{minus, times, power, inverse, quotient}
 use Rattle.lists.specs.Total.{total}
 use Rattle.field.proofs.Instance.{residue, residue-ring, residues, same-element, own-remainder}
 use Rattle.field.proofs.Remainders.{mod-mul-mod, mul-mod-mod, pow-mod}

@@ -1,12 +1,10 @@
--- Remainders without a division. The quotient of q·y by p comes from the ratio of q to p in parts of a power of two (Barrett for q = 1, Shoup): it is
--- right or one too small, so at most one p is left to take off; and a difference of residues goes below 0 by less than p.
-use mathlib.Core.Path.{_≡_, refl, sym, ap, _∙_}
+-- Remainders without a division. The quotient by p that a reciprocal of p in parts of a power of two gives (Barrett) is right or one too small, so at most
+-- one p is left to take off; and a difference of residues goes below 0 by less than p.
+use mathlib.Core.Path.{_≡_, sym, ap, _∙_}
 use Prim.Native.Nat.{ℕ, _+_, _-_, _*_, _/_, _%_, _≤_, _<_}
 use native.Mathlib.Nat.{
   add-mul-mod-self-right,
   div-add-mod',
-  div-le-self,
-  div-lt-iff-lt-mul,
   div-mul-le-self,
   le-of-mul-le-mul-right,
   lt-div-mul-add,
@@ -16,7 +14,6 @@ use native.Mathlib.Nat.{
   mul-le-mul,
   mul-le-mul-left,
   mul-le-mul-right,
-  one-mul,
 }
 use native.Mathlib.Omega.{arith}
 
@@ -26,12 +23,6 @@ remainder-is v k p r e less = sym (ap (λ (x : ℕ). x % p) (sym e) ∙ add-mul-
 
 pub halves-fit : {x y : ℕ} → x < 65536 → y < 65536 → x * y < 4294967296
 halves-fit {x} {y} hx hy = omega (arith, mul-le-mul (let e : x ≤ 65535 = omega arith in e) (let e : y ≤ 65535 = omega arith in e))
-
--- a 32-bit number times the reciprocal of p
-pub reciprocal-fits : (p : ℕ) {v m : ℕ} → v < 4294967296 → m ≡ 4294967296 / p → m * v < 18446744073709551616
-reciprocal-fits p {v} {m} hv eq =
-    let small : m ≤ 4294967296 = rw eq (div-le-self 4294967296 p) in
-    omega (arith, mul-le-mul small (let e : v ≤ 4294967295 = omega arith in e))
 
 -- a sum of 129 products of residues times the wide reciprocal of p
 pub wide-reciprocal-fits : {p v m : ℕ} → p ≤ 65521 → v ≤ 129 * (p * p) → m ≡ 1099511627776 / p → m * v < 18446744073709551616
@@ -44,27 +35,26 @@ wide-reciprocal-fits {p} {v} {m} small hv eq =
 pub wide-below : {p v : ℕ} → p ≤ 65521 → v ≤ 129 * (p * p) → v ≤ 1099511627776
 wide-below {p} {v} small hv = omega (arith, mul-le-mul small small)
 
-pub ratio-fits : {p q : ℕ} → q < p → q * 65536 / p < 65536
-ratio-fits {p} {q} less = div-lt-iff-lt-mul {k = p} {x = q * 65536} {y = 65536} (omega arith) .1 (omega arith)
+-- ---- m is a reciprocal of p in parts of b: m·v / b is the quotient of v by p, or one less
 
--- ---- the product v of q and y, w being the ratio of q to p in parts of b (q is 1 for a reciprocal)
+module _ {b p v m : ℕ} (base : 0 < b) (pos : 0 < p) (within : v ≤ b) (reciprocal : m ≡ b / p) where
+  abbrev t : ℕ
+  t = m * v / b
 
-module _ {b p v w t : ℕ} (q y : ℕ) (base : 0 < b) (pos : 0 < p) (within : y ≤ b) (product : v ≡ q * y) (ratio : w ≡ q * b / p) (quotient : t ≡ w * y / b) where
   pub not-above : t * p ≤ v
   not-above =
-      let low : t * b ≤ w * y = rw quotient (div-mul-le-self (w * y) b) in
-      let part : w * p ≤ q * b = rw ratio (div-mul-le-self (q * b) p) in
-      let scaled : t * p * b ≤ q * y * b = omega (arith, mul-le-mul-right p low, mul-le-mul-right y part) in
-      rw product (le-of-mul-le-mul-right scaled base)
+      let low : t * b ≤ m * v = div-mul-le-self (m * v) b in
+      let part : m * p ≤ b = rw reciprocal (div-mul-le-self b p) in
+      le-of-mul-le-mul-right (let scaled : t * p * b ≤ v * b = omega (arith, mul-le-mul-right p low, mul-le-mul-right v part) in scaled) base
 
   one-short : v < t * p + 2 * p
   one-short =
-      let rest : ℕ = (q * b) % p in
-      let high : w * y < t * b + b = rw quotient (lt-div-mul-add {a = w * y} {b = b} base) in
-      let part : w * p + rest ≡ q * b = rw ratio (div-add-mod' (q * b) p) in
-      let small : rest * y ≤ p * b = mul-le-mul (let e : rest ≤ p = omega (arith, mod-lt (q * b) pos) in e) within in
-      let scaled : q * y * b < (t * p + 2 * p) * b = omega (arith, mul-le-mul-right p high, ap (λ (x : ℕ). x * y) part) in
-      rw product (lt-of-mul-lt-mul-right b scaled)
+      let rest : ℕ = b % p in
+      let high : m * v < t * b + b = lt-div-mul-add {a = m * v} {b = b} base in
+      let part : m * p + rest ≡ b = rw reciprocal (div-add-mod' b p) in
+      let small : rest * v ≤ p * b = mul-le-mul (let e : rest ≤ p = omega (arith, mod-lt b pos) in e) within in
+      let scaled : v * b < (t * p + 2 * p) * b = omega (arith, mul-le-mul-right p high, ap (λ (x : ℕ). x * v) part) in
+      lt-of-mul-lt-mul-right b scaled
 
   pub right : v - t * p < p → v - t * p ≡ v % p
   right below = remainder-is v t p (v - t * p) (omega (arith, not-above)) below
@@ -74,25 +64,10 @@ module _ {b p v w t : ℕ} (q y : ℕ) (base : 0 < b) (pos : 0 < p) (within : y 
       let below : v - t * p - p < p = omega (arith, one-short) in
       (remainder-is v (t + 1) p (v - t * p - p) (omega (arith, not-above)) below, below)
 
--- ---- a reciprocal of p in parts of b: m·v / b is the quotient of v by p, or one less (Barrett)
-
-module _ {b p v m : ℕ} (base : 0 < b) (pos : 0 < p) (within : v ≤ b) (reciprocal : m ≡ b / p) where
-  part-of-one : m ≡ 1 * b / p
-  part-of-one = rw one-mul reciprocal
-
-  pub reciprocal-not-above : m * v / b * p ≤ v
-  reciprocal-not-above = not-above 1 v base pos within (sym (one-mul v)) part-of-one refl
-
-  pub reciprocal-right : v - m * v / b * p < p → v - m * v / b * p ≡ v % p
-  reciprocal-right = right 1 v base pos within (sym (one-mul v)) part-of-one refl
-
-  pub reciprocal-corrected : p ≤ v - m * v / b * p → (v - m * v / b * p - p ≡ v % p) × (v - m * v / b * p - p < p)
-  reciprocal-corrected = corrected 1 v base pos within (sym (one-mul v)) part-of-one refl
-
 -- ---- the difference of two residues
 
-pub taken : {p a b : ℕ} → a < p → b < p → b ≤ a → a - b ≡ (a + (p - b)) % p
+pub taken : {p a b : ℕ} → a < p → b ≤ p → b ≤ a → a - b ≡ (a + (p - b)) % p
 taken {p} {a} {b} ha hb le = remainder-is (a + (p - b)) 1 p (a - b) (omega arith) (omega arith)
 
-pub borrowed : {p a b : ℕ} → a < p → b < p → a < b → a + (p - b) ≡ (a + (p - b)) % p
+pub borrowed : {p a b : ℕ} → a < p → b ≤ p → a < b → a + (p - b) ≡ (a + (p - b)) % p
 borrowed {p} {a} {b} ha hb less = sym (mod-eq-of-lt (let e : a + (p - b) < p = omega arith in e))

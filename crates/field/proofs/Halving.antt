@@ -2,16 +2,13 @@
 -- exponent is odd.
 use mathlib.Core.Path.{_≡_, sym, ap, _∙_}
 use Prim.Native.Nat.{ℕ, zero, suc, _+_, _*_, _/_, _%_, _^_, _<_}
-use native.Mathlib.Nat.{pow-zero, pow-suc, mul-assoc, mul-comm, mul-one, one-mul, mod-eq-of-lt, mod-mod}
+use native.Mathlib.Nat.{pow-zero, pow-suc, mul-assoc, mul-comm, mul-one, mod-eq-of-lt}
 use native.Mathlib.Omega.{arith}
 use Rattle.field.specs.Residue.{times, power}
 use Rattle.field.proofs.Remainders.{mod-mul-mod, mul-mod-mod, pow-mod}
 
 pub zeroth-power : (p s a e : ℕ) → e ≡ 0 → s < p → s ≡ times p s (power p a e)
 zeroth-power p s a e none less = rw (none, pow-zero) (sym (mul-mod-mod s 1 p ∙ rw mul-one (mod-eq-of-lt less)))
-
-pub once : (p x r : ℕ) → r ≡ times p (1 % p) (x % p) → r ≡ x % p
-once p x r e = e ∙ mod-mul-mod 1 p (x % p) ∙ rw one-mul (mod-mod x p)
 
 square-power : (a k : ℕ) → (a * a) ^ k ≡ a ^ (k + k)
 square-power a zero = pow-zero (a * a) ∙ sym (pow-zero a)

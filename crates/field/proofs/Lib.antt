@@ -8,9 +8,12 @@ pub mod Fits
 pub mod Halving
 pub mod Instance
 pub mod Modulus
+pub mod MontgomeryProducts
 pub mod Multiplication
+pub mod NewtonInverse
 pub mod Polynomials
 pub mod Prime257
 pub mod PrimeTest
 pub mod ProductSums
+pub mod Reciprocals
 pub mod Remainders

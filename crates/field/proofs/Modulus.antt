@@ -37,3 +37,11 @@ even-modulus p even = pick (ℕ-discrete p 2)
         modulus-refused p
         (λ prime le. ⊎-elim (λ one. omega arith) (λ two. other (sym two)) (prime .divisor 2 (p / 2) (let e : 2 * (p / 2) ≡ p = omega arith in e)))
         ∙ sym (ne-eqb p 2 other)
+
+pub odd-prime : (p : ℕ) → Prime p → (p ≡ 2 → ⊥) → p % 2 ≡ 1
+odd-prime p prime other = pick (ℕ-discrete (p % 2) 0)
+  where
+    pick : Dec (p % 2 ≡ 0) → p % 2 ≡ 1
+    pick (yes even) =
+        absurd (⊎-elim (λ one. omega arith) (λ two. other (sym two)) (prime .divisor 2 (p / 2) (let e : 2 * (p / 2) ≡ p = omega arith in e)))
+    pick (no odd) = omega (arith, odd)

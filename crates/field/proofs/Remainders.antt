@@ -22,6 +22,10 @@ use native.Mathlib.Nat.{
 use native.Mathlib.Decide.{decLt}
 use native.Mathlib.Omega.{arith}
 
+-- numbers that differ by a multiple of n have the same remainder
+pub same-remainder : (n j k x y : ℕ) → x + j * n ≡ y + k * n → x % n ≡ y % n
+same-remainder n j k x y e = sym (add-mul-mod-self-right x j n) ∙ ap (λ (z : ℕ). z % n) e ∙ add-mul-mod-self-right y k n
+
 pub mod-mul-mod : (n m k : ℕ) → (n % m * k) % m ≡ (n * k) % m
 mod-mul-mod n m k =
     sym (add-mul-mod-self-right (n % m * k) (n / m * k) m)

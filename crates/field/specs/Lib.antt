@@ -1,5 +1,5 @@
 pub mod Coefficients
+pub mod Dividends
 pub mod Operands
 pub mod Prime
 pub mod Residue
-pub mod WideDividend

@@ -1,6 +1,6 @@
 -- What arithmetic on residues asks: a modulus whose products of residues fit, and residues below it.
 use mathlib.Core.Path.{_≡_}
-use Prim.Native.Nat.{ℕ, _/_, _≤_, _<_}
+use Prim.Native.Nat.{ℕ, _+_, _/_, _≤_, _<_}
 
 -- of a sum, a difference or a product
 pub record Operands (p a b : ℕ) : Type 0 where
@@ -13,10 +13,9 @@ pub record PowerOperands (p s a m : ℕ) : Type 0 where
   pub modulus : p ≤ 65521
   pub factor : s < p
   pub base : a < p
-  pub reciprocal : m ≡ 4294967296 / p
+  pub reciprocal : m ≡ 281474976710655 / p + 1
 
--- of an inverse
-pub record InverseOperand (p a : ℕ) : Type 0 where
+-- of s over a
+pub record QuotientOperands (p s a m : ℕ) : Type 0 where
   pub two-or-more : 2 ≤ p
-  pub modulus : p ≤ 65521
-  pub residue : a < p
+  pub operands : PowerOperands p s a m

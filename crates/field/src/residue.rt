@@ -1,11 +1,10 @@
 // Arithmetic on residues modulo p. The square of 65520 fits a u32, so a product is reduced once. That a
 // result is below p follows from what it equals; it is said besides, for the callers.
-use crate::reciprocal::reciprocal;
 use crate::reciprocal::remainder;
 ghost use mathlib.Core.Path.{_≡_};
-ghost use Prim.Native.Nat.{_<_, _≤_};
-ghost use Rattle.field.specs.Operands.{Operands, PowerOperands, InverseOperand};
-ghost use Rattle.field.specs.Residue.{plus, minus, times, power as powerOf, inverse as inverseOf};
+ghost use Prim.Native.Nat.{_<_};
+ghost use Rattle.field.specs.Operands.{Operands, PowerOperands, QuotientOperands};
+ghost use Rattle.field.specs.Residue.{plus, minus, times, power as powerOf, quotient as quotientOf};
 
 pub fn sum(a: u32, b: u32, p: u32) -> u32
     requires { ⌜ Operands p a b ⌝ }
@@ -48,20 +47,11 @@ fn raise(s: u32, a: u32, e: u32, p: u32, m: u64) -> u32
     raise(remainder(s * a, p, m), square, e / 2, p, m)
 }
 
-// a to the power e.
-pub fn power(a: u32, e: u32, p: u32) -> u32
-    requires { ⌜ (p ≤ 65521) × (a < p) ⌝ }
-    ensures equals { λ r. ⌜ r ≡ powerOf p a e ⌝ }
+// s over a modulo a prime p, where a is not 0: s times the inverse of a, its power p − 2. m is the reciprocal of p.
+pub fn quotient(s: u32, a: u32, p: u32, m: u64) -> u32
+    requires { ⌜ QuotientOperands p s a m ⌝ }
+    ensures equals { λ r. ⌜ r ≡ quotientOf p s a ⌝ }
     ensures below { λ r. ⌜ r < p ⌝ }
 {
-    raise(1 % p, a, e, p, reciprocal(p))
-}
-
-// The inverse of a modulo a prime p, where a is not 0.
-pub fn inverse(a: u32, p: u32) -> u32
-    requires { ⌜ InverseOperand p a ⌝ }
-    ensures equals { λ r. ⌜ r ≡ inverseOf p a ⌝ }
-    ensures below { λ r. ⌜ r < p ⌝ }
-{
-    power(a, p - 2, p)
+    raise(s, a, p - 2, p, m)
 }

@@ -1,32 +1,20 @@
 -- `field::reciprocal::remainder` meets its contract.
 use native.Mathlib.Omega.{arith}
-use Rattle.field.proofs.Divisionless.{reciprocal-fits, reciprocal-not-above, reciprocal-right, reciprocal-corrected}
+use Rattle.field.proofs.Reciprocals.{reciprocal-fits, fraction-fits, remainder-is, remainder-below}
 use Rattle.field.proofs.reciprocal.remainder.Statement.{statement}
 use Rattle.field.proofs.reciprocal.remainder.Tie as tie
 
-mul-t : tie.Need-mul-t
-mul-t c = record { fits = reciprocal-fits _ (c .fits .v .fits) (c .pre .1) }
+mul-fraction : tie.Need-mul-fraction
+mul-fraction c = record { fits = reciprocal-fits (c .pre) }
 
-cast-t : tie.Need-cast-t
-cast-t c = omega (arith, reciprocal-fits _ (c .fits .v .fits) (c .pre .1))
+mul-result : tie.Need-mul-result
+mul-result c = record { fits = fraction-fits (c .pre) }
 
-mul-r : tie.Need-mul-r
-mul-r c =
-    let within = c .fits .v .fits in
-    omega (arith, within, reciprocal-not-above {v = c .args .v} (omega arith) (c .pre .0) (omega (arith, within)) (c .pre .1))
-
-sub-r : tie.Need-sub-r
-sub-r c = reciprocal-not-above (omega arith) (c .pre .0) (omega (arith, c .fits .v .fits)) (c .pre .1)
+cast-result : tie.Need-cast-result
+cast-result c = omega (arith, remainder-below (c .pre), c .pre .modulus)
 
 returns : tie.Need-returns
-returns c =
-    let at = c .before in
-    reciprocal-corrected (omega arith) (at .pre .0) (omega (arith, at .fits .v .fits)) (at .pre .1) (c .if1 .taken)
-
-returns-2 : tie.Need-returns-2
-returns-2 c =
-    let at = c .before in
-    (reciprocal-right (omega arith) (at .pre .0) (omega (arith, at .fits .v .fits)) (at .pre .1) (c .if1 .left), c .if1 .left)
+returns c = (remainder-is (c .pre), remainder-below (c .pre))
 
 pub remainder-spec : {M : Type 1} → statement M
-remainder-spec = tie.close (tie.spec mul-t cast-t mul-r sub-r returns returns-2)
+remainder-spec = tie.close (tie.spec mul-fraction mul-result cast-result returns)

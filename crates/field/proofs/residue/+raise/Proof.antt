@@ -5,6 +5,7 @@ use borrow.Fn.Kinds.{In}
 use borrow.Fn.PlainCycle.{Measures, is, falls, and}
 use Rattle.field.proofs.Fits.{product-fits}
 use Rattle.field.proofs.Halving.{zeroth-power, even-power, odd-power}
+use Rattle.field.proofs.Reciprocals.{product-dividend}
 use Rattle.field.proofs.residue.raise.Reads as raise
 use Rattle.field.proofs.residue.raise.Kinds as raise-kinds
 use Rattle.field.proofs.residue.+raise.Lts-raise as raise-lts
@@ -31,7 +32,9 @@ raise-mul-remainder : (t : ℕ) → raise-lts.Need-mul-remainder (claims t) (rai
 raise-mul-remainder t c = let pre = c .before .pre .1 in record { fits = product-fits _ _ _ (pre .modulus) (pre .base) (pre .base) }
 
 raise-remainder-requires : (t : ℕ) → raise-lts.Need-remainder-requires (claims t) (raise-at t) raise.Post
-raise-remainder-requires t c κs = omega arith
+raise-remainder-requires t c κs =
+    let pre = c .before .pre .1 in
+    product-dividend _ _ (pre .modulus) (pre .base) (pre .base) (pre .reciprocal)
 
 raise-raise-requires : (t : ℕ) → raise-lts.Need-raise-requires (claims t) (raise-at t) raise.Post
 raise-raise-requires t c κs =
@@ -47,7 +50,9 @@ raise-mul-remainder-2 : (t : ℕ) → raise-lts.Need-mul-remainder-2 (claims t) 
 raise-mul-remainder-2 t c = let pre = c .before .before .before .pre .1 in record { fits = product-fits _ _ _ (pre .modulus) (pre .factor) (pre .base) }
 
 raise-remainder-requires-2 : (t : ℕ) → raise-lts.Need-remainder-requires-2 (claims t) (raise-at t) raise.Post
-raise-remainder-requires-2 t c κs = omega arith
+raise-remainder-requires-2 t c κs =
+    let pre = c .before .before .before .pre .1 in
+    product-dividend _ _ (pre .modulus) (pre .factor) (pre .base) (pre .reciprocal)
 
 raise-raise-requires-2 : (t : ℕ) → raise-lts.Need-raise-requires-2 (claims t) (raise-at t) raise.Post
 raise-raise-requires-2 t c κs =
