@@ -1,5 +1,6 @@
 // Montgomery's product modulo 257: two products by halves, and no division. 65536 is 1 modulo 257, so the product comes out as it is.
-use crate::values::times;
+use field::montgomery::bottom;
+use field::montgomery::top;
 ghost use mathlib.Core.Path.{_≡_};
 ghost use Prim.Native.Nat.{_≤_};
 ghost use lib.ListN.{length, getD};
@@ -10,7 +11,7 @@ ghost use Rattle.lists.specs.Tabulate.{tabulate};
 pub fn companion(y: u16) -> u16
     ensures { λ r. ⌜ r ≡ companionOf y ⌝ }
 {
-    (times(y, 65281) % 65536) as u16
+    bottom(y, 65281)
 }
 
 // The companions of 64 factors.
@@ -33,7 +34,5 @@ pub fn product(a: u16, y: u16, z: u16) -> u16
     ensures equals { λ r. ⌜ r ≡ montgomery a y ⌝ }
     ensures bounded { λ r. ⌜ r ≤ 513 ⌝ }
 {
-    let low = (times(a, z) % 65536) as u16;
-    let taken = (times(low, 257) / 65536) as u16;
-    (times(a, y) / 65536) as u16 + 257 - taken
+    top(a, y) + 257 - top(bottom(a, z), 257)
 }
