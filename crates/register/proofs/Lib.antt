@@ -10,6 +10,8 @@ pub mod InOrder
 pub mod Largest
 pub mod Lent
 pub mod Ordering
+pub mod Settled
 pub mod Splitting
 pub mod Stable
 pub mod Theory
+pub mod Zeros

@@ -3,7 +3,6 @@ use mathlib.Core.Path.{_≡_}
 use mathlib.Core.Bool.{Bool, true}
 use mathlib.Core.List.{List, []}
 use Prim.Native.Nat.{ℕ, _≤_, _<_}
-use lib.Dec.{eqb}
 use lib.ListN.{length, getD}
 use Rattle.columns.specs.Columns.{Apart, either, members}
 use Rattle.columns.specs.declared.Columns.{Columns}
@@ -13,11 +12,7 @@ use Rattle.frame.specs.DeclaredCells.{Declared, declarable}
 use Rattle.frame.specs.Frame.{heldSequences}
 use Rattle.frame.specs.Shape.{isShape}
 use Rattle.frame.specs.declared.Shape.{Shape}
-use Rattle.lists.specs.Tabulate.{every}
-
--- every entry is 0
-abbrev pub allZero : (x : List ℕ) → Bool
-allZero x = every (length x) (λ k. eqb (getD x k 0) 0)
+use Rattle.sequences.specs.Zeros.{allZero}
 
 -- a row with the sums x can be completed at J: with its columns taken out, what is left of the sums is 0
 abbrev pub completableAt : (J : Columns) (x : List ℕ) → Bool

@@ -7,25 +7,13 @@ use erasures::cells::cells_of;
 use field257::powers::powers;
 use field257::powers::wide;
 use frame::Shape;
+use sequences::zeros::all_zero;
 ghost use mathlib.Core.Path.{_≡_};
 ghost use Rattle.columns.specs.Columns.{either};
 ghost use Rattle.decoding.specs.Remaining.{completable};
 ghost use Rattle.frame.specs.DeclaredCells.{declaredBy};
 ghost use Rattle.frame.specs.Frame.{heldSequences};
-ghost use Rattle.remaining.specs.Testable.{allZero, completableAt, Testable, TestableAt, TestableRow};
-
-fn all_zero(x: &[u16]) -> bool
-    ensures { λ r. ⌜ r ≡ allZero (now (x .entry)) ⌝ }
-{
-    let mut k = 0;
-    while k < x.len() {
-        if x[k] != 0 {
-            return false;
-        }
-        k += 1;
-    }
-    true
-}
+ghost use Rattle.remaining.specs.Testable.{completableAt, Testable, TestableAt, TestableRow};
 
 // Whether a row with these check sums can be completed at the set.
 fn completable_at(powers: &[u16; 256], set: Columns, sums: &[u16]) -> bool

@@ -1,6 +1,7 @@
 // The sequences lent to the finder: the tests of what is lent, and the order by falling length.
 pub mod check;
 pub mod sort;
+pub mod zeros;
 
 // Where the sequences stand among the lent symbols, by falling length: for each its first symbol and its length.
 pub struct Order {

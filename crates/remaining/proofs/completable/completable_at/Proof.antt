@@ -1,7 +1,7 @@
 -- `remaining::completable::completable_at` meets its contract.
 use mathlib.Core.Path.{ap, _∙_}
 use native.Mathlib.Omega.{arith}
-use Rattle.remaining.specs.Testable.{allZero}
+use Rattle.sequences.specs.Zeros.{allZero}
 use Rattle.remaining.proofs.RowsCompletable.{written-length, written-part}
 use borrow.Author.Needs.{needs}
 use Rattle.remaining.proofs.completable.completable_at.Statement.{statement}
