@@ -4,6 +4,8 @@ pub mod Demands
 pub mod Marking
 pub mod Reasons
 pub mod Refusing
+pub mod Reversing
 pub mod Running
 pub mod Starting
 pub mod Synthesis
+pub mod Zeros

@@ -1,89 +1,76 @@
--- The struct and the arrays before the first round hold the state that Algorithm 4 starts with.
-use mathlib.Core.Path.{_≡_, refl, sym, ap, _∙_}
+-- The arrays before the first round hold the state that Algorithm 4 starts with.
+use mathlib.Core.Path.{_≡_, refl, sym, ap, ap₂, _∙_}
 use mathlib.Core.List.{List, [], _∷_}
 use Prim.Native.Nat.{ℕ, zero, suc, _+_, _-_, _*_, _^_, _%_, _≤_, _<_}
-use native.Mathlib.Nat.{mod-eq-of-lt, pow-zero, pow-suc, mul-one}
+use native.Mathlib.Nat.{mod-eq-of-lt, mod-mod, pow-zero, pow-suc, mul-one}
 use native.Mathlib.Omega.{arith}
 use lib.ListN.{length, getD, take, drop, set, replicate, length-take, length-drop, length-set, length-replicate, getD-replicate}
 use lib.Seq.{getD-set-other, take-suc}
-use Rattle.field.specs.Residue.{inverse}
+use Rattle.field.specs.Residue.{inverse, quotient}
 use Rattle.lists.proofs.Entries.{getD-part}
-use Rattle.lists.proofs.Filling.{Filled, filled-entry}
 use Rattle.lists.proofs.Joined.{replicate-each}
-use Rattle.lists.proofs.Zeros.{zeros}
-use Rattle.register.specs.Algorithm4.{start}
-use Rattle.sequences.specs.Places.{sequencesAt}
-use Rattle.register_step.specs.Progress.{block, stateOf}
-use Rattle.finder.specs.Rounds.{Running, Reached, Started}
+use Rattle.register.specs.Algorithm4.{start, rounds}
+use Rattle.register_step.specs.Progress.{Progress, block, progress, stateOf}
+use Rattle.finder.specs.Rounds.{Running, Reached, Started, sequencesIn}
 use Rattle.sequences.specs.declared.Order.{Order}
-use Rattle.register_step.specs.declared.Progress.{Progress}
 use Rattle.register_step.proofs.Change.{saved-path}
-use Rattle.sequences.proofs.Insertion.{length-within}
-use Rattle.finder.proofs.Running.{sequence-at}
-
--- ---- the struct
-
--- the places of h sequences are set
-pub record Placing (N : ℕ) (o : Order) (h : ℕ) (g : Progress) : Type 0 where
-  pub places : Filled (λ k. N - getD (o .lengths) k 0) (zeros 8) h (g .places)
-  pub length : g .length ≡ 0
-  pub sizes : g .sizes ≡ replicate 8 0
-  pub discs : g .discs ≡ replicate 8 1
-  pub inverses : g .inverses ≡ replicate 8 1
-
-pub all-placed : (N : ℕ) (o : Order) (h k : ℕ) (g : Progress) → Placing N o h g → k ≤ h → Started N o k g
-all-placed N o h k g a le =
-    record {
-      length = a .length;
-      place = λ i b. filled-entry _ _ _ _ (a .places) i (omega arith);
-      size = λ i b. rw (a .sizes) (getD-replicate 8 i 0 0 b);
-      disc = λ i b. rw (a .discs) (getD-replicate 8 i 1 0 b);
-      inverse = λ i b. rw (a .inverses) (getD-replicate 8 i 1 0 b);
-    }
-
--- ---- the arrays
+use Rattle.finder.proofs.Running.{sequence-at, length-part}
 
 -- the taps of the register of length 0, and the saved registers that are 0
 abbrev one-tap : List ℕ
-one-tap = set (replicate 129 0) 0 1
+one-tap = set (replicate 144 0) 0 1
 
 abbrev no-taps : List ℕ
-no-taps = replicate 1032 0
+no-taps = replicate 1152 0
 
 zero-block : (h : ℕ) → h < 8 → take 1 (block h no-taps) ≡ 0 ∷ []
 zero-block h b =
-    take-suc (block h no-taps) 0 0 (omega (arith, length-take 129 (drop (h * 129) no-taps), length-drop (h * 129) no-taps, length-replicate {A = ℕ} 1032 0))
-    ∙ ap (λ (x : ℕ). x ∷ []) (getD-part (h * 129) 129 no-taps 0 0 (omega arith) ∙ getD-replicate 1032 (h * 129 + 0) 0 0 (omega arith))
+    take-suc (block h no-taps) 0 0 (omega (arith, length-take 144 (drop (h * 144) no-taps), length-drop (h * 144) no-taps, length-replicate {A = ℕ} 1152 0))
+    ∙ ap (λ (x : ℕ). x ∷ []) (getD-part (h * 144) 144 no-taps 0 0 (omega arith) ∙ getD-replicate 1152 (h * 144 + 0) 0 0 (omega arith))
 
 one-pow : (k : ℕ) → 1 ^ k ≡ 1
 one-pow zero = pow-zero 1
 one-pow (suc k) = pow-suc 1 k ∙ mul-one (1 ^ k) ∙ one-pow k
 
-inverse-one : {p : ℕ} → 2 ≤ p → inverse p 1 ≡ 1
-inverse-one {p} h = ap (λ (x : ℕ). x % p) (one-pow (p - 2)) ∙ mod-eq-of-lt h
+over-one : {p : ℕ} → 2 ≤ p → quotient p (65536 % p) 1 ≡ 65536 % p
+over-one {p} h =
+    ap (λ (x : ℕ). (65536 % p * x) % p) (ap (λ (x : ℕ). x % p) (one-pow (p - 2)) ∙ mod-eq-of-lt h)
+    ∙ ap (λ (x : ℕ). x % p) (mul-one (65536 % p)) ∙ mod-mod 65536 p
 
-module _ {p N : ℕ} {o : Order} {k : ℕ} {symbols : List ℕ} (r : Running p N o k symbols) {g : Progress} (s : Started N o k g) where
-  saved-start : (h : ℕ) → h < k → stateOf g one-tap no-taps .saved h ≡ start N (sequencesAt o k symbols) .saved h
+module _ {p N : ℕ} {o : Order} {k : ℕ} {blocks : List ℕ} (r : Running p N o k blocks) {places : List ℕ} (s : Started N o k places) {u : ℕ} (unit : u ≡ 65536 % p) where
+  abbrev pub before : Progress
+  before = progress 0 places (replicate 8 0) (replicate 8 1) (replicate 8 u)
+
+  saved-start : (h : ℕ) → h < k → stateOf before one-tap no-taps .saved h ≡ start N (sequencesIn o k blocks) .saved h
   unfolding stateOf start
   saved-start h b =
       let small : h < 8 = omega (arith, r .count) in
-      let size = ap length (sequence-at o k symbols h b) ∙ length-within (getD (o .starts) h 0) (getD (o .lengths) h 0) symbols (r .within h b) in
+      let size = ap length (sequence-at o k blocks h b) ∙ length-part o k blocks h in
       saved-path
       (s .place h b ∙ ap (λ (n : ℕ). N - n) (sym size))
-      (s .size h small)
-      (s .disc h small)
-      (ap (λ (n : ℕ). take (suc n) (block h no-taps)) (s .size h small) ∙ zero-block h small)
+      (getD-replicate {A = ℕ} 8 h 0 0 small)
+      (getD-replicate {A = ℕ} 8 h 1 0 small)
+      (ap (λ (n : ℕ). take (suc n) (block h no-taps)) (getD-replicate 8 h 0 0 small) ∙ zero-block h small)
 
-  pub reached-start : Reached p k (start N (sequencesAt o k symbols)) g one-tap no-taps
-  unfolding stateOf start
+  pub reached-start : Reached p k (rounds p N (sequencesIn o k blocks) 0) before one-tap no-taps
+  unfolding stateOf start rounds
   reached-start =
       record {
-        state = record { size = s .length; taps = ap (λ (n : ℕ). take (suc n) one-tap) (s .length); saved = saved-start };
+        state = record { size = refl; taps = refl; saved = saved-start };
         ended =
             record {
-              width = length-set {A = ℕ} (replicate 129 0) 0 1 ∙ length-replicate {A = ℕ} 129 0;
-              saved-width = length-replicate {A = ℕ} 1032 0;
-              zeros = λ i past. getD-set-other {A = ℕ} (replicate 129 0) 0 i 1 0 (λ e. omega (arith, e)) ∙ replicate-each (λ (x : ℕ). x ≡ 0) 0 refl 129 i;
-              inverses = λ h b. s .inverse h b ∙ sym (ap (inverse p) (s .disc h b) ∙ inverse-one (r .two-or-more));
+              whole =
+                  record {
+                    places = s .width;
+                    sizes = length-replicate {A = ℕ} 8 0;
+                    discs = length-replicate {A = ℕ} 8 1;
+                    quotients = length-replicate {A = ℕ} 8 u;
+                  };
+              width = length-set {A = ℕ} (replicate 144 0) 0 1 ∙ length-replicate {A = ℕ} 144 0;
+              saved-width = length-replicate {A = ℕ} 1152 0;
+              zeros = λ i past. getD-set-other {A = ℕ} (replicate 144 0) 0 i 1 0 (λ e. omega (arith, e)) ∙ replicate-each (λ (x : ℕ). x ≡ 0) 0 refl 144 i;
+              shorter = λ h b. omega (arith, getD-replicate {A = ℕ} 8 h 0 0 b);
+              saved-zeros = λ h b i past small. getD-replicate {A = ℕ} 1152 (h * 144 + i) 0 0 (omega arith);
+              quotients = λ h b. getD-replicate 8 h u 0 b ∙ unit ∙ sym (ap (quotient p (65536 % p)) (getD-replicate {A = ℕ} 8 h 1 0 b) ∙ over-one (r .two-or-more));
             };
       }

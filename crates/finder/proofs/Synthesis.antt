@@ -1,6 +1,6 @@
 -- On input that no test refuses the finder's parts fit together: the places are in range, and what the rounds reach is what Algorithm 4 finds for the
 -- sequences lent.
-use mathlib.Core.Path.{_≡_, sym, ap, ap₂, _∙_}
+use mathlib.Core.Path.{_≡_, sym, ap, ap₂, subst, _∙_}
 use mathlib.Core.Bool.{Bool}
 use mathlib.Core.List.{List, [], _++_}
 use Prim.Native.Nat.{ℕ, suc, _+_, _-_, _≤_, _<_, max}
@@ -9,37 +9,55 @@ use lib.Dec.{leb}
 use lib.ListN.{length, getD, take, drop}
 use lib.Seq.{length-take-le}
 use Rattle.lists.proofs.Totals.{total-bound}
-use Rattle.lists.proofs.Tabulated.{every-ext}
+use Rattle.field.proofs.Modulus.{odd-prime}
+use Rattle.lists.proofs.Entries.{getD-part}
+use Rattle.lists.proofs.Filling.{by-entries}
+use Rattle.lists.proofs.Tabulated.{every-ext, getD-tabulate, length-tabulate, tabulate-ext}
 use Rattle.refusal.proofs.Outcomes.{given-passed}
 use Rattle.refusal.specs.Outcome.{passed, outcome}
-use Rattle.register.proofs.Bounds.{bounded-rounds}
+use Rattle.register.proofs.Bounds.{Bounded, bounded-rounds}
 use Rattle.register.proofs.Ordering.{longest-bounds, longest-ordered}
 use Rattle.register.specs.Algorithm4.{Saved, State, rounds, isAlone, found, foundAlone}
 use Rattle.register.specs.Sequences.{largest, longest, ordered, split}
 use Rattle.sequences.specs.Tests.{tests}
 use Rattle.finder.specs.Finder.{register, refused, answer, tapsLeft, Finds}
 use Rattle.sequences.specs.Places.{sequenceAt, sequencesAt, Sortable, Stands}
-use Rattle.register_step.specs.Progress.{stateOf}
-use Rattle.finder.specs.Rounds.{Running, Agree, Reached, aloneMark}
+use Rattle.register_step.specs.Discrepancies.{sequenceIn}
+use Rattle.register_step.specs.Modulus.{Taken}
+use Rattle.register_step.specs.Progress.{Progress, stateOf}
+use Rattle.finder.specs.Rounds.{Agree, Backwards, Markable, Reached, Reversible, Running, Startable, aloneMark, sequencesIn}
+use Rattle.finder.specs.declared.Found.{Found}
 use Rattle.finder.specs.declared.Found.the-variants.{Register}
 use Rattle.sequences.specs.declared.Order.{Order}
-use Rattle.register_step.specs.declared.Progress.{Progress}
 use Rattle.finder.proofs.Accepted.{Accepted, lengths-split}
 use Rattle.sequences.proofs.Insertion.{length-within}
 use Rattle.register.proofs.Largest.{largest-bound}
-use Rattle.finder.proofs.Running.{length-sequences, sequence-at}
+use Rattle.finder.proofs.Running.{length-part, length-sequences, sequence-at}
 
--- the mark read off the struct is that of the state that it holds
-mark-is : (N : ℕ) (o : Order) (k : ℕ) (symbols : List ℕ) (g : Progress) (taps saved : List ℕ) (st : State) →
-    ((h : ℕ) → h < k → getD (o .starts) h 0 + getD (o .lengths) h 0 ≤ length symbols) →
-    Agree k (stateOf g taps saved) st → aloneMark N o k g ≡ isAlone N (sequencesAt o k symbols) N st
+-- the mark read off the arrays is that of the state that they hold
+mark-is : (N : ℕ) (o : Order) (k : ℕ) (blocks : List ℕ) (g : Progress) (taps saved : List ℕ) (st : State) →
+    Agree k (stateOf g taps saved) st → aloneMark N o k (g .length) (g .places) (g .sizes) ≡ isAlone N (sequencesIn o k blocks) N st
 unfolding aloneMark isAlone stateOf
-mark-is N o k symbols g taps saved st within agree =
-    rw (length-sequences o k symbols)
+mark-is N o k blocks g taps saved st agree =
+    rw (length-sequences o k blocks)
     (every-ext k _ _ (λ h b.
     ap₂ (λ (v : Saved) (m : ℕ). leb (v .place) (v .size + m)) (agree .saved h b)
-    (ap₂ (λ (l n : ℕ). max (N - l) (N - n)) (agree .size)
-    (sym (ap length (sequence-at o k symbols h b) ∙ length-within (getD (o .starts) h 0) (getD (o .lengths) h 0) symbols (within h b))))))
+    (ap₂ (λ (l n : ℕ). max (N - l) (N - n)) (agree .size) (sym (ap length (sequence-at o k blocks h b) ∙ length-part o k blocks h)))))
+
+-- what stands backwards in the blocks are the sequences
+sequences-are : (o : Order) (k : ℕ) (symbols blocks : List ℕ) → ((h : ℕ) → h < k → getD (o .starts) h 0 + getD (o .lengths) h 0 ≤ length symbols) →
+    Backwards o k symbols blocks → sequencesIn o k blocks ≡ sequencesAt o k symbols
+unfolding sequenceIn
+sequences-are o k symbols blocks within back = tabulate-ext k _ _ (λ h b. each h b)
+  where
+    each : (h : ℕ) → h < k → sequenceIn blocks h (getD (o .lengths) h 0) ≡ sequenceAt o symbols h
+    each h b =
+        let n : ℕ = getD (o .lengths) h 0 in
+        let a : ℕ = getD (o .starts) h 0 in
+        let long : length (sequenceAt o symbols h) ≡ n = length-within a n symbols (within h b) in
+        sym (by-entries n _ (sequenceAt o symbols h) long (λ i less.
+        getD-part a n symbols i 0 less
+        ∙ sym (back .entries h b (n - suc i) (omega arith) ∙ ap (λ (j : ℕ). getD symbols (a + j) 0) (let e : n - suc (n - suc i) ≡ i = omega arith in e))))
 
 module _ {p : ℕ} {lengths symbols : List ℕ} {room : ℕ} (fine : Accepted p lengths symbols room) where
   abbrev k : ℕ
@@ -47,6 +65,9 @@ module _ {p : ℕ} {lengths symbols : List ℕ} {room : ℕ} (fine : Accepted p 
 
   abbrev ss : List (List ℕ)
   ss = split lengths symbols
+
+  pub taken : Taken p
+  taken = record { two-or-more = fine .prime .two-or-more; modulus = fine .modulus; odd = odd-prime p (fine .prime) }
 
   pub sortable : Sortable lengths symbols
   sortable =
@@ -63,66 +84,105 @@ module _ {p : ℕ} {lengths symbols : List ℕ} {room : ℕ} (fine : Accepted p 
     shorter : (h : ℕ) → h < k → getD (o .lengths) h 0 ≤ N
     shorter h b =
         let here : getD (ordered ss) h [] ≡ sequenceAt o symbols h =
-        ap (λ (l : List (List ℕ)). getD l h []) (sym (stands .sequences)) ∙ sequence-at o k symbols h b
+        ap (λ (l : List (List ℕ)). getD l h []) (sym (stands .sequences)) ∙ getD-tabulate k (sequenceAt o symbols) h [] b
         in
         let size = ap length here ∙ length-within (getD (o .starts) h 0) (getD (o .lengths) h 0) symbols (stands .within h b) in
-        let many = sym (ap length (stands .sequences)) ∙ length-sequences o k symbols in
+        let many = sym (ap length (stands .sequences)) ∙ length-tabulate k (sequenceAt o symbols) in
         omega (arith, longest-bounds (ordered ss) h (omega arith), longest-ordered ss, is-longest)
 
-    pub running : Running p N o k symbols
-    running =
-        record {
-          two-or-more = fine .prime .two-or-more;
-          modulus = fine .modulus;
-          longest = omega (arith, largest-bound 128 lengths (fine .short));
-          count = fine .count;
-          within = stands .within;
-          shorter = shorter;
-          residues = fine .below;
-        }
+    pub startable : Startable N o k
+    startable = record { longest = omega (arith, largest-bound 128 lengths (fine .short)); count = fine .count; shorter = shorter }
 
-    module _ {g : Progress} {taps saved : List ℕ} (reached : Reached p k (rounds p N (sequencesAt o k symbols) N) g taps saved) where
-      is-found : rounds p N (sequencesAt o k symbols) N ≡ found p ss (longest ss)
-      unfolding found
-      is-found = ap₂ (λ (m : ℕ) (l : List (List ℕ)). rounds p m l m) (sym is-longest) (stands .sequences)
+    pub reversible : Reversible o k symbols
+    reversible =
+        record { count = fine .count; short = λ h b. omega (arith, shorter h b, startable .longest); within = stands .within }
 
-      pub size-within : g .length ≤ N
-      unfolding stateOf
-      size-within = omega (arith, reached .state .size, bounded-rounds p N (sequencesAt o k symbols) (running .two-or-more) N .size)
-
-      pub taps-room : g .length + 1 ≤ length taps
-      taps-room = let width = reached .ended .width in omega (arith, size-within, running .longest)
-
-      pub buffer-room : g .length + 1 ≤ room
-      buffer-room = omega (arith, size-within, fine .enough)
-
-      found-size : g .length ≡ found p ss (longest ss) .size
-      unfolding stateOf
-      found-size = reached .state .size ∙ ap (λ (st : State). st .size) is-found
-
-      found-taps : take (suc (g .length)) taps ≡ found p ss (longest ss) .taps
-      unfolding stateOf
-      found-taps = reached .state .taps ∙ ap (λ (st : State). st .taps) is-found
-
-      found-mark : aloneMark N o k g ≡ foundAlone p ss (longest ss)
-      unfolding foundAlone
-      found-mark =
-          mark-is N o k symbols g taps saved (rounds p N (sequencesAt o k symbols) N) (stands .within) (reached .state)
-          ∙ ap₂ (λ (m : ℕ) (l : List (List ℕ)). isAlone m l m (rounds p N (sequencesAt o k symbols) N)) (sym is-longest) (stands .sequences)
-          ∙ ap (isAlone (longest ss) (ordered ss) (longest ss)) is-found
-
-      -- w taps are copied to the buffer
-      pub finds : {buffer : List ℕ} → outcome (tests p lengths symbols (length buffer)) ≡ passed → {mark : Bool} (w : ℕ) {copied : List ℕ} →
-          mark ≡ aloneMark N o k g → w ≡ suc (g .length) → copied ≡ take w taps →
-          Finds p lengths symbols buffer (copied ++ drop w buffer) (Register (g .length) mark)
-      unfolding answer tapsLeft
-      finds {buffer} ok w {copied} marked width all =
-          let ts = tests p lengths symbols (length buffer) in
-          let whole : copied ≡ found p ss (longest ss) .taps = all ∙ ap (λ (n : ℕ). take n taps) width ∙ found-taps in
-          let long : length copied ≡ w = ap length all ∙ length-take-le w taps (omega (arith, taps-room)) in
+    module _ {blocks : List ℕ} (back : Backwards o k symbols blocks) where
+      pub running : Running p N o k blocks
+      running =
           record {
-            answers = ap₂ register found-size (marked ∙ found-mark) ∙ sym (given-passed refused _ ts ok);
-            leaves =
-                ap₂ (λ (l : List ℕ) (n : ℕ). l ++ drop n buffer) whole (sym long ∙ ap length whole)
-                ∙ sym (given-passed (λ _. buffer) _ ts ok);
+            two-or-more = fine .prime .two-or-more;
+            longest = startable .longest;
+            count = fine .count;
+            shorter = shorter;
+            residues = λ h b i less. rw (back .entries h b i less) (fine .below _ (omega (arith, stands .within h b)));
           }
+
+      module _ {g : Progress} {taps saved : List ℕ} (reached : Reached p k (rounds p N (sequencesIn o k blocks) N) g taps saved) where
+        sequences : sequencesIn o k blocks ≡ ordered ss
+        sequences = sequences-are o k symbols blocks (stands .within) back ∙ stands .sequences
+
+        is-found : rounds p N (sequencesIn o k blocks) N ≡ found p ss (longest ss)
+        unfolding found
+        is-found = ap₂ (λ (m : ℕ) (l : List (List ℕ)). rounds p m l m) (sym is-longest) sequences
+
+        bounded : Bounded p N (sequencesIn o k blocks) N (rounds p N (sequencesIn o k blocks) N)
+        bounded = bounded-rounds p N (sequencesIn o k blocks) (running .two-or-more) N
+
+        pub size-within : g .length ≤ N
+        unfolding stateOf
+        size-within = omega (arith, reached .state .size, bounded .size)
+
+        pub taps-room : g .length + 1 ≤ length taps
+        taps-room = let width = reached .ended .width in omega (arith, size-within, running .longest)
+
+        pub buffer-room : g .length + 1 ≤ room
+        buffer-room = omega (arith, size-within, fine .enough)
+
+        -- what is saved for a sequence lies within the rounds
+        saved-within : (h : ℕ) → h < k → (getD (g .places) h 0 ≤ 128) × (getD (g .sizes) h 0 ≤ 128)
+        unfolding stateOf
+        saved-within h b =
+            let st = rounds p N (sequencesIn o k blocks) N in
+            let v = reached .state .saved h b in
+            let place : getD (g .places) h 0 ≡ st .saved h .place = ap (λ (w : Saved). w .place) v in
+            let size : getD (g .sizes) h 0 ≡ st .saved h .size = ap (λ (w : Saved). w .size) v in
+            let most = bounded .place h in
+            let least = bounded .saved-size h in
+            (omega (arith, running .longest), omega (arith, running .longest))
+
+        pub markable : Markable N o k (g .length) (g .places) (g .sizes)
+        markable =
+            record {
+              longest = running .longest;
+              count = running .count;
+              size = size-within;
+              shorter = running .shorter;
+              places-small = λ h b. saved-within h b .0;
+              sizes-small = λ h b. saved-within h b .1;
+            }
+
+        found-size : g .length ≡ found p ss (longest ss) .size
+        unfolding stateOf
+        found-size = reached .state .size ∙ ap (λ (st : State). st .size) is-found
+
+        found-taps : take (suc (g .length)) taps ≡ found p ss (longest ss) .taps
+        unfolding stateOf
+        found-taps = reached .state .taps ∙ ap (λ (st : State). st .taps) is-found
+
+        found-mark : aloneMark N o k (g .length) (g .places) (g .sizes) ≡ foundAlone p ss (longest ss)
+        unfolding foundAlone
+        found-mark =
+            mark-is N o k blocks g taps saved (rounds p N (sequencesIn o k blocks) N) (reached .state)
+            ∙ ap₂ (λ (m : ℕ) (l : List (List ℕ)). isAlone m l m (rounds p N (sequencesIn o k blocks) N)) (sym is-longest) sequences
+            ∙ ap (isAlone (longest ss) (ordered ss) (longest ss)) is-found
+
+        -- w taps are copied to the buffer
+        pub finds : {buffer : List ℕ} → outcome (tests p lengths symbols (length buffer)) ≡ passed → {mark : Bool} (w : ℕ) {copied : List ℕ} →
+            mark ≡ aloneMark N o k (g .length) (g .places) (g .sizes) → w ≡ suc (g .length) → copied ≡ take w taps →
+            Finds p lengths symbols buffer (copied ++ drop w buffer) (Register (g .length) mark)
+        unfolding answer tapsLeft
+        finds {buffer} ok w {copied} marked width all =
+            let ts = tests p lengths symbols (length buffer) in
+            let whole : copied ≡ found p ss (longest ss) .taps = all ∙ ap (λ (n : ℕ). take n taps) width ∙ found-taps in
+            let long : length copied ≡ w = ap length all ∙ length-take-le w taps (omega (arith, taps-room)) in
+            record {
+              answers = ap₂ register found-size (marked ∙ found-mark) ∙ sym (given-passed refused _ ts ok);
+              leaves =
+                  ap₂ (λ (l : List ℕ) (n : ℕ). l ++ drop n buffer) whole (sym long ∙ ap length whole)
+                  ∙ sym (given-passed (λ _. buffer) _ ts ok);
+            }
+
+-- by another name of the modulus
+pub finds-same : {p q : ℕ} {lengths symbols buffer left : List ℕ} {r : Found} → q ≡ p → Finds q lengths symbols buffer left r → Finds p lengths symbols buffer left r
+finds-same {p} {q} {lengths} {symbols} {buffer} {left} {r} = subst (λ (x : ℕ). Finds x lengths symbols buffer left r)

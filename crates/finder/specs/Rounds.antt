@@ -2,24 +2,37 @@
 use mathlib.Core.Path.{_≡_}
 use mathlib.Core.Bool.{Bool}
 use mathlib.Core.List.{List}
-use Prim.Native.Nat.{ℕ, _+_, _-_, _≤_, _<_, max}
+use Prim.Native.Nat.{ℕ, suc, _+_, _-_, _*_, _≤_, _<_, max}
 use lib.Dec.{leb}
 use lib.ListN.{length, getD}
-use Rattle.lists.specs.Tabulate.{every}
+use Rattle.lists.specs.Tabulate.{every, tabulate}
 use Rattle.register.specs.Algorithm4.{State}
 use Rattle.sequences.specs.declared.Order.{Order}
-use Rattle.register_step.specs.declared.Progress.{Progress}
-use Rattle.register_step.specs.Progress.{stateOf, Ended}
+use Rattle.register_step.specs.Discrepancies.{sequenceIn}
+use Rattle.register_step.specs.Progress.{Progress, stateOf, Ended}
 
--- the modulus is in its range, the k sequences lie within the symbols and are no longer than N, and the symbols are residues
-pub record Running (p N : ℕ) (o : Order) (k : ℕ) (symbols : List ℕ) : Type 0 where
+-- the sequences that stand backwards in the first k blocks
+abbrev pub sequencesIn : Order → (k : ℕ) (blocks : List ℕ) → List (List ℕ)
+sequencesIn o k blocks = tabulate k (λ h. sequenceIn blocks h (getD (o .lengths) h 0))
+
+-- the first k sequences of the symbols stand backwards in their blocks
+pub record Backwards (o : Order) (k : ℕ) (symbols blocks : List ℕ) : Type 0 where
+  pub entries : (h : ℕ) → h < k → (i : ℕ) → i < getD (o .lengths) h 0 →
+      getD blocks (h * 144 + i) 0 ≡ getD symbols (getD (o .starts) h 0 + (getD (o .lengths) h 0 - suc i)) 0
+
+-- they can be put there: no block is too short, and no symbol is missing
+pub record Reversible (o : Order) (k : ℕ) (symbols : List ℕ) : Type 0 where
+  pub count : k ≤ 8
+  pub short : (h : ℕ) → h < k → getD (o .lengths) h 0 ≤ 128
+  pub within : (h : ℕ) → h < k → getD (o .starts) h 0 + getD (o .lengths) h 0 ≤ length symbols
+
+-- the k sequences in the blocks are no longer than N, and their symbols are residues
+pub record Running (p N : ℕ) (o : Order) (k : ℕ) (blocks : List ℕ) : Type 0 where
   pub two-or-more : 2 ≤ p
-  pub modulus : p ≤ 65521
   pub longest : N ≤ 128
   pub count : k ≤ 8
-  pub within : (h : ℕ) → h < k → getD (o .starts) h 0 + getD (o .lengths) h 0 ≤ length symbols
   pub shorter : (h : ℕ) → h < k → getD (o .lengths) h 0 ≤ N
-  pub residues : (i : ℕ) → i < length symbols → getD symbols i 0 < p
+  pub residues : (h : ℕ) → h < k → (i : ℕ) → i < getD (o .lengths) h 0 → getD blocks (h * 144 + i) 0 < p
 
 -- the states are the same as far as the first k sequences go: the arrays have no place for others
 pub record Agree (k : ℕ) (st su : State) : Type 0 where
@@ -27,7 +40,7 @@ pub record Agree (k : ℕ) (st su : State) : Type 0 where
   pub taps : st .taps ≡ su .taps
   pub saved : (h : ℕ) → h < k → st .saved h ≡ su .saved h
 
--- the struct and the arrays hold the state st of Algorithm 4 on k sequences
+-- the arrays hold the state st of Algorithm 4 on k sequences
 pub record Reached (p k : ℕ) (st : State) (g : Progress) (taps saved : List ℕ) : Type 0 where
   pub state : Agree k (stateOf g taps saved) st
   pub ended : Ended p g taps saved
@@ -38,22 +51,21 @@ pub record Startable (N : ℕ) (o : Order) (k : ℕ) : Type 0 where
   pub count : k ≤ 8
   pub shorter : (h : ℕ) → h < k → getD (o .lengths) h 0 ≤ N
 
--- the struct before the first round, once the places of k sequences are set
-pub record Started (N : ℕ) (o : Order) (k : ℕ) (g : Progress) : Type 0 where
-  pub length : g .length ≡ 0
-  pub place : (h : ℕ) → h < k → getD (g .places) h 0 ≡ N - getD (o .lengths) h 0
-  pub size : (h : ℕ) → h < 8 → getD (g .sizes) h 0 ≡ 0
-  pub disc : (h : ℕ) → h < 8 → getD (g .discs) h 0 ≡ 1
-  pub inverse : (h : ℕ) → h < 8 → getD (g .inverses) h 0 ≡ 1
+-- the places before the first round, once those of k sequences are set
+pub record Started (N : ℕ) (o : Order) (k : ℕ) (places : List ℕ) : Type 0 where
+  pub width : length places ≡ 8
+  pub place : (h : ℕ) → h < k → getD places h 0 ≡ N - getD (o .lengths) h 0
 
--- the alone mark can be read off: neither the register nor a sequence is longer than N
-pub record Markable (N : ℕ) (o : Order) (k : ℕ) (g : Progress) : Type 0 where
+-- the alone mark can be read off: neither the register, of length l, nor a sequence is longer than N, and no number fails to fit
+pub record Markable (N : ℕ) (o : Order) (k l : ℕ) (places sizes : List ℕ) : Type 0 where
   pub longest : N ≤ 128
   pub count : k ≤ 8
-  pub size : g .length ≤ N
+  pub size : l ≤ N
   pub shorter : (h : ℕ) → h < k → getD (o .lengths) h 0 ≤ N
+  pub places-small : (h : ℕ) → h < k → getD places h 0 ≤ 128
+  pub sizes-small : (h : ℕ) → h < k → getD sizes h 0 ≤ 128
 
--- the alone mark after all N rounds, read off the struct
-unfoldable pub aloneMark : (N : ℕ) → Order → (k : ℕ) → Progress → Bool
-aloneMark N o k g =
-    every k (λ h. leb (getD (g .places) h 0) (getD (g .sizes) h 0 + max (N - g .length) (N - getD (o .lengths) h 0)))
+-- the alone mark after all N rounds, read off the arrays
+unfoldable pub aloneMark : (N : ℕ) → Order → (k l : ℕ) (places sizes : List ℕ) → Bool
+aloneMark N o k l places sizes =
+    every k (λ h. leb (getD places h 0) (getD sizes h 0 + max (N - l) (N - getD (o .lengths) h 0)))

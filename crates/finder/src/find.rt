@@ -1,50 +1,76 @@
 // The finder: the shortest register of the sequences lent, or why the input is refused.
 use crate::Found;
+use crate::backwards::all_backwards;
 use crate::rounds::alone;
 use crate::rounds::rounds;
 use crate::rounds::start;
 use refusal::Checked;
 use register_step::copy::copy;
+use register_step::worked_out::worked_out;
 use sequences::check::check;
 use sequences::check::longest;
 use sequences::sort::by_length;
+use sequences::zeros::all_zero;
 ghost use mathlib.Core.Path.{_≡_};
 ghost use lib.ListN.{length};
 ghost use Rattle.refusal.specs.Outcome.{passed, outcome};
 ghost use Rattle.sequences.specs.Tests.{tests};
 ghost use Rattle.finder.specs.Finder.{Finds};
 
-// The search itself, on input that no test refuses: for callers who know that of theirs.
-pub fn synthesize(p: u32, lengths: &[u16], symbols: &[u16], taps: &mut [u16]) -> Found
+// The rounds, and what they leave.
+fn shortest(p: u32, lengths: &[u16], symbols: &[u16], taps: &mut [u16]) -> Found
     requires { ⌜ outcome (tests p (now lengths) (now symbols) (length (now taps))) ≡ passed ⌝ }
     ensures { λ r. ⌜ Finds p (now (lengths .entry)) (now (symbols .entry)) (now (taps .entry)) (now (taps .exit)) r ⌝ }
 {
-    let m = field::reciprocal::wide_reciprocal(p);
+    let f = worked_out(p);
+    let moduli = [p as u16; 144];
     let count = lengths.len();
     let most = longest(lengths);
     let order = by_length(lengths, symbols);
-    let mut sigma = [0u16; 129];
+    let backwards = all_backwards(order, count, symbols);
+    let mut places = start(most, order, count);
+    let mut sizes = [0u16; 8];
+    let mut discs = [1u16; 8];
+    let mut quotients = [f.unit as u16; 8];
+    let mut sigma = [0u16; 144];
     sigma[0] = 1;
-    let mut saved = [0u16; 1032];
-    let before = start(most, order, count);
-    let g = rounds(
-        p,
-        m,
+    let mut saved = [0u16; 1152];
+    let l = rounds(
+        f,
+        &moduli,
         most,
-        symbols,
+        &backwards,
         order,
         count,
-        before,
+        &mut places,
+        &mut sizes,
+        &mut discs,
+        &mut quotients,
         &mut sigma,
         &mut saved,
     );
-    let l = g.length;
     let e = l + 1;
     copy(&mut taps[0..e], &sigma[0..e]);
     Found::Register {
         length: l,
-        alone: alone(most, order, count, g),
+        alone: alone(most, order, count, l, &places, &sizes),
     }
+}
+
+// The search itself, on input that no test refuses: for callers who know that of theirs. Where all symbols are 0, as for the check sums of a legal frame,
+// no round finds anything to change.
+pub fn synthesize(p: u32, lengths: &[u16], symbols: &[u16], taps: &mut [u16]) -> Found
+    requires { ⌜ outcome (tests p (now lengths) (now symbols) (length (now taps))) ≡ passed ⌝ }
+    ensures { λ r. ⌜ Finds p (now (lengths .entry)) (now (symbols .entry)) (now (taps .entry)) (now (taps .exit)) r ⌝ }
+{
+    if all_zero(symbols) {
+        taps[0] = 1;
+        return Found::Register {
+            length: 0,
+            alone: true,
+        };
+    }
+    shortest(p, lengths, symbols, taps)
 }
 
 // For any input at all: the sequences of the given lengths stand one after the other in `symbols`, and the taps 0 to l go to the front of `taps`.

@@ -1,4 +1,5 @@
 // The shortest register of up to eight sequences: the rounds of Algorithm 4, and the finder (SPECIFICATION.md, "Registers").
+mod backwards;
 pub mod find;
 mod rounds;
 

@@ -1,92 +1,133 @@
 // The rounds of Algorithm 4: its start, each round, all of them, and the alone mark at the end.
-use register_step::Progress;
+use register_step::Modulus;
 use register_step::step::change;
 use register_step::step::due;
 use sequences::Order;
 ghost use mathlib.Core.Path.{_≡_};
-ghost use Prim.Native.Nat.{_+_, _/_, _<_, min};
-ghost use Rattle.register.specs.Algorithm4.{start as startState, rounds as roundsOf};
-ghost use Rattle.sequences.specs.Places.{sequencesAt};
-ghost use Rattle.finder.specs.Rounds.{Running, Reached, Startable, Started, Markable, aloneMark};
+ghost use Prim.Native.Nat.{_+_, _<_, min};
+ghost use Rattle.register.specs.Algorithm4.{rounds as roundsOf};
+ghost use Rattle.register_step.specs.Modulus.{WorkedOut, Moduli};
+ghost use Rattle.register_step.specs.Progress.{progress};
+ghost use Rattle.finder.specs.Rounds.{Running, Reached, Startable, Started, Markable, aloneMark, sequencesIn};
 
 // Before the first round the place of a sequence is its gap, N − N_h.
-pub fn start(longest: usize, order: Order, count: usize) -> Progress
+pub fn start(longest: usize, order: Order, count: usize) -> [u16; 8]
     requires { ⌜ Startable longest order count ⌝ }
     ensures { λ r. ⌜ Started longest order count r ⌝ }
 {
-    let zeros = [0u16; 8];
-    let ones = [1u16; 8];
-    let mut g = Progress {
-        length: 0,
-        places: zeros,
-        sizes: zeros,
-        discs: ones,
-        inverses: ones,
-    };
+    let mut places = [0u16; 8];
     let mut h = 0;
     while h < count {
-        g.places[h] = longest as u16 - order.lengths[h];
+        places[h] = longest as u16 - order.lengths[h];
         h += 1;
     }
-    g
+    places
 }
 
-// Round n + 1: a step for each sequence; m is the wide reciprocal of p. Where no change is due, nothing of the state is copied.
+// Round n + 1: a step for each sequence.
 fn round(
-    p: u32,
-    m: u64,
+    f: Modulus,
+    moduli: &[u16; 144],
     longest: usize,
-    symbols: &[u16],
+    symbols: &[u16; 1152],
     order: Order,
     count: usize,
     n: usize,
-    g: Progress,
-    taps: &mut [u16; 129],
-    saved: &mut [u16; 1032],
-) -> Progress
-    requires { ⌜ Running p longest order count (now symbols) ⌝ }
+    length: usize,
+    places: &mut [u16; 8],
+    sizes: &mut [u16; 8],
+    discs: &mut [u16; 8],
+    quotients: &mut [u16; 8],
+    taps: &mut [u16; 144],
+    saved: &mut [u16; 1152],
+) -> usize
+    requires { ⌜ WorkedOut f ⌝ }
+    requires { ⌜ Moduli (f .p) (now moduli) ⌝ }
+    requires { ⌜ Running (f .p) longest order count (now symbols) ⌝ }
     requires { ⌜ n < longest ⌝ }
-    requires { ⌜ Reached p count (roundsOf p longest (sequencesAt order count (now symbols)) n) g (now taps) (now saved) ⌝ }
-    requires { ⌜ m ≡ 1099511627776 / p ⌝ }
-    ensures { λ r. ⌜ Reached p count (roundsOf p longest (sequencesAt order count (now (symbols .entry))) (n + 1)) r (now (taps .exit)) (now (saved .exit)) ⌝ }
+    requires { ⌜ Reached (f .p) count (roundsOf (f .p) longest (sequencesIn order count (now symbols)) n)
+        (progress length (now places) (now sizes) (now discs) (now quotients)) (now taps) (now saved) ⌝ }
+    ensures { λ r. ⌜ Reached (f .p) count (roundsOf (f .p) longest (sequencesIn order count (now (symbols .entry))) (n + 1))
+        (progress r (now (places .exit)) (now (sizes .exit)) (now (discs .exit)) (now (quotients .exit))) (now (taps .exit)) (now (saved .exit)) ⌝ }
 {
-    let mut state = g;
+    let mut l = length;
     let mut h = 0;
     while h < count {
-        let a = order.starts[h] as usize;
-        let e = a + (order.lengths[h] as usize);
-        let d = due(p, m, longest, state.length, taps, &symbols[a..e], n + 1);
+        let d = due(
+            f,
+            longest,
+            l,
+            taps,
+            symbols,
+            h,
+            order.lengths[h] as usize,
+            n + 1,
+        );
         if d != 0 {
-            state = change(p, n + 1, h, d, state, taps, saved);
+            l = change(
+                f,
+                moduli,
+                n + 1,
+                h,
+                d,
+                l,
+                places,
+                sizes,
+                discs,
+                quotients,
+                taps,
+                saved,
+            );
         }
         h += 1;
     }
-    state
+    l
 }
 
 pub fn rounds(
-    p: u32,
-    m: u64,
+    f: Modulus,
+    moduli: &[u16; 144],
     longest: usize,
-    symbols: &[u16],
+    symbols: &[u16; 1152],
     order: Order,
     count: usize,
-    g: Progress,
-    taps: &mut [u16; 129],
-    saved: &mut [u16; 1032],
-) -> Progress
-    requires { ⌜ Running p longest order count (now symbols) ⌝ }
-    requires { ⌜ Reached p count (startState longest (sequencesAt order count (now symbols))) g (now taps) (now saved) ⌝ }
-    requires { ⌜ m ≡ 1099511627776 / p ⌝ }
-    ensures { λ r. ⌜ Reached p count (roundsOf p longest (sequencesAt order count (now (symbols .entry))) longest) r (now (taps .exit)) (now (saved .exit)) ⌝ }
+    places: &mut [u16; 8],
+    sizes: &mut [u16; 8],
+    discs: &mut [u16; 8],
+    quotients: &mut [u16; 8],
+    taps: &mut [u16; 144],
+    saved: &mut [u16; 1152],
+) -> usize
+    requires { ⌜ WorkedOut f ⌝ }
+    requires { ⌜ Moduli (f .p) (now moduli) ⌝ }
+    requires { ⌜ Running (f .p) longest order count (now symbols) ⌝ }
+    requires { ⌜ Reached (f .p) count (roundsOf (f .p) longest (sequencesIn order count (now symbols)) 0)
+        (progress 0 (now places) (now sizes) (now discs) (now quotients)) (now taps) (now saved) ⌝ }
+    ensures { λ r. ⌜ Reached (f .p) count (roundsOf (f .p) longest (sequencesIn order count (now (symbols .entry))) longest)
+        (progress r (now (places .exit)) (now (sizes .exit)) (now (discs .exit)) (now (quotients .exit))) (now (taps .exit)) (now (saved .exit)) ⌝ }
 {
-    let mut state = g;
+    let mut l = 0;
     let mut n = 0;
     while n < longest {
-        state = round(p, m, longest, symbols, order, count, n, state, taps, saved);
+        l = round(
+            f,
+            moduli,
+            longest,
+            symbols,
+            order,
+            count,
+            n,
+            l,
+            places,
+            sizes,
+            discs,
+            quotients,
+            taps,
+            saved,
+        );
         n += 1;
     }
-    state
+    l
 }
 
 fn smaller(a: usize, b: usize) -> usize
@@ -99,15 +140,21 @@ fn smaller(a: usize, b: usize) -> usize
 }
 
 // What n_h − l_h has past N − l and past N − N_h is free. N less the smaller of l and N_h is the larger of these two.
-pub fn alone(longest: usize, order: Order, count: usize, g: Progress) -> bool
-    requires { ⌜ Markable longest order count g ⌝ }
-    ensures { λ r. ⌜ r ≡ aloneMark longest order count g ⌝ }
+pub fn alone(
+    longest: usize,
+    order: Order,
+    count: usize,
+    l: usize,
+    places: &[u16; 8],
+    sizes: &[u16; 8],
+) -> bool
+    requires { ⌜ Markable longest order count l (now places) (now sizes) ⌝ }
+    ensures { λ r. ⌜ r ≡ aloneMark longest order count l (now (places .entry)) (now (sizes .entry)) ⌝ }
 {
-    let l = g.length;
     let mut h = 0;
     while h < count {
-        let place = g.places[h] as usize;
-        let size = g.sizes[h] as usize;
+        let place = places[h] as usize;
+        let size = sizes[h] as usize;
         let long = order.lengths[h] as usize;
         if place + smaller(l, long) > size + longest {
             return false;

@@ -3,23 +3,24 @@
 use mathlib.Core.Path.{_≡_, refl, sym, ap, ap₂, _∙_}
 use mathlib.Core.Logic.{_≢_}
 use mathlib.Core.List.{List, []}
-use Prim.Native.Nat.{ℕ, suc, _+_, _-_, _*_, _^_, _≤_, _<_}
+use Prim.Native.Nat.{ℕ, suc, _+_, _-_, _*_, _%_, _^_, _≤_, _<_}
 use native.Mathlib.Decide.{decLt, decLe, ℕ-discrete}
 use native.Mathlib.Nat.{mod-lt}
 use native.Mathlib.Omega.{arith}
 use borrow.Author.Tests.{eq-eqb, ne-eqb, lt-ltb, le-ltb}
-use lib.ListN.{length, getD, take, set, length-take}
+use lib.ListN.{length, getD, take, set, length-take, length-set}
 use lib.Seq.{ext-getD, getD-take, getD-set-same, getD-set-other, length-take-le}
 use Rattle.field.specs.Coefficients.{reduced, shifted}
-use Rattle.field.specs.Residue.{minus, times, inverse, quotient}
+use Rattle.field.specs.Residue.{minus, times, quotient}
 use Rattle.field.proofs.Coefficients.{length-reduced, getD-reduced, getD-reduced-past}
 use Rattle.lists.proofs.Entries.{getD-take-past}
 use Rattle.lists.specs.Parts.{replaced}
 use Rattle.register.proofs.Cases.{changed-cases, grown, stayed}
 use Rattle.register.specs.Algorithm4.{Saved, State, changed, withSaved}
-use Rattle.register_step.specs.Progress.{block, stateOf, Ended, Changeable, Reducible, Stepped, savedAfter, saving}
-use Rattle.register_step.specs.declared.Progress.{Progress}
-use Rattle.register_step.proofs.Blocks.{block-replaced, block-other, replaced-whole}
+use Rattle.register_step.specs.Progress.{Progress, Whole, block, stateOf, Ended, Changeable, Stepped, savedAfter, saving}
+use Rattle.register_step.specs.Reductions.{Growable, Reducible}
+use Rattle.register_step.specs.Reductions as reductions
+use Rattle.register_step.proofs.Blocks.{block-replaced, block-other, replaced-whole, replaced-entry, other-entry}
 use Rattle.register_step.proofs.Reduction.{minus-zero, shifted-past}
 
 -- ---- the taps
@@ -64,7 +65,7 @@ module _ (p l : ℕ) (σ : List ℕ) (zeros : (i : ℕ) → l < i → getD σ i 
 
 -- ---- the state
 
--- what is kept for a sequence, read off the struct and the block of the flat array
+-- what is kept for a sequence, read off the arrays
 abbrev pub savedOf : (g : Progress) (saved : List ℕ) (h : ℕ) → Saved
 savedOf g saved h =
     record {
@@ -85,67 +86,65 @@ saved-beside : (saved : ℕ → Saved) (h : ℕ) (v : Saved) (k : ℕ) → k ≢
 unfolding withSaved
 saved-beside saved h v k ne = rw (ne-eqb k h ne)
 
-abbrev pub Lengths : Progress → Type 0
-Lengths g = (length (g .places) ≡ 8) × (length (g .sizes) ≡ 8) × (length (g .discs) ≡ 8) × (length (g .inverses) ≡ 8)
-
 module _ {p n h d : ℕ} {g : Progress} {taps saved : List ℕ}
-    (c : Changeable p n h d (stateOf g taps saved)) (z : Ended p g taps saved) where
+    (positive : 0 < p) (c : Changeable p n h d (stateOf g taps saved)) (z : Ended p g taps saved) where
   abbrev place : ℕ
   place = getD (g .places) h 0
 
   abbrev size : ℕ
   size = getD (g .sizes) h 0
 
+  abbrev disc : ℕ
+  disc = getD (g .discs) h 0
+
   -- the taps after the change, at the width of the array
-  abbrev pub changedArray : (q : ℕ) → List ℕ
-  changedArray q = reduced p 128 taps q (n - place) (take (suc size) (block h saved))
+  abbrev pub changedArray : List ℕ
+  changedArray = reduced p 143 taps (quotient p d disc) (n - place) (take (suc size) (block h saved))
 
-  bounds : (place ≤ n) × (size ≤ place) × (n ≤ 128) × (g .length ≤ n) × (2 ≤ p) × (h < 8)
+  bounds : (place ≤ n) × (size ≤ place) × (n ≤ 128) × (g .length ≤ n) × (h < 8)
   unfolding stateOf
-  bounds = (c .place, c .saved-size, c .round, c .size, c .two-or-more, c .sequence)
+  bounds = (c .place, c .saved-size, c .round, c .size, c .sequence)
 
-  pub reducible : {q : ℕ} → q < p → Reducible p taps q (n - place) size saved h
+  pub reducible : Reducible p taps (n - place) size saved h
   unfolding stateOf
-  reducible less =
+  reducible =
       record {
-        two-or-more = c .two-or-more;
-        modulus = c .modulus;
-        factor = less;
         reach = omega (arith, bounds);
         sequence = c .sequence;
         width = z .width;
+        saved-width = z .saved-width;
         residues = λ i. rw (← own-taps p (g .length) taps (z .zeros) 0 0 [] i) (c .residues i);
+        zeros = z .saved-zeros h (c .sequence);
       }
 
-  pub inverse-less : getD (g .inverses) h 0 < p
-  inverse-less = rw (z .inverses h (c .sequence)) (mod-lt (getD (g .discs) h 0 ^ (p - 2)) (omega (arith, bounds)))
+  pub growable : Growable (g .length) taps size
+  growable = record { short = omega (arith, bounds); longer = z .shorter h (c .sequence); zeros = z .zeros }
 
-  pub is-quotient : {q : ℕ} → q ≡ times p d (getD (g .inverses) h 0) → q ≡ quotient p d (getD (g .discs) h 0)
-  is-quotient eq = eq ∙ ap (times p d) (z .inverses h (c .sequence))
+  pub over-less : getD (g .quotients) h 0 < p
+  over-less = rw (z .quotients h (c .sequence)) (mod-lt (65536 % p * (disc ^ (p - 2) % p)) positive)
 
   pub saved-stays : n + size ≤ place + g .length → saved ≡ savedAfter n h g taps saved
   unfolding savedAfter
   saved-stays short = rw (le-ltb (place + g .length) (n + size) short)
 
-  pub saved-grows : {kept : List ℕ} → kept ≡ replaced (h * 129) 129 saved taps → place + g .length < n + size → kept ≡ savedAfter n h g taps saved
+  pub saved-grows : {kept : List ℕ} → kept ≡ replaced (h * 144) 144 saved taps → place + g .length < n + size → kept ≡ savedAfter n h g taps saved
   unfolding savedAfter
   saved-grows put-in long = rw (lt-ltb (place + g .length) (n + size) long) put-in
 
-  module _ {q : ℕ} {now : List ℕ} (factor : q ≡ quotient p d (getD (g .discs) h 0)) (eq : now ≡ changedArray q) where
-    width : length now ≡ 129
-    width = ap length eq ∙ length-reduced p 128 taps q (n - place) (take (suc size) (block h saved))
+  module _ {now : List ℕ} (eq : now ≡ changedArray) where
+    width : length now ≡ 144
+    width = ap length eq ∙ length-reduced p 143 taps (quotient p d disc) (n - place) (take (suc size) (block h saved))
 
     -- the taps of a new length m, and the zeros past it
-    narrowed : (m : ℕ) → m ≤ 128 →
-        take (suc m) now ≡ reduced p m (take (suc (g .length)) taps) (quotient p d (getD (g .discs) h 0)) (n - place) (take (suc size) (block h saved))
+    narrowed : (m : ℕ) → m ≤ 143 → take (suc m) now ≡ reduced p m (take (suc (g .length)) taps) (quotient p d disc) (n - place) (take (suc size) (block h saved))
     narrowed m le =
-        ap (λ (l : List ℕ). take (suc m) l) eq ∙ reduced-narrow p (g .length) taps (z .zeros) q (n - place) (take (suc size) (block h saved)) 128 m le
-        ∙ ap (λ (x : ℕ). reduced p m (take (suc (g .length)) taps) x (n - place) (take (suc size) (block h saved))) factor
+        ap (λ (l : List ℕ). take (suc m) l) eq
+        ∙ reduced-narrow p (g .length) taps (z .zeros) (quotient p d disc) (n - place) (take (suc size) (block h saved)) 143 m le
 
     zeros-past : (m : ℕ) → g .length ≤ m → n - place + size ≤ m → (i : ℕ) → m < i → getD now i 0 ≡ 0
     zeros-past m le reach i past =
         ap (λ (l : List ℕ). getD l i 0) eq
-        ∙ reduced-zeros p (g .length) taps (z .zeros) q (n - place) (take (suc size) (block h saved)) 128 m (omega (arith, bounds)) le
+        ∙ reduced-zeros p (g .length) taps (z .zeros) (quotient p d disc) (n - place) (take (suc size) (block h saved)) 143 m positive le
         (omega (arith, length-take (suc size) (block h saved))) i past
 
     same-length : stateOf g now saved ≡ stayed p n h d (stateOf g taps saved)
@@ -162,28 +161,40 @@ module _ {p n h d : ℕ} {g : Progress} {taps saved : List ℕ}
               (λ more. absurd (let no : ⊥ = omega arith in no)) (λ _. same-length);
           ended =
               record {
+                whole = z .whole;
                 width = width;
                 saved-width = z .saved-width;
                 zeros = zeros-past (g .length) (omega arith) (omega (arith, bounds));
-                inverses = z .inverses;
+                shorter = z .shorter;
+                saved-zeros = z .saved-zeros;
+                quotients = z .quotients;
               };
         }
 
-    module _ (lengths : Lengths g) {i : ℕ} (is-inverse : i ≡ inverse p d) {kept : List ℕ} (put-in : kept ≡ replaced (h * 129) 129 saved taps) where
+    module _ {q : ℕ} (is-quotient : q ≡ quotient p (65536 % p) d) {kept : List ℕ} (put-in : kept ≡ replaced (h * 144) 144 saved taps) where
       new : Saved
       new = record { place = n; size = g .length; disc = d; taps = take (suc (g .length)) taps }
 
-      saved-there : savedOf (saving n h d i g) kept h ≡ new
+      whole-kept : Whole (saving n h d q g)
+      whole-kept =
+          record {
+            places = length-set (g .places) h n ∙ z .whole .places;
+            sizes = length-set (g .sizes) h (g .length) ∙ z .whole .sizes;
+            discs = length-set (g .discs) h d ∙ z .whole .discs;
+            quotients = length-set (g .quotients) h q ∙ z .whole .quotients;
+          }
+
+      saved-there : savedOf (saving n h d q g) kept h ≡ new
       unfolding new
       saved-there =
           saved-path
-          (getD-set-same (g .places) h n 0 (omega (arith, bounds)))
-          (getD-set-same (g .sizes) h (g .length) 0 (omega (arith, bounds)))
-          (getD-set-same (g .discs) h d 0 (omega (arith, bounds)))
-          (ap₂ (λ (m : ℕ) (l : List ℕ). take (suc m) l) (getD-set-same (g .sizes) h (g .length) 0 (omega (arith, bounds)))
+          (getD-set-same (g .places) h n 0 (omega (arith, bounds, z .whole .places)))
+          (getD-set-same (g .sizes) h (g .length) 0 (omega (arith, bounds, z .whole .sizes)))
+          (getD-set-same (g .discs) h d 0 (omega (arith, bounds, z .whole .discs)))
+          (ap₂ (λ (m : ℕ) (l : List ℕ). take (suc m) l) (getD-set-same (g .sizes) h (g .length) 0 (omega (arith, bounds, z .whole .sizes)))
           (ap (block h) put-in ∙ block-replaced h taps saved (z .width) (z .saved-width) (c .sequence)))
 
-      saved-elsewhere : (k : ℕ) → k ≢ h → savedOf (saving n h d i g) kept k ≡ savedOf g saved k
+      saved-elsewhere : (k : ℕ) → k ≢ h → savedOf (saving n h d q g) kept k ≡ savedOf g saved k
       saved-elsewhere k ne =
           saved-path
           (getD-set-other (g .places) h k n 0 ne)
@@ -192,38 +203,61 @@ module _ {p n h d : ℕ} {g : Progress} {taps saved : List ℕ}
           (ap₂ (λ (m : ℕ) (l : List ℕ). take (suc m) l) (getD-set-other (g .sizes) h k (g .length) 0 ne)
           (ap (block k) put-in ∙ block-other h taps saved (z .width) (z .saved-width) (c .sequence) k ne))
 
-      is-saved : (k : ℕ) → savedOf (saving n h d i g) kept k ≡ withSaved (savedOf g saved) h new k
+      is-saved : (k : ℕ) → savedOf (saving n h d q g) kept k ≡ withSaved (savedOf g saved) h new k
       is-saved k = pick (ℕ-discrete k h)
         where
-          pick : Dec (k ≡ h) → savedOf (saving n h d i g) kept k ≡ withSaved (savedOf g saved) h new k
+          pick : Dec (k ≡ h) → savedOf (saving n h d q g) kept k ≡ withSaved (savedOf g saved) h new k
           pick (yes same) = rw same (saved-there ∙ sym (saved-at (savedOf g saved) h new))
           pick (no ne) = saved-elsewhere k ne ∙ sym (saved-beside (savedOf g saved) h new k ne)
 
-      new-length : stateOf (saving n h d i g) now kept ≡ grown p n h d (stateOf g taps saved)
+      new-length : stateOf (saving n h d q g) now kept ≡ grown p n h d (stateOf g taps saved)
       unfolding stateOf new
       new-length = λ j. record { size = n + size - place; taps = narrowed (n + size - place) (omega (arith, bounds)) j; saved = λ k. is-saved k j }
 
-      inverses-kept : (k : ℕ) → k < 8 → getD (set (g .inverses) h i) k 0 ≡ inverse p (getD (set (g .discs) h d) k 0)
-      inverses-kept k b = pick (ℕ-discrete k h)
+      quotients-kept : (k : ℕ) → k < 8 → getD (set (g .quotients) h q) k 0 ≡ quotient p (65536 % p) (getD (set (g .discs) h d) k 0)
+      quotients-kept k b = pick (ℕ-discrete k h)
         where
-          pick : Dec (k ≡ h) → getD (set (g .inverses) h i) k 0 ≡ inverse p (getD (set (g .discs) h d) k 0)
+          pick : Dec (k ≡ h) → getD (set (g .quotients) h q) k 0 ≡ quotient p (65536 % p) (getD (set (g .discs) h d) k 0)
           pick (yes same) =
-              rw (same, getD-set-same (g .discs) h d 0 (omega (arith, bounds)))
-              (getD-set-same (g .inverses) h i 0 (omega (arith, bounds)) ∙ is-inverse)
-          pick (no ne) = rw (getD-set-other (g .discs) h k d 0 ne) (getD-set-other (g .inverses) h k i 0 ne ∙ z .inverses k b)
+              rw (same, getD-set-same (g .discs) h d 0 (omega (arith, bounds, z .whole .discs)))
+              (getD-set-same (g .quotients) h q 0 (omega (arith, bounds, z .whole .quotients)) ∙ is-quotient)
+          pick (no ne) = rw (getD-set-other (g .discs) h k d 0 ne) (getD-set-other (g .quotients) h k q 0 ne ∙ z .quotients k b)
 
-      pub grows : place + g .length < n + size → Stepped p (changed p n h d (stateOf g taps saved)) (saving n h d i g) now kept
+      shorter-kept : g .length ≤ n + size - place → (k : ℕ) → k < 8 → getD (set (g .sizes) h (g .length)) k 0 ≤ n + size - place
+      shorter-kept more k b = pick (ℕ-discrete k h)
+        where
+          pick : Dec (k ≡ h) → getD (set (g .sizes) h (g .length)) k 0 ≤ n + size - place
+          pick (yes same) = rw (same, getD-set-same (g .sizes) h (g .length) 0 (omega (arith, bounds, z .whole .sizes))) more
+          pick (no ne) = rw (getD-set-other (g .sizes) h k (g .length) 0 ne) (omega (arith, z .shorter k b))
+
+      zeros-kept : (k : ℕ) → k < 8 → reductions.Ended kept k (getD (set (g .sizes) h (g .length)) k 0)
+      zeros-kept k b i past small = ap (λ (l : List ℕ). getD l (k * 144 + i) 0) put-in ∙ pick (ℕ-discrete k h)
+        where
+          pick : Dec (k ≡ h) → getD (replaced (h * 144) 144 saved taps) (k * 144 + i) 0 ≡ 0
+          pick (yes same) =
+              let size-is : getD (set (g .sizes) h (g .length)) k 0 ≡ g .length =
+              rw same (getD-set-same (g .sizes) h (g .length) 0 (omega (arith, bounds, z .whole .sizes)))
+              in
+              rw same (replaced-entry h taps saved (z .width) (z .saved-width) (c .sequence) i small ∙ z .zeros i (omega (arith, size-is)))
+          pick (no ne) =
+              other-entry h taps saved (z .width) (z .saved-width) (c .sequence) k ne i small
+              ∙ z .saved-zeros k b i (omega (arith, getD-set-other (g .sizes) h k (g .length) 0 ne)) small
+
+      pub grows : place + g .length < n + size → Stepped p (changed p n h d (stateOf g taps saved)) (saving n h d q g) now kept
       unfolding stateOf
       grows long =
           record {
             state =
-                changed-cases p n h d (stateOf g taps saved) (λ s. stateOf (saving n h d i g) now kept ≡ s)
+                changed-cases p n h d (stateOf g taps saved) (λ s. stateOf (saving n h d q g) now kept ≡ s)
                 (λ _. new-length) (λ short. absurd (let no : ⊥ = omega arith in no));
             ended =
                 record {
+                  whole = whole-kept;
                   width = width;
                   saved-width = ap length put-in ∙ replaced-whole h taps saved (z .width) (z .saved-width) (c .sequence);
                   zeros = zeros-past (n + size - place) (omega (arith, bounds)) (omega (arith, bounds));
-                  inverses = inverses-kept;
+                  shorter = shorter-kept (omega (arith, bounds));
+                  saved-zeros = zeros-kept;
+                  quotients = quotients-kept;
                 };
           }

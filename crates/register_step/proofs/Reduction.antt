@@ -1,21 +1,22 @@
 -- The taps of a register less q·x^e·τ, worked tap by tap: `reduced` by no tap of τ, by one more, and by all of them; and its entries at one length and
 -- at another.
-use mathlib.Core.Path.{_≡_, sym, ap, ap₂, _∙_}
+use mathlib.Core.Path.{_≡_, sym, ap, ap₂, subst, _∙_}
 use mathlib.Core.Logic.{_≢_}
 use mathlib.Core.List.{List, []}
-use Prim.Native.Nat.{ℕ, suc, _+_, _-_, _*_, _≤_, _<_}
+use Prim.Native.Nat.{ℕ, suc, _+_, _-_, _*_, _%_, _≤_, _<_}
 use native.Mathlib.Decide.{decLt, ℕ-discrete}
-use native.Mathlib.Nat.{add-mod-right, mul-zero, zero-mod, mod-eq-of-lt, sub-zero, add-sub-cancel-left}
+use native.Mathlib.Nat.{add-mod-right, mul-one, mul-zero, zero-mod, mod-eq-of-lt, sub-zero, add-sub-cancel-left, pow-zero}
 use native.Mathlib.Numerals.{add-one}
 use native.Mathlib.Omega.{arith}
 use lib.ListN.{length, getD, take, set, length-take, length-set, List·getD-eq-default}
 use lib.Seq.{ext-getD, take-all, getD-take, getD-set-same, getD-set-other}
 use Rattle.field.specs.Coefficients.{reduced, shifted}
-use Rattle.field.specs.Residue.{minus, times}
+use Rattle.field.specs.Residue.{minus, times, inverse, quotient}
 use Rattle.field.proofs.Coefficients.{shifted-below, shifted-above, length-reduced, getD-reduced}
+use Rattle.field.proofs.MontgomeryProducts.{product-taken}
+use Rattle.field.proofs.Remainders.{mod-mul-mod, mul-mod-mod}
 use Rattle.lists.proofs.Entries.{getD-take-suc}
-use Rattle.register_step.specs.Progress.{block, Reducible}
-use Rattle.register_step.proofs.Blocks.{saved-at}
+use Rattle.register_step.specs.Modulus.{Moduli}
 
 pub minus-zero : (p a q : ℕ) → a < p → minus p a (times p q 0) ≡ a
 minus-zero p a q h = rw (mul-zero, zero-mod, sub-zero, add-mod-right) (mod-eq-of-lt h)
@@ -100,27 +101,57 @@ module _ (p l : ℕ) (σ : List ℕ) (q e : ℕ) where
           ∙ getD-reduced p l σ q e (take i τ) k (omega arith)
           ∙ tap-same (take i τ) (take (suc i) τ) k (other k ne)
 
--- ---- a turn of the code's loop, at entry i of what is saved for h
+  -- ---- a turn of the code's loop, at entry i of τ, which is y
 
-module _ {p : ℕ} {σ : List ℕ} {q e m : ℕ} {saved : List ℕ} {h : ℕ} (r : Reducible p σ q e m saved h) (i : ℕ) {now : List ℕ} (le : i ≤ m)
-    (eq : now ≡ reduced p 128 σ q e (take i (take (suc m) (block h saved)))) where
-  within : e + i < 129
-  within = let b : e + m ≤ 128 = r .reach in omega arith
+  module _ (τ : List ℕ) (i : ℕ) {now : List ℕ} (eq : now ≡ reduced p l σ q e (take i τ)) (within : e + i < suc l) (less : getD σ (e + i) 0 < p) where
+    pub tap-less : getD now (e + i) 0 < p
+    tap-less = rw (next-tap τ i eq within less) less
 
-  kept-tap : getD now (e + i) 0 ≡ getD σ (e + i) 0
-  kept-tap = next-tap p 128 σ q e (take (suc m) (block h saved)) i eq within (r .residues (e + i))
+    pub turn-reduces : {y v : ℕ} → y ≡ getD τ i 0 → v ≡ minus p (getD now (e + i) 0) (times p q y) → set now (e + i) v ≡ reduced p l σ q e (take (i + 1) τ)
+    turn-reduces entry difference =
+        ap (λ (x : ℕ). set now (e + i) x) (difference ∙ ap₂ (λ (x y : ℕ). minus p x (times p q y)) (next-tap τ i eq within less) entry)
+        ∙ reduced-more τ i eq within
+        ∙ ap (λ (k : ℕ). reduced p l σ q e (take k τ)) (sym (add-one i))
 
-  saved-tap : getD saved (h * 129 + i) 0 ≡ getD (take (suc m) (block h saved)) i 0
-  saved-tap = let b : e + m ≤ 128 = r .reach in saved-at saved h m i le (omega arith)
+-- residues stay so where one is written
+pub set-below : (p : ℕ) (now : List ℕ) (k v : ℕ) → ((i : ℕ) → getD now i 0 < p) → v < p → (i : ℕ) → getD (set now k v) i 0 < p
+set-below p now k v less small i = pick (ℕ-discrete i k) (decLt k (length now))
+  where
+    pick : Dec (i ≡ k) → Dec (k < length now) → getD (set now k v) i 0 < p
+    pick (yes same) (yes inside) = rw (same, getD-set-same now k v 0 inside) small
+    pick (yes same) (no past) =
+        rw (List·getD-eq-default (set now k v) 0 (let b : length (set now k v) ≤ i = omega (arith, length-set now k v) in b)) (omega arith)
+    pick (no other) _ = rw (getD-set-other now k i v 0 other) (less i)
 
-  pub tap-less : getD now (e + i) 0 < p
-  tap-less = rw kept-tap (r .residues (e + i))
+-- what holds of the modulus that an array is made of holds of any that it is made of
+pub each-modulus : (P : ℕ → Type 0) {p : ℕ} {moduli : List ℕ} → Moduli p moduli → P p → (r : ℕ) → Moduli r moduli → P r
+each-modulus P lent holds r other = subst P (sym (lent .each 0 (omega arith)) ∙ other .each 0 (omega arith)) holds
 
-  -- y is q times what is saved, and v the tap less it
-  pub turn-reduces : {y v : ℕ} → y ≡ times p q (getD saved (h * 129 + i) 0) → v ≡ minus p (getD now (e + i) 0) y →
-      set now (e + i) v ≡ reduced p 128 σ q e (take (i + 1) (take (suc m) (block h saved)))
-  turn-reduces multiple difference =
-      ap (λ (x : ℕ). set now (e + i) x)
-      (difference ∙ ap₂ (λ (x y : ℕ). minus p x y) kept-tap (multiple ∙ ap (λ (x : ℕ). times p q x) saved-tap))
-      ∙ reduced-more p 128 σ q e (take (suc m) (block h saved)) i eq within
-      ∙ ap (λ (k : ℕ). reduced p 128 σ q e (take k (take (suc m) (block h saved)))) (sym (add-one i))
+-- ---- the factors of a turn modulo an odd p, whose inverse modulo 2^16 is v: z, read from the array, is p, and w is z less (p − u)
+
+module _ {p u z w : ℕ} (read : z ≡ p) (factor : w ≡ z - (p - u)) (small : u < p) where
+  pub factor-back : w ≡ u
+  factor-back = omega arith
+
+  -- what `less_product` requires
+  pub factors : (v : ℕ) {x : ℕ} → (v * p) % 65536 ≡ u → x < p → (x < z) × (w < z) × ((v * z) % 65536 ≡ w)
+  factors v match less = (omega arith, omega (arith, factor-back), ap (λ (k : ℕ). (v * k) % 65536) read ∙ match ∙ sym factor-back)
+
+  pub product-less : (v : ℕ) → (p * v) % 65536 ≡ 1 → (q y : ℕ) {x r : ℕ} → u ≡ (q * 65536) % p → x < p
+      → (65536 * r + y * w) % z ≡ (65536 * x) % z → r < z → r ≡ minus p x (times p q y)
+  product-less v inverse q y {x} {r} unit less taken below =
+      product-taken p v inverse q y unit
+      (ap₂ (λ (j k : ℕ). (65536 * r + y * j) % k) (sym factor-back) (sym read) ∙ taken ∙ ap (λ (k : ℕ). (65536 * x) % k) read)
+      less (omega (arith, below, read))
+
+-- ---- by what is taken: d over c, of which 2^16 over c is told
+
+pub quotient-unit : (p d c : ℕ) {over : ℕ} → over ≡ quotient p (65536 % p) c → (d * over) % p ≡ (quotient p d c * 65536) % p
+quotient-unit p d c eq =
+    ap (λ (x : ℕ). (d * x) % p) eq ∙ mul-mod-mod d (65536 % p * inverse p c) p
+    ∙ ap (λ (x : ℕ). x % p) (let e : d * (65536 % p * inverse p c) ≡ d * inverse p c * (65536 % p) = omega arith in e)
+    ∙ mul-mod-mod (d * inverse p c) 65536 p ∙ sym (mod-mul-mod (d * inverse p c) p 65536)
+
+-- modulo 2 there is nothing to divide by
+pub quotient-two : (p d c : ℕ) → p ≡ 2 → d < p → quotient p d c ≡ d
+quotient-two p d c two less = rw two (rw (pow-zero c, mul-one d) (mod-eq-of-lt (omega arith)))

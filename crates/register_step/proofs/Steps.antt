@@ -15,8 +15,8 @@ use Rattle.register.proofs.Cases.{step-cases}
 use Rattle.register.specs.Algorithm4.{State, step, changed}
 use Rattle.register.specs.Register.{discrepancy}
 use Rattle.register.specs.Sequences.{symbol}
-use Rattle.register_step.specs.Progress.{stateOf, dueAt, Summable, InReach, Ended, Ready, Changeable, Stepped}
-use Rattle.register_step.specs.declared.Progress.{Progress}
+use Rattle.register_step.specs.Discrepancies.{Ending, dueAt}
+use Rattle.register_step.specs.Progress.{Progress, progress, stateOf, Ended, Ready, Changeable, Stepped}
 
 -- a discrepancy looks at the register's own taps only
 discrepancy-own : (p l : ℕ) (σ s : List ℕ) (j : ℕ) → discrepancy p l σ s j ≡ discrepancy p l (take (suc l) σ) s j
@@ -26,40 +26,20 @@ discrepancy-own p l σ s j =
     (total-ext (suc l) (λ i. getD σ i 0 * symbol s (j - i)) (λ i. getD (take (suc l) σ) i 0 * symbol s (j - i))
     (λ i h. ap (λ (x : ℕ). x * symbol s (j - i)) (sym (getD-take (suc l) σ i 0 h))))
 
--- the symbol i places before S_j, as the code counts it
-pub back : (s : List ℕ) (j i : ℕ) → getD s (j - 1 - i) 0 ≡ symbol s (j - i)
-back s j i = ap (λ (k : ℕ). getD s k 0) (let e : j - 1 - i ≡ j - i - 1 = omega arith in e)
-
-module _ (p N l : ℕ) (σ s : List ℕ) {n : ℕ} where
-  pub not-due : n ≤ l + (N - length s) → 0 ≡ dueAt p N l σ s n
-  unfolding dueAt
-  not-due early = rw (le-ltb (l + (N - length s)) n early)
-
-  pub is-due : {d : ℕ} → length s ≤ N → l + (N - length s) < n → d ≡ discrepancy p l σ s (n - (N - length s)) → d ≡ dueAt p N l σ s n
-  unfolding dueAt
-  is-due shorter asked eq =
-      rw (lt-ltb (l + (N - length s)) n asked)
-      (eq ∙ ap (discrepancy p l σ s) (let e : n - (N - length s) ≡ n + length s - N = omega arith in e))
-
 module _ {p N : ℕ} {s : List ℕ} {n h : ℕ} {g : Progress} {taps saved : List ℕ}
-    (ready : Ready p N s n h (stateOf g taps saved)) (z : Ended p g taps saved) where
+    (positive : 0 < p) (ready : Ready p N s n h (stateOf g taps saved)) (z : Ended p g taps saved) where
   abbrev st : State
   st = stateOf g taps saved
 
-  pub summable : {m : ℕ} → m ≡ 1099511627776 / p → Summable p m (g .length) taps s
+  -- what is asked of the taps where a discrepancy is due
+  pub ending : Ending p (g .length) taps
   unfolding stateOf
-  summable reciprocal =
+  ending =
       record {
-        two-or-more = ready .two-or-more;
-        modulus = ready .modulus;
-        reciprocal = reciprocal;
+        width = z .width;
         residues = λ i le. rw (← getD-take (suc (g .length)) taps i 0 (omega arith)) (ready .residues i);
-        symbols = ready .symbols;
+        zeros = z .zeros;
       }
-
-  pub in-reach : InReach N (g .length) n s
-  unfolding stateOf
-  in-reach = record { longest = ready .longest; shorter = ready .shorter; size = ready .size; round = ready .round }
 
   module _ {d : ℕ} (due : d ≡ dueAt p N (g .length) taps s n) where
     abbrev asked : Type 0
@@ -94,11 +74,9 @@ module _ {p N : ℕ} {s : List ℕ} {n h : ℕ} {g : Progress} {taps saved : Lis
           let late = is-discrepancy .0 in
           let place : getD (g .places) h 0 ≤ n = omega (arith, ready .place) in
           record {
-            two-or-more = ready .two-or-more;
-            modulus = ready .modulus;
             round = omega (arith, ready .round, ready .longest);
             sequence = ready .sequence;
-            discrepancy = rw (is-discrepancy .1) (discrepancy-less p (st .size) (st .taps) s (n + length s - N) (omega (arith, ready .two-or-more)));
+            discrepancy = rw (is-discrepancy .1) (discrepancy-less p (st .size) (st .taps) s (n + length s - N) positive);
             size = ready .size;
             place = place;
             saved-size = ready .saved-size;
@@ -116,6 +94,7 @@ module _ {p N : ℕ} {s : List ℕ} {n h : ℕ} {g : Progress} {taps saved : Lis
           (λ _ _. rw (← is-discrepancy .1) made)
 
 -- the same once more, by equal names of what it leaves
-pub same-after : {p : ℕ} {st : State} {g g′ : Progress} {taps taps′ saved saved′ : List ℕ} →
-    g′ ≡ g → taps′ ≡ taps → saved′ ≡ saved → Stepped p st g taps saved → Stepped p st g′ taps′ saved′
-same-after eg et es made = rw (eg, et, es) made
+pub same-after : {p : ℕ} {st : State} {l l′ : ℕ} {places places′ sizes sizes′ discs discs′ quotients quotients′ taps taps′ saved saved′ : List ℕ} →
+    places′ ≡ places → sizes′ ≡ sizes → discs′ ≡ discs → quotients′ ≡ quotients → taps′ ≡ taps → saved′ ≡ saved → l′ ≡ l →
+    Stepped p st (progress l places sizes discs quotients) taps saved → Stepped p st (progress l′ places′ sizes′ discs′ quotients′) taps′ saved′
+same-after ep es ed eq et ev el made = rw (ep, es, ed, eq, et, ev, el) made

@@ -1,1 +1,4 @@
+pub mod Discrepancies
+pub mod Modulus
 pub mod Progress
+pub mod Reductions

@@ -1,25 +1,28 @@
-// The discrepancy of a register at a symbol of a sequence.
+// The sum of the products of taps and symbols: a discrepancy, where the symbols stand backwards.
+use crate::Modulus;
+use field::montgomery::bottom;
+use field::montgomery::top;
+use field::reciprocal::wide_remainder;
 ghost use mathlib.Core.Path.{_≡_};
-ghost use Rattle.register.specs.Register.{discrepancy};
-ghost use Rattle.register_step.specs.Progress.{Summable, Reaching};
+ghost use Prim.Native.Nat.{_%_};
+ghost use Rattle.register_step.specs.Discrepancies.{Summable, sumAt};
 
-pub fn wide(x: u16) -> u64
-    ensures { λ r. ⌜ r ≡ x ⌝ }
+// The products of the taps 0 .. l and the symbols from `from` on. The lower and the upper halves of the products are summed each by themselves, since 32
+// bits vectorise well, and reduced once, by the reciprocal.
+pub fn sum_at(f: Modulus, l: usize, taps: &[u16; 144], symbols: &[u16; 1152], from: usize) -> u32
+    requires { ⌜ Summable f l (now taps) (now symbols) from ⌝ }
+    ensures { λ r. ⌜ r ≡ sumAt l (now (taps .entry)) (now (symbols .entry)) from % f .p ⌝ }
 {
-    x as u64
-}
-
-// 129 products of residues fit 64 bits, so there is one remainder at the end, by the reciprocal m of p.
-pub fn discrepancy_at(p: u32, m: u64, l: usize, taps: &[u16; 129], s: &[u16], j: usize) -> u32
-    requires { ⌜ Summable p m l (now taps) (now s) ⌝ }
-    requires { ⌜ Reaching l j (now s) ⌝ }
-    ensures { λ r. ⌜ r ≡ discrepancy p l (now (taps .entry)) (now (s .entry)) j ⌝ }
-{
-    let mut sum: u64 = 0;
+    let mut low: u32 = 0;
+    let mut high: u32 = 0;
+    let end = (l / 8 + 1) * 8;
     let mut i = 0;
-    while i <= l {
-        sum += wide(taps[i]) * wide(s[j - 1 - i]);
+    while i < end {
+        let a = taps[i];
+        let b = symbols[from + i];
+        low += bottom(a, b) as u32;
+        high += top(a, b) as u32;
         i += 1;
     }
-    field::reciprocal::wide_remainder(sum, p, m)
+    wide_remainder((low as u64) + 65536 * (high as u64), f.p, f.wide)
 }

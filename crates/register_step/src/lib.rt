@@ -1,15 +1,18 @@
-// One step of Algorithm 4 on arrays: the discrepancy that is due at a symbol, and the change of the register by it.
+// One step of Algorithm 4 on arrays: the discrepancy that is due at a symbol, and the change of the register by it. The state is kept in lent arrays, so
+// that a step moves what it changes and no more. Arrays are a little longer than a register, with zeros after it: loops go on to a multiple of 8 entries,
+// and none is left for the compiler to do one by one.
 pub mod copy;
 mod discrepancy;
 mod reduce;
 pub mod step;
+pub mod worked_out;
 
-// The state of the method between two steps, but for the taps, which stand in lent arrays: the length of the register found so far, and for each
-// sequence the place, length and discrepancy of the register saved for it, with the inverse of that discrepancy modulo p.
-pub struct Progress {
-    pub length: usize,
-    pub places: [u16; 8],
-    pub sizes: [u16; 8],
-    pub discs: [u16; 8],
-    pub inverses: [u16; 8],
+// A modulus p with what is worked out of it once: its reciprocals, in parts of 2^40, and in parts of 2^48 rounded up; 2^16 modulo p; and the inverse of
+// an odd p modulo 2^16.
+pub struct Modulus {
+    pub p: u32,
+    pub wide: u64,
+    pub reciprocal: u64,
+    pub unit: u32,
+    pub inverse: u16,
 }

@@ -1,44 +1,121 @@
 // The taps of a register less a multiple of a shifted one, and the register that is saved.
+use crate::Modulus;
 use crate::copy::copy;
+use field::montgomery::bottom;
+use field::montgomery::less_product;
+use field::narrow::difference;
+use field::reciprocal::remainder;
 ghost use mathlib.Core.Path.{_≡_};
-ghost use mathlib.Core.List.{_++_};
-ghost use Prim.Native.Nat.{suc, _*_};
-ghost use lib.ListN.{take, drop};
+ghost use Prim.Native.Nat.{ℕ, suc, _*_, _%_, _<_};
+ghost use lib.ListN.{length, take};
 ghost use Rattle.field.specs.Coefficients.{reduced};
-ghost use Rattle.register_step.specs.Progress.{block, Reducible, Keepable};
+ghost use Rattle.field.specs.Residue.{quotient};
+ghost use Rattle.lists.specs.Parts.{replaced};
+ghost use Rattle.register_step.specs.Progress.{block};
+ghost use Rattle.register_step.specs.Reductions.{Reducible, Odd, Divided, Keepable, Growable};
 
-// All 129 taps less q·x^e·τ, τ being the m + 1 taps saved for sequence h. The ratio of q to p is worked out once, so that no tap needs a division.
-pub fn reduce(
-    p: u32,
-    taps: &mut [u16; 129],
-    q: u32,
+// All taps less q·x^e·τ, τ being the m + 1 taps saved for sequence h, for an odd p; u is q·2^16 modulo p. The modulus is read from an array of it, and u
+// taken from there: so the compiler sees factors of 16 bits.
+fn reduce_odd(
+    f: Modulus,
+    moduli: &[u16; 144],
+    taps: &mut [u16; 144],
+    u: u32,
     e: usize,
     m: usize,
-    saved: &[u16; 1032],
+    saved: &[u16; 1152],
     h: usize,
 )
-    requires { ⌜ Reducible p (now taps) q e m (now saved) h ⌝ }
-    ensures { λ _. ⌜ now (taps .exit) ≡ reduced p 128 (now (taps .entry)) q e (take (suc m) (block h (now (saved .entry)))) ⌝ }
+    requires { ⌜ Odd f (now moduli) u ⌝ }
+    requires { ⌜ Reducible (f .p) (now taps) e m (now saved) h ⌝ }
+    ensures { λ _. ⌜ ((q : ℕ) → u ≡ (q * 65536) % f .p →
+        now (taps .exit) ≡ reduced (f .p) 143 (now (taps .entry)) q e (take (suc m) (block h (now (saved .entry))))) ⌝ }
 {
-    let modulus = p as u16;
-    let factor = q as u16;
-    let ratio = field::narrow::ratio(factor, modulus);
-    let at = h * 129;
+    let v = bottom(u as u16, f.inverse);
+    let less = (f.p - u) as u16;
+    let at = h * 144;
+    let end = (m / 8 + 1) * 8;
     let mut i = 0;
-    while i <= m {
+    while i < end {
         let k = e + i;
-        let y = field::narrow::multiple(saved[at + i], factor, ratio, modulus);
-        taps[k] = field::narrow::difference(taps[k], y, modulus);
+        let p = moduli[i];
+        taps[k] = less_product(taps[k], saved[at + i], p - less, v, p);
         i += 1;
     }
 }
 
-// The taps become what is saved for sequence h.
-pub fn keep(saved: &mut [u16], h: usize, taps: &[u16])
-    requires { ⌜ Keepable (now saved) h (now taps) ⌝ }
-    ensures { λ _. ⌜ now (saved .exit) ≡ take (h * 129) (now (saved .entry)) ++ (now (taps .entry) ++ drop 129 (drop (h * 129) (now (saved .entry)))) ⌝ }
+// The same modulo 2.
+fn reduce_two(taps: &mut [u16; 144], q: u32, e: usize, m: usize, saved: &[u16; 1152], h: usize)
+    requires { ⌜ (q < 2) × Reducible 2 (now taps) e m (now saved) h ⌝ }
+    ensures { λ _. ⌜ now (taps .exit) ≡ reduced 2 143 (now (taps .entry)) q e (take (suc m) (block h (now (saved .entry)))) ⌝ }
 {
-    let a = h * 129;
-    let e = a + 129;
-    copy(&mut saved[a..e], taps)
+    let at = h * 144;
+    let mut i = 0;
+    while i <= m {
+        let k = e + i;
+        let y = (q * ((saved[at + i] % 2) as u32) % 2) as u16;
+        taps[k] = difference(taps[k], y, 2);
+        i += 1;
+    }
+}
+
+// The taps less (d / c)·x^e·τ, where c is the discrepancy that τ was saved with; `over` is 2^16 over c modulo p. Modulo 2 it is d itself that τ is taken by.
+pub fn reduce(
+    f: Modulus,
+    moduli: &[u16; 144],
+    taps: &mut [u16; 144],
+    d: u32,
+    over: u16,
+    e: usize,
+    m: usize,
+    saved: &[u16; 1152],
+    h: usize,
+)
+    requires { ⌜ Divided f (now moduli) d over ⌝ }
+    requires { ⌜ Reducible (f .p) (now taps) e m (now saved) h ⌝ }
+    ensures { λ _. ⌜ ((c : ℕ) → over ≡ quotient (f .p) (65536 % f .p) c →
+        now (taps .exit) ≡ reduced (f .p) 143 (now (taps .entry)) (quotient (f .p) d c) e (take (suc m) (block h (now (saved .entry))))) ⌝ }
+{
+    if f.p == 2 {
+        reduce_two(taps, d, e, m, saved, h);
+        return;
+    }
+    let u = remainder(d * (over as u32), f.p, f.reciprocal);
+    reduce_odd(f, moduli, taps, u, e, m, saved, h);
+}
+
+// The first entries of the taps become those of the block of sequence h.
+fn keep(saved: &mut [u16], h: usize, taps: &[u16], end: usize)
+    requires { ⌜ Keepable (now saved) h (now taps) end ⌝ }
+    ensures { λ _. ⌜ now (saved .exit) ≡ replaced (h * 144) end (now (saved .entry)) (take end (now (taps .entry))) ⌝ }
+{
+    let a = h * 144;
+    let e = a + end;
+    copy(&mut saved[a..e], &taps[0..end])
+}
+
+// The same reduction where the register, of length l, grows: its taps before it become what is saved for sequence h.
+pub fn reduce_keeping(
+    f: Modulus,
+    moduli: &[u16; 144],
+    l: usize,
+    taps: &mut [u16; 144],
+    d: u32,
+    over: u16,
+    e: usize,
+    m: usize,
+    saved: &mut [u16; 1152],
+    h: usize,
+)
+    requires { ⌜ Divided f (now moduli) d over ⌝ }
+    requires { ⌜ Reducible (f .p) (now taps) e m (now saved) h ⌝ }
+    requires { ⌜ Growable l (now taps) m ⌝ }
+    ensures { λ _. ⌜ ((c : ℕ) → over ≡ quotient (f .p) (65536 % f .p) c →
+        now (taps .exit) ≡ reduced (f .p) 143 (now (taps .entry)) (quotient (f .p) d c) e (take (suc m) (block h (now (saved .entry))))) ⌝ }
+    ensures { λ _. ⌜ now (saved .exit) ≡ replaced (h * 144) 144 (now (saved .entry)) (now (taps .entry)) ⌝ }
+{
+    let old = *taps;
+    reduce(f, moduli, taps, d, over, e, m, saved, h);
+    let end = (l / 8 + 1) * 8;
+    keep(saved, h, &old, end);
 }

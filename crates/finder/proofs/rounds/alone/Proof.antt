@@ -4,39 +4,40 @@ use mathlib.Core.Bool.{true}
 use Prim.Native.Nat.{_-_}
 use native.Mathlib.Omega.{arith}
 use borrow.Author.Needs.{needs}
-use lib.ListN.{getD}
 use Rattle.finder.specs.Rounds.{aloneMark}
 use Rattle.finder.proofs.Marking.{markTest, mark-passes, mark-fails}
 use Rattle.lists.proofs.Testing.{Tested, tested-none, tested-out, tested-pass, tested-all}
-use mir.Syntax.{w16}
-use mir.Val.{Fits}
 use Rattle.finder.proofs.rounds.alone.Statement.{statement}
 use Rattle.finder.proofs.rounds.alone.Tie as tie
 
 abbrev Inv-loop : tie.InvT-loop
-Inv-loop longest count order g l h₀ h = Tested count (markTest longest order g) h true
+Inv-loop longest count l places sizes order h₀ h = Tested count (markTest longest order l places sizes) h true
 
 abbrev μ-loop : tie.MeasureT-loop
-μ-loop longest count order g l h₀ h = count - h
+μ-loop longest count l places sizes order h₀ h = count - h
 
 loop-holds : tie.Need-loop-holds Inv-loop μ-loop
 loop-holds c = tested-none _ _
 
-add-if1 : tie.Need-add-if1 Inv-loop μ-loop
-add-if1 c =
-    let at = c .before .before .before .before .before in
-    let small : Fits w16 (getD (at .before .args .t4 .places) (at .loop .h) 0) = search needs in
-    omega (arith, c .smaller .ensures)
-
-add-if1-2 : tie.Need-add-if1-2 Inv-loop μ-loop
-add-if1-2 c =
-    let at = c .before .before .before .before .before in
-    let small : Fits w16 (getD (at .before .args .t4 .sizes) (at .loop .h) 0) = search needs in
-    omega (arith, c .smaller .ensures)
-
 -- the way back
 abbrev looped : tie.After-smaller Inv-loop μ-loop → tie.At-loop Inv-loop μ-loop
 looped c = c .before .before .before .before .before
+
+cast-place : tie.Need-cast-place Inv-loop μ-loop
+cast-place c = let at = c .before .before in record { fits = omega (arith, at .before .pre .places-small (at .loop .h) (search needs)) }
+
+cast-size : tie.Need-cast-size Inv-loop μ-loop
+cast-size c = let at = c .before .before .before in record { fits = omega (arith, at .before .pre .sizes-small (at .loop .h) (search needs)) }
+
+add-if1 : tie.Need-add-if1 Inv-loop μ-loop
+add-if1 c =
+    let at = looped c in
+    record { fits = omega (arith, c .smaller .ensures, at .before .pre .size, at .before .pre .longest, at .before .pre .places-small (at .loop .h) (search needs)) }
+
+add-if1-2 : tie.Need-add-if1-2 Inv-loop μ-loop
+add-if1-2 c =
+    let at = looped c in
+    record { fits = omega (arith, at .before .pre .longest, at .before .pre .sizes-small (at .loop .h) (search needs)) }
 
 returns : tie.Need-returns Inv-loop μ-loop
 unfolding aloneMark
@@ -45,8 +46,8 @@ returns c =
     let args = at .before .args in
     let pre = at .before .pre in
     tested-out _ _ (at .loop .h) (search needs)
-    (mark-fails (args .longest) (args .t2) (args .t4) (at .loop .h) _ (pre .size) (pre .shorter (at .loop .h) (search needs)) (c .before .smaller .ensures)
-    (c .if1 .taken))
+    (mark-fails (args .longest) (args .t2) (args .l) (args .places .now) (args .sizes .now) (at .loop .h) _ (pre .size) (pre .shorter (at .loop .h) (search needs))
+    (c .before .smaller .ensures) (c .if1 .taken))
 
 loop-again : tie.Need-loop-again Inv-loop μ-loop
 loop-again c =
@@ -54,8 +55,8 @@ loop-again c =
     let args = at .before .args in
     let pre = at .before .pre in
     tested-pass _ _ (at .loop .h) true (at .loop .inv) (search needs) true refl
-    (mark-passes (args .longest) (args .t2) (args .t4) (at .loop .h) _ (pre .size) (pre .shorter (at .loop .h) (search needs)) (c .before .smaller .ensures)
-    (c .if1 .left))
+    (mark-passes (args .longest) (args .t2) (args .l) (args .places .now) (args .sizes .now) (at .loop .h) _ (pre .size) (pre .shorter (at .loop .h) (search needs))
+    (c .before .smaller .ensures) (c .if1 .left))
 
 returns-2 : tie.Need-returns-2 Inv-loop μ-loop
 unfolding aloneMark
@@ -70,10 +71,10 @@ alone-spec =
     loop-holds
     (λ c. search needs)
     (λ c. search needs)
+    cast-place
     (λ c. search needs)
     (λ c. search needs)
-    (λ c. search needs)
-    (λ c. search needs)
+    cast-size
     (λ c. search needs)
     (λ c. search needs)
     (λ c. search needs)

@@ -4,68 +4,67 @@ use Prim.Native.Nat.{_+_, _-_, _≤_}
 use native.Mathlib.Omega.{arith}
 use borrow.Author.Needs.{needs}
 use Rattle.register.specs.Algorithm4.{turn, rounds}
-use Rattle.sequences.specs.Places.{sequencesAt}
-use Rattle.finder.specs.Rounds.{Reached}
-use Rattle.finder.proofs.Running.{ready, stepped, round-begins, round-ends}
-use Rattle.register_step.proofs.Steps.{summable, in-reach, resting, changeable, changing, same-after}
+use Rattle.register_step.specs.Progress.{progress}
+use Rattle.finder.specs.Rounds.{Reached, sequencesIn}
+use Rattle.finder.proofs.Running.{positive, ready, in-reach, stepped, round-begins, round-ends}
+use Rattle.register_step.proofs.Steps.{ending, resting, changeable, changing, same-after}
 use Rattle.finder.proofs.rounds.round.Statement.{statement}
 use Rattle.finder.proofs.rounds.round.Tie as tie
 
 abbrev Inv-loop : tie.InvT-loop
-Inv-loop p m longest symbols count n taps₀ saved₀ order state₀ h₀ taps saved state h =
-    let ss = sequencesAt order count symbols in
-    (h ≤ count) × Reached p count (turn p longest ss (n + 1) h (rounds p longest ss n)) state taps saved
+Inv-loop f moduli longest symbols count n length places₀ sizes₀ discs₀ quotients₀ taps₀ saved₀ order l₀ h₀ places sizes discs quotients taps saved l h =
+    let ss = sequencesIn order count symbols in
+    (h ≤ count) × Reached (f .p) count (turn (f .p) longest ss (n + 1) h (rounds (f .p) longest ss n)) (progress l places sizes discs quotients) taps saved
 
 abbrev μ-loop : tie.MeasureT-loop
-μ-loop p m longest symbols count n taps₀ saved₀ order state₀ h₀ taps saved state h = count - h
+μ-loop f moduli longest symbols count n length places₀ sizes₀ discs₀ quotients₀ taps₀ saved₀ order l₀ h₀ places sizes discs quotients taps saved l h = count - h
 
 loop-holds : tie.Need-loop-holds Inv-loop μ-loop
-loop-holds c = (search needs, round-begins (c .before .pre .0) _ (c .before .pre .1 .1 .0))
-
-add-e : tie.Need-add-e Inv-loop μ-loop
-add-e c = omega (arith, c .before .before .before .before .before .pre .0 .within (c .before .before .before .loop .h) (search needs))
-
-mul-due : tie.Need-mul-due Inv-loop μ-loop
-mul-due c = omega (arith, c .before .before .before .before .before .before .pre .0 .within (c .before .before .before .before .loop .h) (search needs))
-
-part-due-end : tie.Need-part-due-end Inv-loop μ-loop
-part-due-end c = omega (arith, c .before .before .before .before .before .before .pre .0 .within (c .before .before .before .before .loop .h) (search needs))
+loop-holds c = let pre = c .pre in (search needs, round-begins (pre .1 .1 .0) _ (pre .1 .1 .1 .1))
 
 due-requires : tie.Need-due-requires Inv-loop μ-loop
 due-requires c κs =
-    let looped = c .before .before .before .before .before in
+    let looped = c .before .before .before in
     let at = looped .loop in
-    let pre = looped .before .before .pre in
-    let begun = ready (pre .0) (pre .1 .0) (search needs) (at .inv .1) in
-    (summable begun (at .inv .1 .ended) (pre .1 .1 .1), in-reach begun (at .inv .1 .ended))
+    let pre = looped .before .pre in
+    let r = pre .1 .1 .0 in
+    let round = pre .1 .1 .1 .0 in
+    let begun = ready r round (search needs) (at .inv .1) in
+    (pre .0, (ending (positive r) begun (at .inv .1 .ended), in-reach r round (search needs) (at .inv .1)))
 
 change-requires : tie.Need-change-requires Inv-loop μ-loop
 change-requires c κs =
-    let computed = c .before .before .before in
-    let looped = computed .before .before .before .before .before .before in
+    let computed = c .before .before .before .before .before .before .before in
+    let looped = computed .before .before .before .before in
     let at = looped .loop in
-    let pre = looped .before .before .pre in
-    let begun = ready (pre .0) (pre .1 .0) (search needs) (at .inv .1) in
-    (changeable begun (at .inv .1 .ended) (computed .due .ensures) (c .before .before .if1 .taken), at .inv .1 .ended)
+    let pre = looped .before .pre in
+    let r = pre .1 .1 .0 in
+    let begun = ready r (pre .1 .1 .1 .0) (search needs) (at .inv .1) in (
+      pre .0,
+      (pre .1 .0, (changeable (positive r) begun (at .inv .1 .ended) (computed .due .ensures) (c .before .before .before .before .before .before .if1 .taken), at .inv .1 .ended)),
+    )
 
 loop-again : tie.Need-loop-again Inv-loop μ-loop
 loop-again c =
     let computed = c .before in
-    let looped = computed .before .before .before .before .before .before in
+    let looped = computed .before .before .before .before in
     let at = looped .loop in
-    let pre = looped .before .before .pre in
-    let begun = ready (pre .0) (pre .1 .0) (search needs) (at .inv .1) in
+    let pre = looped .before .pre in
+    let r = pre .1 .1 .0 in
+    let round = pre .1 .1 .1 .0 in
+    let begun = ready r round (search needs) (at .inv .1) in
     let due = computed .due .ensures in (
       search needs,
-      stepped (pre .0) (pre .1 .0) (search needs) (at .inv .1)
+      stepped r round (search needs) (at .inv .1)
           (⊎-elim
-          (λ w. same-after (w .6) (w .4) (w .5) (changing begun (at .inv .1 .ended) due (w .0 .taken) (w .3 .ensures .0)))
-          (λ w. same-after (w .3) (w .1) (w .2) (resting begun (at .inv .1 .ended) due (w .0 .left)))
+          (λ w. same-after (w .8) (w .9) (w .10) (w .11) (w .12) (w .13) (w .14)
+          (changing (positive r) begun (at .inv .1 .ended) due (w .0 .taken) (w .7 .ensures .0)))
+          (λ w. same-after (w .1) (w .2) (w .3) (w .4) (w .5) (w .6) (w .7) (resting (positive r) begun (at .inv .1 .ended) due (w .0 .left)))
           (c .if1 .came)),
     )
 
 returns : tie.Need-returns Inv-loop μ-loop
-returns c = round-ends (c .before .before .before .pre .0) _ _ (omega arith) (c .before .loop .inv .1)
+returns c = round-ends (c .before .before .pre .1 .1 .0) _ _ (omega arith) (c .before .loop .inv .1)
 
 pub round-spec : {M : Type 1} → statement M
 round-spec =
@@ -77,14 +76,6 @@ round-spec =
     (λ c. search needs)
     (λ c. search needs)
     (λ c. search needs)
-    (λ c. search needs)
-    (λ c. search needs)
-    (λ c. search needs)
-    add-e
-    mul-due
-    (λ c. search needs)
-    (λ c. search needs)
-    part-due-end
     (λ c. search needs)
     due-requires
     (λ c. search needs)

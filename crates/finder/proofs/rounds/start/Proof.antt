@@ -1,41 +1,36 @@
--- `start` sets the places of the struct. The invariant: those of the sequences passed are set.
-use mathlib.Core.Path.{refl}
-use Prim.Native.Nat.{_-_, _≤_}
+-- `start` sets the places. The invariant: those of the sequences passed are set.
+use mathlib.Core.Path.{_∙_, refl}
+use Prim.Native.Nat.{ℕ, _-_, _≤_}
 use native.Mathlib.Omega.{arith}
 use borrow.Author.Needs.{needs}
-use Rattle.lists.proofs.Filling.{filled-none, filled-more}
-use Rattle.finder.proofs.Starting.{Placing, all-placed}
+use lib.ListN.{getD, length-replicate}
+use Rattle.lists.proofs.Filling.{Filled, filled-entry, filled-none, filled-more}
+use Rattle.lists.proofs.Zeros.{zeros}
 use Rattle.finder.proofs.rounds.start.Statement.{statement}
 use Rattle.finder.proofs.rounds.start.Tie as tie
 
 abbrev Inv-loop : tie.InvT-loop
-Inv-loop longest count order g₀ h₀ g h = (h ≤ count) × Placing longest order h g
+Inv-loop longest count order places₀ h₀ places h = (h ≤ count) × Filled (λ k. longest - getD (order .lengths) k 0) (zeros 8) h places
 
 abbrev μ-loop : tie.MeasureT-loop
-μ-loop longest count order g₀ h₀ g h = count - h
+μ-loop longest count order places₀ h₀ places h = count - h
 
 loop-holds : tie.Need-loop-holds Inv-loop μ-loop
-loop-holds c = (search needs, record { places = filled-none _ _; length = refl; sizes = refl; discs = refl; inverses = refl })
+loop-holds c = (search needs, filled-none _ _)
 
-sub-g : tie.Need-sub-g Inv-loop μ-loop
-sub-g c = c .before .before .before .pre .shorter (c .before .before .loop .h) (search needs)
+sub-places : tie.Need-sub-places Inv-loop μ-loop
+sub-places c = c .before .before .before .pre .shorter (c .before .before .loop .h) (search needs)
 
 loop-again : tie.Need-loop-again Inv-loop μ-loop
 loop-again c =
     let at = c .before .before .loop in
-    let a = at .inv .1 in (
-      search needs,
-      record {
-        places = filled-more _ _ (at .h) _ (at .g .places) (a .places) (let s = a .places .size in omega arith) refl;
-        length = a .length;
-        sizes = a .sizes;
-        discs = a .discs;
-        inverses = a .inverses;
-      },
-    )
+    let a = at .inv .1 in
+    (search needs, filled-more _ _ (at .h) _ (at .places) a (let s = a .size in omega arith) refl)
 
 returns : tie.Need-returns Inv-loop μ-loop
-returns c = all-placed _ _ _ _ _ (c .before .loop .inv .1) (omega arith)
+returns c =
+    let at = c .before .loop in
+    record { width = at .inv .1 .size ∙ length-replicate {A = ℕ} 8 0; place = λ h b. filled-entry _ _ _ _ (at .inv .1) h (omega arith) }
 
 pub start-spec : {M : Type 1} → statement M
 start-spec =
@@ -47,7 +42,7 @@ start-spec =
     (λ c. search needs)
     (λ c. search needs)
     (λ c. search needs)
-    sub-g
+    sub-places
     (λ c. search needs)
     (λ c. search needs)
     (λ c. search needs)

@@ -1,102 +1,107 @@
 -- `change` makes the change of Algorithm 4 on the arrays.
+use mathlib.Core.Path.{ap, _∙_}
+use Prim.Native.Nat.{ℕ, _<_}
+use native.Mathlib.Nat.{mod-lt}
+use native.Mathlib.Omega.{arith}
 use borrow.Author.Needs.{needs}
+use Rattle.field.specs.Residue.{quotient as quotientOf}
 use Rattle.register_step.specs.Progress.{stateOf}
-use Rattle.register_step.proofs.Change.{Lengths, inverse-less, is-quotient, reducible, stays, grows, saved-stays, saved-grows}
+use Rattle.register_step.proofs.Change.{over-less, reducible, growable, stays, grows, saved-stays, saved-grows}
 use Rattle.register_step.proofs.step.change.Statement.{statement}
 use Rattle.register_step.proofs.step.change.Tie as tie
 
--- ---- the ways back
-
-abbrev start-of : tie.After-product → tie.Start
-start-of c = c .before .before .before .before
-
-abbrev reduced-before : tie.After-inverse → tie.After-reduce2
-reduced-before c = c .before .before .before .before
-
-abbrev grew : tie.After-reduce2 → tie.Else1
-grew c = c .before .before .before .before
-
-abbrev divided : tie.Else1 → tie.After-product
-divided c = c .before
-
-lengths : (c : tie.Start) → Lengths (c .args .t5)
-lengths c = (search needs, search needs, search needs, search needs)
-
--- ---- the needs
-
-product-requires : tie.Need-product-requires
+cast-place : tie.Need-cast-place
 unfolding stateOf
-product-requires c κs =
-    let at = c .before .before .before in
-    record { modulus = at .pre .0 .modulus; first = at .pre .0 .discrepancy; second = inverse-less (at .pre .0) (at .pre .1) }
+cast-place c = let a = c .before .pre .1 .1 .0 in record { fits = omega (arith, a .place, a .round) }
+
+cast-size : tie.Need-cast-size
+unfolding stateOf
+cast-size c = let a = c .before .before .pre .1 .1 .0 in record { fits = omega (arith, a .saved-size, a .place, a .round) }
 
 sub-e : tie.Need-sub-e
 unfolding stateOf
-sub-e c = search needs
+sub-e c = c .before .before .pre .1 .1 .0 .place
 
 add-if1 : tie.Need-add-if1
 unfolding stateOf
-add-if1 c = search needs
+add-if1 c = let a = c .before .before .pre .1 .1 .0 in record { fits = omega (arith, a .saved-size, a .place, a .round) }
 
 add-if1-2 : tie.Need-add-if1-2
 unfolding stateOf
-add-if1-2 c = search needs
+add-if1-2 c = let a = c .before .before .pre .1 .1 .0 in record { fits = omega (arith, a .place, a .round, a .size) }
+
+-- what the modulus is
+positive-at : (c : tie.Start) → 0 < c .args .f .p
+positive-at c = omega (arith, c .pre .0 .taken .two-or-more)
 
 reduce-requires : tie.Need-reduce-requires
 unfolding stateOf
 reduce-requires c κs =
-    let at = start-of (c .before .before .before) in
-    reducible (at .pre .0) (at .pre .1) (c .before .before .before .product .ensures .1)
+    let at = c .before .before .before .before .before .before in
+    let pre = at .pre in
+    let a = pre .1 .1 .0 in
+    let z = pre .1 .1 .1 in
+    (record { modulus = pre .0; lent = pre .1 .0; discrepancy = a .discrepancy; residue = over-less (positive-at at) a z }, reducible (positive-at at) a z)
 
 returns : tie.Need-returns
 unfolding stateOf
 returns c =
-    let divided = c .before .before .before .before in
-    let at = start-of divided in
-    let short = c .before .before .before .if1 .taken in (
-      stays (at .pre .0) (at .pre .1) (is-quotient (at .pre .0) (at .pre .1) (divided .product .ensures .0)) (c .reduce .ensures) short,
-      saved-stays (at .pre .0) (at .pre .1) short,
+    let at = c .before .before .before .before .before .before .before in
+    let a = at .pre .1 .1 .0 in
+    let z = at .pre .1 .1 .1 in
+    let short = c .before .before .before .before .if1 .taken in (
+      stays (positive-at at) a z (c .reduce .ensures _ (z .quotients _ (a .sequence))) short,
+      saved-stays (positive-at at) a z short,
     )
 
-reduce-requires-2 : tie.Need-reduce-requires-2
+reduce-keeping-requires : tie.Need-reduce-keeping-requires
 unfolding stateOf
-reduce-requires-2 c κs =
-    let at = start-of (c .before .before .before .before) in
-    reducible (at .pre .0) (at .pre .1) (c .before .before .before .before .product .ensures .1)
+reduce-keeping-requires c κs =
+    let at = c .before .before .before .before .before .before in
+    let pre = at .pre in
+    let a = pre .1 .1 .0 in
+    let z = pre .1 .1 .1 in (
+      record { modulus = pre .0; lent = pre .1 .0; discrepancy = a .discrepancy; residue = over-less (positive-at at) a z },
+      (reducible (positive-at at) a z, growable (positive-at at) a z),
+    )
 
-slice-aggregate-keep : tie.Need-slice-aggregate-keep
+cast-sizes : tie.Need-cast-sizes
 unfolding stateOf
-slice-aggregate-keep c = search needs
+cast-sizes c = let a = c .before .before .before .before .before .before .before .pre .1 .1 .0 in record { fits = omega (arith, a .size, a .round) }
 
-keep-requires : tie.Need-keep-requires
-unfolding stateOf
-keep-requires c κs = search needs
-
-numbers-saved-requires : tie.Need-numbers-saved-requires
-unfolding stateOf
-numbers-saved-requires c κs =
-    let asked = start-of (divided (grew (reduced-before c))) .pre .0 in
+quotient-requires : tie.Need-quotient-requires
+quotient-requires c κs =
+    let at = c .before .before .before .before .before .before .before in
+    let f = at .pre .0 in
     record {
-      sequence = asked .sequence;
-      round = asked .round;
-      size = search needs;
-      discrepancy = search needs;
-      inverse = search needs;
-      place = asked .place;
-      saved-size = asked .saved-size;
+      two-or-more = f .taken .two-or-more;
+      operands =
+          record {
+            modulus = f .taken .modulus;
+            factor = rw (f .unit) (mod-lt 65536 (positive-at at));
+            base = at .pre .1 .1 .0 .discrepancy;
+            reciprocal = f .reciprocal;
+          };
     }
+
+add-result : tie.Need-add-result
+unfolding stateOf
+add-result c =
+    let a = c .before .before .before .before .before .before .before .before .pre .1 .1 .0 in
+    record { fits = omega (arith, a .saved-size, a .place, a .round) }
 
 returns-2 : tie.Need-returns-2
 unfolding stateOf
 returns-2 c =
-    let made = c .before in
-    let product = divided (grew (reduced-before made)) in
-    let at = start-of product in
-    let long = grew (reduced-before made) .if1 .left in (
-      rw (c .numbers-saved .ensures)
-          (grows (at .pre .0) (at .pre .1) (is-quotient (at .pre .0) (at .pre .1) (product .product .ensures .0)) (reduced-before made .reduce2 .ensures)
-          (lengths at) (made .inverse .ensures .0) (made .before .keep .ensures) long),
-      saved-grows (at .pre .0) (at .pre .1) (made .before .keep .ensures) long,
+    let kept = c .before in
+    let at = kept .before .before .before .before .before .before .before in
+    let a = at .pre .1 .1 .0 in
+    let z = at .pre .1 .1 .1 in
+    let long = kept .before .before .before .before .if1 .left in
+    let put-in = kept .reduce-keeping .ensures .1 in (
+      grows (positive-at at) a z (kept .reduce-keeping .ensures .0 _ (z .quotients _ (a .sequence)))
+          (c .quotient .ensures .0 ∙ ap (λ (x : ℕ). quotientOf (at .args .f .p) x (at .args .d)) (at .pre .0 .unit)) put-in long,
+      saved-grows (positive-at at) a z put-in long,
     )
 
 pub change-spec : {M : Type 1} → statement M
@@ -105,22 +110,33 @@ change-spec =
     (tie.spec
     (λ c. search needs)
     (λ c. search needs)
+    cast-place
     (λ c. search needs)
     (λ c. search needs)
-    (λ c. search needs)
-    (λ c. search needs)
-    (λ c. search needs)
-    (λ c. search needs)
-    (λ c. search needs)
-    product-requires
+    cast-size
     sub-e
     add-if1
     add-if1-2
+    (λ c. search needs)
+    (λ c. search needs)
     reduce-requires
     returns
-    reduce-requires-2
-    slice-aggregate-keep
-    keep-requires
-    (λ c κs. search needs)
-    numbers-saved-requires
+    (λ c. search needs)
+    (λ c. search needs)
+    reduce-keeping-requires
+    (λ c. search needs)
+    (λ c. search needs)
+    (λ c. search needs)
+    cast-sizes
+    (λ c. search needs)
+    (λ c. search needs)
+    (λ c. search needs)
+    (λ c. search needs)
+    (λ c. search needs)
+    quotient-requires
+    (λ c. search needs)
+    (λ c. search needs)
+    (λ c. search needs)
+    add-result
+    (λ c. search needs)
     returns-2)

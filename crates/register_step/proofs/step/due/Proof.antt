@@ -1,28 +1,28 @@
 -- `due` answers the discrepancy that is due.
+use mathlib.Core.Path.{refl}
 use borrow.Author.Needs.{needs}
-use Rattle.register_step.proofs.Steps.{not-due, is-due}
+use Rattle.register_step.proofs.Sums.{not-due, is-due, summable}
 use Rattle.register_step.proofs.step.due.Statement.{statement}
 use Rattle.register_step.proofs.step.due.Tie as tie
 
-sub-gap : tie.Need-sub-gap
-sub-gap c = search needs
-
-add-if1 : tie.Need-add-if1
-add-if1 c = search needs
-
 returns : tie.Need-returns
-returns c = not-due _ _ _ _ _ (c .if1 .taken)
+returns c = not-due (c .before .pre .1 .1) _ (c .if1 .taken)
 
-sub-discrepancy-at : tie.Need-sub-discrepancy-at
-sub-discrepancy-at c = search needs
-
-discrepancy-at-requires : tie.Need-discrepancy-at-requires
-discrepancy-at-requires c κs = search needs
+sum-at-requires : tie.Need-sum-at-requires
+sum-at-requires c κs = let pre = c .before .pre in summable (pre .1 .1) (c .if1 .left) refl (pre .0) (pre .1 .0)
 
 returns-2 : tie.Need-returns-2
-returns-2 c =
-    let at = c .before in
-    is-due _ _ _ _ _ (at .before .before .pre .1 .shorter) (at .if1 .left) (c .discrepancy-at .ensures)
+returns-2 c = is-due (c .before .before .pre .1 .1) (c .before .if1 .left) _ (c .sum-at .ensures)
 
 pub due-spec : {M : Type 1} → statement M
-due-spec = tie.close (tie.spec sub-gap add-if1 returns sub-discrepancy-at discrepancy-at-requires returns-2)
+due-spec =
+    tie.close
+    (tie.spec
+    (λ c. search needs)
+    (λ c. search needs)
+    returns
+    (λ c. search needs)
+    (λ c. search needs)
+    (λ c. search needs)
+    sum-at-requires
+    returns-2)

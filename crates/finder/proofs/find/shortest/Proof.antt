@@ -1,0 +1,133 @@
+-- `shortest` answers and leaves the register that Algorithm 4 finds.
+use mathlib.Core.Path.{_≡_, subst, sym, _∙_}
+use Prim.Native.Nat.{ℕ, _+_, _-_, _%_, _<_}
+use native.Mathlib.Nat.{mod-lt}
+use native.Mathlib.Omega.{arith}
+use borrow.Author.Needs.{needs}
+use lib.ListN.{length, getD-replicate, length-replicate}
+use Rattle.refusal.specs.Outcome.{passed, outcome}
+use Rattle.sequences.specs.Tests.{tests}
+use Rattle.finder.proofs.Accepted.{Accepted, accepted}
+use Rattle.finder.proofs.Starting.{reached-start}
+use Rattle.finder.proofs.Synthesis.{sortable, startable, reversible, taken, running, size-within, taps-room, buffer-room, markable, finds, finds-same}
+use Rattle.finder.proofs.find.shortest.Statement.{statement}
+use Rattle.finder.proofs.find.shortest.Tie as tie
+
+-- ---- the ways back
+
+abbrev start-of : tie.After-worked-out → tie.Start
+start-of c = c .before .before .before .before
+
+abbrev longest-before : tie.After-rounds → tie.After-longest
+longest-before c = c .before .before .before .before .before .before .before .before .before .before .before .before .before
+
+abbrev sorted-before : tie.After-rounds → tie.After-by-length
+sorted-before c = c .before .before .before .before .before .before .before .before .before .before .before .before
+
+abbrev turned-before : tie.After-rounds → tie.After-all-backwards
+turned-before c = c .before .before .before .before .before .before .before .before .before .before .before
+
+-- ---- what is known of the input, of the modulus as it is worked out
+
+fine-at : (c : tie.After-worked-out) →
+    let args = start-of c .args in
+    Accepted (c .worked-out .result .p) (args .lengths .now) (args .symbols .now) (length (args .taps .now))
+fine-at c =
+    let at = start-of c in
+    subst (λ (q : ℕ). Accepted q (at .args .lengths .now) (at .args .symbols .now) (length (at .args .taps .now))) (sym (c .worked-out .ensures .0))
+    (accepted _ _ _ _ (at .pre))
+
+-- ---- the needs
+
+worked-out-requires : tie.Need-worked-out-requires
+worked-out-requires c κs = taken (accepted _ _ _ _ (c .before .before .before .pre))
+
+cast-moduli : tie.Need-cast-moduli
+cast-moduli c = record { fits = omega (arith, fine-at c .modulus, c .worked-out .ensures .0) }
+
+by-length-requires : tie.Need-by-length-requires
+by-length-requires c κs = sortable (fine-at (c .before))
+
+all-backwards-requires : tie.Need-all-backwards-requires
+all-backwards-requires c κs = reversible (fine-at (c .before .before)) (c .before .longest .ensures) (c .by-length .ensures)
+
+start-requires : tie.Need-start-requires
+start-requires c κs = startable (fine-at (c .before .before .before)) (c .before .before .longest .ensures) (c .before .by-length .ensures)
+
+cast-quotients : tie.Need-cast-quotients
+cast-quotients c =
+    let worked = c .before .before .before .before .before .worked-out .ensures .1 in
+    let t = worked .taken in
+    record { fits = rw (worked .unit) (omega (arith, mod-lt 65536 (let e : 0 < c .before .before .before .before .before .worked-out .result .p = omega (arith, t .two-or-more) in e), t .modulus)) }
+
+rounds-requires : tie.Need-rounds-requires
+rounds-requires c κs =
+    let worked = c .before .before .before .before .before .before .before .before .before .before .before .before .before in
+    let r = running (fine-at worked) (c .before .before .before .before .before .before .before .before .before .before .before .before .longest .ensures) (c .before .before .before .before .before .before .before .before .before .before .before .by-length .ensures) (c .before .before .before .before .before .before .before .before .before .before .all-backwards .ensures) in
+    let known = worked .worked-out .ensures in
+    let p = start-of worked .args .p in (
+      known .1,
+      (
+        record { width = length-replicate {A = ℕ} 144 p; each = λ i b. getD-replicate {A = ℕ} 144 i p 0 b ∙ sym (known .0) },
+        (r, reached-start r (c .before .before .before .before .before .before .before .before .before .start .ensures) (known .1 .unit)),
+      ),
+    )
+
+add-e : tie.Need-add-e
+add-e c =
+    let fine = fine-at (longest-before c .before) in
+    let size = size-within fine (longest-before c .longest .ensures) (sorted-before c .by-length .ensures) (turned-before c .all-backwards .ensures) (c .rounds .ensures) in
+    record { fits = omega (arith, startable fine (longest-before c .longest .ensures) (sorted-before c .by-length .ensures) .longest) }
+
+part-copy-end : tie.Need-part-copy-end
+part-copy-end c =
+    buffer-room (fine-at (longest-before c .before)) (longest-before c .longest .ensures) (sorted-before c .by-length .ensures)
+    (turned-before c .all-backwards .ensures) (c .rounds .ensures)
+
+part-copy-end-2 : tie.Need-part-copy-end-2
+part-copy-end-2 c =
+    let ran = c .before .before in
+    taps-room (fine-at (longest-before ran .before)) (longest-before ran .longest .ensures) (sorted-before ran .by-length .ensures)
+    (turned-before ran .all-backwards .ensures) (ran .rounds .ensures)
+
+alone-requires : tie.Need-alone-requires
+alone-requires c κs =
+    let ran = c .before .before .before .before .before .before .before .before in
+    markable (fine-at (longest-before ran .before)) (longest-before ran .longest .ensures) (sorted-before ran .by-length .ensures)
+    (turned-before ran .all-backwards .ensures) (ran .rounds .ensures)
+
+returns : tie.Need-returns
+returns c =
+    let ran = c .before .before .before .before .before .before .before .before .before in
+    let worked = longest-before ran .before in
+    let at = start-of worked in
+    let same = worked .worked-out .ensures .0 in
+    let passes = subst (λ (q : ℕ). outcome (tests q (at .args .lengths .now) (at .args .symbols .now) (length (at .args .taps .now))) ≡ passed) (sym same) (at .pre) in
+    finds-same same
+    (finds (fine-at worked) (longest-before ran .longest .ensures) (sorted-before ran .by-length .ensures) (turned-before ran .all-backwards .ensures)
+    (ran .rounds .ensures) passes (ran .rounds .result + 1 - 0) (c .alone .ensures) (omega arith) (c .before .before .before .before .before .copy .ensures))
+
+pub shortest-spec : {M : Type 1} → statement M
+shortest-spec =
+    tie.close
+    (tie.spec
+    worked-out-requires
+    cast-moduli
+    (λ c κs. search needs)
+    by-length-requires
+    all-backwards-requires
+    start-requires
+    cast-quotients
+    (λ c. search needs)
+    rounds-requires
+    add-e
+    (λ c. search needs)
+    (λ c. search needs)
+    part-copy-end
+    (λ c. search needs)
+    (λ c. search needs)
+    part-copy-end-2
+    (λ c κs. search needs)
+    alone-requires
+    (λ c. search needs)
+    returns)

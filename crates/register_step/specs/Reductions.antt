@@ -1,0 +1,47 @@
+-- What is asked where the taps are reduced by those that are saved for a sequence, and where they are saved.
+use mathlib.Core.Path.{_≡_}
+use mathlib.Core.List.{List}
+use Prim.Native.Nat.{ℕ, _+_, _*_, _≤_, _<_}
+use lib.ListN.{length, getD}
+use Rattle.register_step.specs.Modulus.{WorkedOut, Moduli}
+use Rattle.register_step.specs.declared.Modulus.{Modulus}
+
+-- zeros follow entry m of block h
+abbrev pub Ended : (saved : List ℕ) (h m : ℕ) → Type 0
+Ended saved h m = (i : ℕ) → m < i → i < 144 → getD saved (h * 144 + i) 0 ≡ 0
+
+-- the taps, residues modulo p, can be reduced by the m + 1 taps saved for h, moved by e
+pub record Reducible (p : ℕ) (taps : List ℕ) (e m : ℕ) (saved : List ℕ) (h : ℕ) : Type 0 where
+  pub reach : e + m ≤ 128
+  pub sequence : h < 8
+  pub width : length taps ≡ 144
+  pub saved-width : length saved ≡ 1152
+  pub residues : (i : ℕ) → getD taps i 0 < p
+  pub zeros : Ended saved h m
+
+-- an odd modulus, the array of it, and a factor
+pub record Odd (f : Modulus) (moduli : List ℕ) (u : ℕ) : Type 0 where
+  pub modulus : WorkedOut f
+  pub not-two : f .p ≡ 2 → ⊥
+  pub lent : Moduli (f .p) moduli
+  pub factor : u < f .p
+
+-- a modulus, the array of it, a discrepancy, and 2^16 over a saved one
+pub record Divided (f : Modulus) (moduli : List ℕ) (d over : ℕ) : Type 0 where
+  pub modulus : WorkedOut f
+  pub lent : Moduli (f .p) moduli
+  pub discrepancy : d < f .p
+  pub residue : over < f .p
+
+-- so many of the taps fit into block h
+pub record Keepable (saved : List ℕ) (h : ℕ) (taps : List ℕ) (end : ℕ) : Type 0 where
+  pub saved-width : length saved ≡ 1152
+  pub sequence : h < 8
+  pub within : end ≤ 144
+  pub enough : end ≤ length taps
+
+-- the register, of length l, grows at h, for which a shorter one is saved: zeros follow both
+pub record Growable (l : ℕ) (taps : List ℕ) (m : ℕ) : Type 0 where
+  pub short : l ≤ 128
+  pub longer : m ≤ l
+  pub zeros : (i : ℕ) → l < i → getD taps i 0 ≡ 0
