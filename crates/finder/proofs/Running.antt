@@ -1,13 +1,13 @@
 -- The rounds on the arrays are those of Algorithm 4 on the sequences in the blocks: what holds when a step is made, and what it leaves.
 use mathlib.Core.Path.{_≡_, refl, sym, ap, ap₂, subst, _∙_}
 use mathlib.Core.List.{List, []}
-use Prim.Native.Nat.{ℕ, suc, _+_, _-_, _*_, _≤_, _<_}
+use Prim.Native.Nat.{ℕ, suc, _+_, _-_, _≤_, _<_}
 use native.Mathlib.Numerals.{add-one}
 use native.Mathlib.Omega.{arith}
 use lib.ListN.{length, getD}
 use Rattle.lists.proofs.Tabulated.{length-tabulate, getD-tabulate}
 use Rattle.register.proofs.Bounds.{Bounded, bounded-later, bounded-turn, bounded-rounds}
-use Rattle.register.specs.Algorithm4.{Saved, State, start, step, turn, rounds}
+use Rattle.register.specs.Algorithm4.{Saved, State, step, turn, rounds}
 use Rattle.register_step.specs.Discrepancies.{InReach, sequenceIn}
 use Rattle.register_step.specs.Progress.{Progress, stateOf, Ready, Stepped}
 use Rattle.finder.specs.Rounds.{Running, Agree, Reached, sequencesIn}
@@ -16,7 +16,7 @@ use Rattle.finder.proofs.Agreement.{agree-step}
 
 module _ (o : Order) (k : ℕ) (blocks : List ℕ) where
   -- sequence h
-  abbrev pub part : ℕ → List ℕ
+  abbrev part : ℕ → List ℕ
   part h = sequenceIn blocks h (getD (o .lengths) h 0)
 
   pub length-sequences : length (sequencesIn o k blocks) ≡ k

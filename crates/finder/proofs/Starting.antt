@@ -1,12 +1,12 @@
 -- The arrays before the first round hold the state that Algorithm 4 starts with.
-use mathlib.Core.Path.{_≡_, refl, sym, ap, ap₂, _∙_}
+use mathlib.Core.Path.{_≡_, refl, sym, ap, _∙_}
 use mathlib.Core.List.{List, [], _∷_}
 use Prim.Native.Nat.{ℕ, zero, suc, _+_, _-_, _*_, _^_, _%_, _≤_, _<_}
 use native.Mathlib.Nat.{mod-eq-of-lt, mod-mod, pow-zero, pow-suc, mul-one}
 use native.Mathlib.Omega.{arith}
-use lib.ListN.{length, getD, take, drop, set, replicate, length-take, length-drop, length-set, length-replicate, getD-replicate}
+use lib.ListN.{length, take, drop, set, replicate, length-take, length-drop, length-set, length-replicate, getD-replicate}
 use lib.Seq.{getD-set-other, take-suc}
-use Rattle.field.specs.Residue.{inverse, quotient}
+use Rattle.field.specs.Residue.{quotient}
 use Rattle.lists.proofs.Entries.{getD-part}
 use Rattle.lists.proofs.Joined.{replicate-each}
 use Rattle.register.specs.Algorithm4.{start, rounds}

@@ -65,7 +65,10 @@ pub record Markable (N : ℕ) (o : Order) (k l : ℕ) (places sizes : List ℕ) 
   pub places-small : (h : ℕ) → h < k → getD places h 0 ≤ 128
   pub sizes-small : (h : ℕ) → h < k → getD sizes h 0 ≤ 128
 
--- the alone mark after all N rounds, read off the arrays
+-- whether nothing of sequence h is free after all N rounds
+abbrev pub markTest : (N : ℕ) → Order → (l : ℕ) (places sizes : List ℕ) (h : ℕ) → Bool
+markTest N o l places sizes h = leb (getD places h 0) (getD sizes h 0 + max (N - l) (N - getD (o .lengths) h 0))
+
+-- the alone mark, read off the arrays
 unfoldable pub aloneMark : (N : ℕ) → Order → (k l : ℕ) (places sizes : List ℕ) → Bool
-aloneMark N o k l places sizes =
-    every k (λ h. leb (getD places h 0) (getD sizes h 0 + max (N - l) (N - getD (o .lengths) h 0)))
+aloneMark N o k l places sizes = every k (markTest N o l places sizes)

@@ -5,6 +5,7 @@ pub mod DataCells
 pub mod Entries
 pub mod Filling
 pub mod Fours
+pub mod Halves
 pub mod Joined
 pub mod Mapped
 pub mod Moving

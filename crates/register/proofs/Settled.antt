@@ -1,5 +1,5 @@
--- A register that answers all that is still asked for is not changed any more: a step that finds no discrepancy leaves the state, so do the rounds in which
--- each step finds none, and so do all rounds to come where the register generates each sequence to its end.
+-- A register that answers all that is still asked for is not changed any more: a step that finds no discrepancy leaves the state, and so do the rounds in which
+-- each step finds none.
 use mathlib.Core.Path.{_≡_, refl, ap, _∙_}
 use mathlib.Core.List.{List, []}
 use Prim.Native.Nat.{ℕ, zero, suc, _+_, _-_, _≤_, _<_}
@@ -8,12 +8,12 @@ use native.Mathlib.Nat.{le-refl}
 use native.Mathlib.Omega.{arith}
 use lib.ListN.{length, getD}
 use Rattle.register.specs.Algorithm4.{State, step, turn, rounds}
-use Rattle.register.specs.Register.{discrepancy, Generates}
+use Rattle.register.specs.Register.{discrepancy}
 use Rattle.register.proofs.Cases.{step-cases}
 
 module _ (p N : ℕ) where
   -- what is asked for at (n, h), s being sequence h, has the discrepancy 0
-  abbrev pub Rests : (s : List ℕ) (n : ℕ) → State → Type 0
+  abbrev Rests : (s : List ℕ) (n : ℕ) → State → Type 0
   Rests s n st = st .size + (N - length s) < n → discrepancy p (st .size) (st .taps) s (n + length s - N) ≡ 0
 
   step-rests : (s : List ℕ) (n h : ℕ) (st : State) → Rests s n st → step p N s n h st ≡ st
@@ -40,9 +40,3 @@ module _ (p N : ℕ) where
         pick (no e) before =
             ap (turn p N ss (suc m) (length ss)) (before (omega arith) (λ k a b. rests k a (omega arith)))
             ∙ turn-rests (suc m) (length ss) (rounds p N ss n) (rests (suc m) (omega arith) (le-refl (suc m)))
-
-    -- a register that generates each sequence to its end is the one found
-    pub generates-settled : (n : ℕ) → n ≤ N →
-        ((h : ℕ) → h < length ss → Generates p (rounds p N ss n .size) (rounds p N ss n .taps) (getD ss h [])) → rounds p N ss N ≡ rounds p N ss n
-    generates-settled n le generates =
-        settled n N le (λ k _ within h l asked. generates h l (k + length (getD ss h []) - N) (omega arith) (omega arith))

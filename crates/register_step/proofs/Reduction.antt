@@ -130,7 +130,7 @@ each-modulus P lent holds r other = subst P (sym (lent .each 0 (omega arith)) �
 -- ---- the factors of a turn modulo an odd p, whose inverse modulo 2^16 is v: z, read from the array, is p, and w is z less (p − u)
 
 module _ {p u z w : ℕ} (read : z ≡ p) (factor : w ≡ z - (p - u)) (small : u < p) where
-  pub factor-back : w ≡ u
+  factor-back : w ≡ u
   factor-back = omega arith
 
   -- what `less_product` requires

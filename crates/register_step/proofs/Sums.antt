@@ -1,6 +1,6 @@
 -- The products that a discrepancy sums: they are small, those past the register are 0, and the symbols before one are those after it where the sequence stands
 -- backwards.
-use mathlib.Core.Path.{_≡_, refl, sym, ap, ap₂, _∙_}
+use mathlib.Core.Path.{_≡_, sym, ap, _∙_}
 use mathlib.Core.List.{List}
 use Prim.Native.Nat.{ℕ, suc, _+_, _-_, _*_, _/_, _%_, _≤_, _<_}
 use native.Mathlib.Decide.{decLe}
@@ -17,7 +17,7 @@ use Rattle.register.specs.Sequences.{symbol}
 use Rattle.register_step.specs.Discrepancies.{Ending, InReach, Summable, sumAt, sequenceIn, dueAt}
 use Rattle.register_step.specs.Modulus.{WorkedOut}
 use Rattle.register_step.specs.declared.Modulus.{Modulus}
-use Rattle.register_step.proofs.Halves.{Halved, total-first, past-last}
+use Rattle.lists.proofs.Halves.{Halved, total-first, past-last}
 
 module _ {f : Modulus} {l : ℕ} {taps symbols : List ℕ} {from : ℕ} (s : Summable f l taps symbols from) where
   abbrev term : ℕ → ℕ

@@ -7,10 +7,10 @@ use native.Mathlib.Omega.{arith}
 use lib.ListN.{length, getD, set, length-replicate}
 use Rattle.field257.specs.Montgomery.{companion, montgomery}
 use Rattle.lists.specs.Tabulate.{tabulate}
-use Rattle.lists.proofs.Filling.{Filled, filled-none, filled-more, filled-rest, filled-all}
+use Rattle.lists.proofs.Filling.{Filled, filled-more, filled-rest, filled-all}
 use Rattle.lists.proofs.Tabulated.{length-tabulate, getD-tabulate}
 use Rattle.lists.proofs.Zeros.{zeros, zeros-entry}
-use Rattle.search.specs.Values.{Factors, Steppable}
+use Rattle.search.specs.Values.{Steppable}
 use Rattle.weights.specs.Weights.{carried}
 use Rattle.weights.proofs.Division.{carried-zero, carried-more}
 

@@ -1,6 +1,5 @@
 -- `field257::light::light` meets its contract.
 use native.Mathlib.Omega.{arith}
-use borrow.Author.Needs.{needs}
 use Rattle.field257.proofs.light.light.Statement.{statement}
 use Rattle.field257.proofs.light.light.Tie as tie
 

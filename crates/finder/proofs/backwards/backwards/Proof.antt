@@ -1,5 +1,5 @@
 -- `backwards` writes the last entry first. The invariant: the entries passed are written.
-use mathlib.Core.Path.{ap, refl, _∙_}
+use mathlib.Core.Path.{ap, _∙_}
 use Prim.Native.Nat.{ℕ, suc, _-_}
 use native.Mathlib.Omega.{arith}
 use borrow.Author.Needs.{needs}

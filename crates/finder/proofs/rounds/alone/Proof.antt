@@ -4,8 +4,8 @@ use mathlib.Core.Bool.{true}
 use Prim.Native.Nat.{_-_}
 use native.Mathlib.Omega.{arith}
 use borrow.Author.Needs.{needs}
-use Rattle.finder.specs.Rounds.{aloneMark}
-use Rattle.finder.proofs.Marking.{markTest, mark-passes, mark-fails}
+use Rattle.finder.specs.Rounds.{aloneMark, markTest}
+use Rattle.finder.proofs.Marking.{mark-passes, mark-fails}
 use Rattle.lists.proofs.Testing.{Tested, tested-none, tested-out, tested-pass, tested-all}
 use Rattle.finder.proofs.rounds.alone.Statement.{statement}
 use Rattle.finder.proofs.rounds.alone.Tie as tie

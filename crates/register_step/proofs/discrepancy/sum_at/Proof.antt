@@ -1,11 +1,11 @@
 -- `sum_at` sums the products. The invariant: the halves are those of the products passed.
-use mathlib.Core.Path.{_≡_, ap, _∙_}
+use mathlib.Core.Path.{ap, _∙_}
 use mathlib.Core.List.{List}
 use Prim.Native.Nat.{ℕ, _+_, _-_, _*_, _%_, _<_}
 use native.Mathlib.Omega.{arith}
 use borrow.Author.Needs.{needs}
 use lib.ListN.{getD}
-use Rattle.register_step.proofs.Halves.{Halved, halved-none, halved-more, half-fits}
+use Rattle.lists.proofs.Halves.{Halved, halved-none, halved-more, half-fits}
 use Rattle.register_step.proofs.Sums.{top-small, whole, whole-below}
 use Rattle.register_step.proofs.discrepancy.sum_at.Statement.{statement}
 use Rattle.register_step.proofs.discrepancy.sum_at.Tie as tie

@@ -4,7 +4,7 @@ use Prim.Native.Nat.{_+_, _*_, _/_}
 use native.Mathlib.Omega.{arith}
 use borrow.Author.Needs.{needs}
 use Rattle.register_step.proofs.Blocks.{front-replaced}
-use Rattle.register_step.proofs.Halves.{past-last}
+use Rattle.lists.proofs.Halves.{past-last}
 use Rattle.register_step.proofs.reduce.reduce_keeping.Statement.{statement}
 use Rattle.register_step.proofs.reduce.reduce_keeping.Tie as tie
 

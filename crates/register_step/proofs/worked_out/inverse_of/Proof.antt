@@ -1,5 +1,4 @@
 -- `inverse_of` answers the inverse of an odd modulus.
-use native.Mathlib.Omega.{arith}
 use borrow.Author.Needs.{needs}
 use Rattle.register_step.proofs.worked_out.inverse_of.Statement.{statement}
 use Rattle.register_step.proofs.worked_out.inverse_of.Tie as tie

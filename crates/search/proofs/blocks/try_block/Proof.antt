@@ -5,7 +5,6 @@ use mathlib.Core.Bool.{true, false}
 use Prim.Native.Nat.{ℕ, _-_, _%_}
 use native.Mathlib.Omega.{arith}
 use lib.ListN.{getD}
-use borrow.Author.Needs.{needs}
 use Rattle.columns.specs.Columns.{marking}
 use Rattle.decoding.specs.Locating.{isRoot}
 use Rattle.search.proofs.Trials.{InBlock, room, starts-cut, starts-whole, size-powers, factors, root-here, other-here, sound-words}

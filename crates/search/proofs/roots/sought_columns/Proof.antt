@@ -1,5 +1,5 @@
 -- `search::roots::sought_columns` meets its contract: blocks are tried up to the last column to find.
-use mathlib.Core.Path.{_≡_, refl, _∙_}
+use mathlib.Core.Path.{refl, _∙_}
 use Prim.Native.Nat.{_-_, _<_}
 use native.Mathlib.Omega.{arith}
 use borrow.Author.Needs.{needs}

@@ -1,11 +1,10 @@
 -- Products summed by halves of 16 bits, up to a multiple of 8 of them, of which those past the first few are 0.
-use mathlib.Core.Path.{_≡_, sym, ap, ap₂, _∙_}
-use Prim.Native.Nat.{ℕ, suc, _+_, _-_, _*_, _/_, _%_, _≤_, _<_, zero-le}
-use native.Mathlib.Nat.{mul-le-mul, mul-le-mul-right}
+use mathlib.Core.Path.{_≡_, sym, ap, _∙_}
+use Prim.Native.Nat.{ℕ, _+_, _-_, _*_, _/_, _%_, _≤_, _<_, zero-le}
 use native.Mathlib.Numerals.{add-one}
 use native.Mathlib.Omega.{arith}
 use Rattle.lists.specs.Total.{total}
-use Rattle.lists.proofs.Totals.{total-zero, total-suc, total-ext, total-bound, total-split}
+use Rattle.lists.proofs.Totals.{total-zero, total-suc, total-bound, total-split}
 
 -- k of n terms are summed: the lower halves, and the upper ones
 pub record Halved (n : ℕ) (f : ℕ → ℕ) (k low high : ℕ) : Type 0 where
