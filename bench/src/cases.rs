@@ -87,7 +87,7 @@ pub fn all() -> Vec<Case> {
         ..SMALL
     };
     cases.extend(small.calls(&[0, 2, 4]));
-    // The search for the columns ends with the last of them.
+    // The search for the columns ends with the block of the last of them.
     let first_to_last: [&[usize]; 6] = [&[0], &[128], &[255], &[0, 1], &[127, 128], &[254, 255]];
     for columns in first_to_last {
         let hit = Hit::At(columns);

@@ -38,16 +38,6 @@ pub fn mark(words: &mut [u64; 4], i: usize)
     words[w] = words[w] | (1u64 << (i % 64));
 }
 
-// The set with column i besides.
-pub fn with(c: Columns, i: usize) -> Columns
-    requires { ⌜ i < 256 ⌝ }
-    ensures { λ r. ⌜ r ≡ columnsOf (λ k. has c k || eqb k i) ⌝ }
-{
-    let mut words = c.words;
-    mark(&mut words, i);
-    Columns { words }
-}
-
 // The columns of either set.
 pub fn either(a: Columns, b: Columns) -> Columns
     ensures { λ r. ⌜ r ≡ either a b ⌝ }

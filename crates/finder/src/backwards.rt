@@ -17,7 +17,7 @@ fn backwards(to: &mut [u16], s: &[u16])
     }
 }
 
-// Each of the first sequences in its block, and zeros after it.
+// Each of the first sequences in its block.
 pub fn all_backwards(order: Order, count: usize, symbols: &[u16]) -> [u16; 1152]
     requires { ⌜ Reversible order count (now symbols) ⌝ }
     ensures { λ r. ⌜ Backwards order count (now (symbols .entry)) r ⌝ }

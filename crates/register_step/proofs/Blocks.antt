@@ -11,10 +11,10 @@ use Rattle.lists.proofs.Entries.{getD-part, getD-take-past}
 use Rattle.lists.specs.Parts.{replaced}
 use Rattle.lists.proofs.Parts.{length-replaced, part-replaced, replaced-before, replaced-in, replaced-after}
 use Rattle.register_step.specs.Progress.{block}
-use Rattle.register_step.specs.Reductions.{Ended}
+use Rattle.register_step.specs.Reductions.{ZerosAfter}
 
 -- entry i of the m + 1 taps that are saved for h, or 0 past them
-pub saved-at : (saved : List ℕ) (h m i : ℕ) → Ended saved h m → i < 144 → getD saved (h * 144 + i) 0 ≡ getD (take (suc m) (block h saved)) i 0
+pub saved-at : (saved : List ℕ) (h m i : ℕ) → ZerosAfter saved h m → i < 144 → getD saved (h * 144 + i) 0 ≡ getD (take (suc m) (block h saved)) i 0
 saved-at saved h m i zeros inside = pick (decLt m i)
   where
     pick : Dec (m < i) → getD saved (h * 144 + i) 0 ≡ getD (take (suc m) (block h saved)) i 0
@@ -57,7 +57,7 @@ module _ (h : ℕ) (y saved : List ℕ) (len : length y ≡ 144) (whole : length
       length-block l = length-take 144 (drop (g * 144) l) ∙ ap (λ (n : ℕ). min 144 n) (length-drop (g * 144) l)
 
   -- the first entries are enough where nothing but zeros follows them, in y and in the block before
-  pub front-replaced : (end l m : ℕ) → end ≤ 144 → l < end → m ≤ l → ((i : ℕ) → l < i → getD y i 0 ≡ 0) → Ended saved h m
+  pub front-replaced : (end l m : ℕ) → end ≤ 144 → l < end → m ≤ l → ((i : ℕ) → l < i → getD y i 0 ≡ 0) → ZerosAfter saved h m
       → replaced (h * 144) end saved (take end y) ≡ replaced (h * 144) 144 saved y
   front-replaced end l m within past longer zeros ended =
       ext-getD 0 (replaced (h * 144) end saved (take end y)) (replaced (h * 144) 144 saved y)

@@ -18,8 +18,7 @@ use Rattle.lists.specs.Parts.{replaced}
 use Rattle.register.proofs.Cases.{changed-cases, grown, stayed}
 use Rattle.register.specs.Algorithm4.{Saved, State, changed, withSaved}
 use Rattle.register_step.specs.Progress.{Progress, Whole, block, stateOf, Ended, Changeable, Stepped, savedAfter, saving}
-use Rattle.register_step.specs.Reductions.{Growable, Reducible}
-use Rattle.register_step.specs.Reductions as reductions
+use Rattle.register_step.specs.Reductions.{Growable, Reducible, ZerosAfter}
 use Rattle.register_step.proofs.Blocks.{block-replaced, block-other, replaced-whole, replaced-entry, other-entry}
 use Rattle.register_step.proofs.Reduction.{minus-zero, shifted-past}
 
@@ -230,7 +229,7 @@ module _ {p n h d : ℕ} {g : Progress} {taps saved : List ℕ}
           pick (yes same) = rw (same, getD-set-same (g .sizes) h (g .length) 0 (omega (arith, bounds, z .whole .sizes))) more
           pick (no ne) = rw (getD-set-other (g .sizes) h k (g .length) 0 ne) (omega (arith, z .shorter k b))
 
-      zeros-kept : (k : ℕ) → k < 8 → reductions.Ended kept k (getD (set (g .sizes) h (g .length)) k 0)
+      zeros-kept : (k : ℕ) → k < 8 → ZerosAfter kept k (getD (set (g .sizes) h (g .length)) k 0)
       zeros-kept k b i past small = ap (λ (l : List ℕ). getD l (k * 144 + i) 0) put-in ∙ pick (ℕ-discrete k h)
         where
           pick : Dec (k ≡ h) → getD (replaced (h * 144) 144 saved taps) (k * 144 + i) 0 ≡ 0

@@ -30,18 +30,19 @@ pub record Summable (f : Modulus) (l : ℕ) (taps symbols : List ℕ) (from : �
   pub below : (i : ℕ) → i ≤ l → getD symbols (from + i) 0 < f .p
 
 -- the sequence of so many symbols that stands backwards in block h
-unfoldable pub sequenceIn : (symbols : List ℕ) (h size : ℕ) → List ℕ
-sequenceIn symbols h size = tabulate size (λ i. getD symbols (h * 144 + (size - suc i)) 0)
+unfoldable pub sequenceIn : (symbols : List ℕ) (h long : ℕ) → List ℕ
+sequenceIn symbols h long = tabulate long (λ i. getD symbols (h * 144 + (long - suc i)) 0)
 
 -- the discrepancy at (n, h) of a register of length l with the taps σ, s being sequence h, or 0 where nothing is asked for
 unfoldable pub dueAt : (p N l : ℕ) (σ s : List ℕ) (n : ℕ) → ℕ
 dueAt p N l σ s n = cond (ltb (l + (N - length s)) n) (discrepancy p l σ s (n + length s - N)) 0
 
--- round n is one of the N rounds, N being 128 at most: sequence h is no longer than N, and the register, of length l, no longer than n
-pub record InReach (p N l h size n : ℕ) (symbols : List ℕ) : Type 0 where
+-- round n is one of the N rounds, N being 128 at most: sequence h, whose symbols are residues, is no longer than N, and the register, of length l, no longer
+-- than n
+pub record InReach (p N l h long n : ℕ) (symbols : List ℕ) : Type 0 where
   pub longest : N ≤ 128
-  pub shorter : size ≤ N
+  pub shorter : long ≤ N
   pub grown : l ≤ n
   pub round : n ≤ N
   pub sequence : h < 8
-  pub below : (i : ℕ) → i < size → getD symbols (h * 144 + i) 0 < p
+  pub below : (i : ℕ) → i < long → getD symbols (h * 144 + i) 0 < p

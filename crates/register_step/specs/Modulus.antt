@@ -11,6 +11,7 @@ pub record Taken (p : ℕ) : Type 0 where
   pub modulus : p ≤ 65521
   pub odd : (p ≡ 2 → ⊥) → p % 2 ≡ 1
 
+-- what is worked out of p is right
 pub record WorkedOut (f : Modulus) : Type 0 where
   pub taken : Taken (f .p)
   pub wide : f .wide ≡ 1099511627776 / f .p

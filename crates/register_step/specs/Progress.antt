@@ -10,7 +10,7 @@ use lib.ListN.{length, getD, set, take, drop}
 use Rattle.field.specs.Residue.{quotient}
 use Rattle.lists.specs.Parts.{replaced}
 use Rattle.register.specs.Algorithm4.{State}
-use Rattle.register_step.specs.Reductions as reductions
+use Rattle.register_step.specs.Reductions.{ZerosAfter}
 
 -- what is kept besides the taps
 pub record Progress : Type 0 where
@@ -20,6 +20,7 @@ pub record Progress : Type 0 where
   pub discs : List ℕ
   pub quotients : List ℕ
 
+-- the same of a length and four arrays
 abbrev pub progress : (l : ℕ) (places sizes discs quotients : List ℕ) → Progress
 progress l places sizes discs quotients = record { length = l; places = places; sizes = sizes; discs = discs; quotients = quotients }
 
@@ -27,6 +28,7 @@ progress l places sizes discs quotients = record { length = l; places = places; 
 abbrev pub block : ℕ → List ℕ → List ℕ
 block h saved = take 144 (drop (h * 144) saved)
 
+-- the state of Algorithm 4 that the arrays hold
 unfoldable pub stateOf : Progress → (taps saved : List ℕ) → State
 stateOf g taps saved =
     record {
@@ -55,7 +57,7 @@ pub record Ended (p : ℕ) (g : Progress) (taps saved : List ℕ) : Type 0 where
   pub saved-width : length saved ≡ 1152
   pub zeros : (i : ℕ) → g .length < i → getD taps i 0 ≡ 0
   pub shorter : (h : ℕ) → h < 8 → getD (g .sizes) h 0 ≤ g .length
-  pub saved-zeros : (h : ℕ) → h < 8 → reductions.Ended saved h (getD (g .sizes) h 0)
+  pub saved-zeros : (h : ℕ) → h < 8 → ZerosAfter saved h (getD (g .sizes) h 0)
   pub quotients : (h : ℕ) → h < 8 → getD (g .quotients) h 0 ≡ quotient p (65536 % p) (getD (g .discs) h 0)
 
 -- what holds of the state whenever a step (n, h) is made: nothing overflows and no index is out of range
@@ -96,7 +98,7 @@ saving n h d c g =
       quotients = set (g .quotients) h c;
     }
 
--- what one step leaves: the state of the definition, and arrays as they were
+-- what one step leaves: the state of the definition, and arrays as they have to be
 pub record Stepped (p : ℕ) (st : State) (g : Progress) (taps saved : List ℕ) : Type 0 where
   pub state : stateOf g taps saved ≡ st
   pub ended : Ended p g taps saved

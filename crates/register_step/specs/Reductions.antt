@@ -7,8 +7,8 @@ use Rattle.register_step.specs.Modulus.{WorkedOut, Moduli}
 use Rattle.register_step.specs.declared.Modulus.{Modulus}
 
 -- zeros follow entry m of block h
-abbrev pub Ended : (saved : List ℕ) (h m : ℕ) → Type 0
-Ended saved h m = (i : ℕ) → m < i → i < 144 → getD saved (h * 144 + i) 0 ≡ 0
+abbrev pub ZerosAfter : (saved : List ℕ) (h m : ℕ) → Type 0
+ZerosAfter saved h m = (i : ℕ) → m < i → i < 144 → getD saved (h * 144 + i) 0 ≡ 0
 
 -- the taps, residues modulo p, can be reduced by the m + 1 taps saved for h, moved by e
 pub record Reducible (p : ℕ) (taps : List ℕ) (e m : ℕ) (saved : List ℕ) (h : ℕ) : Type 0 where
@@ -17,7 +17,7 @@ pub record Reducible (p : ℕ) (taps : List ℕ) (e m : ℕ) (saved : List ℕ) 
   pub width : length taps ≡ 144
   pub saved-width : length saved ≡ 1152
   pub residues : (i : ℕ) → getD taps i 0 < p
-  pub zeros : Ended saved h m
+  pub zeros : ZerosAfter saved h m
 
 -- an odd modulus, the array of it, and a factor
 pub record Odd (f : Modulus) (moduli : List ℕ) (u : ℕ) : Type 0 where
@@ -40,7 +40,7 @@ pub record Keepable (saved : List ℕ) (h : ℕ) (taps : List ℕ) (end : ℕ) :
   pub within : end ≤ 144
   pub enough : end ≤ length taps
 
--- the register, of length l, grows at h, for which a shorter one is saved: zeros follow both
+-- the register, of length l and with zeros after it, is to be saved in the place of one that is no longer, of length m
 pub record Growable (l : ℕ) (taps : List ℕ) (m : ℕ) : Type 0 where
   pub short : l ≤ 128
   pub longer : m ≤ l

@@ -1,5 +1,5 @@
-// One step of Algorithm 4 on arrays: the discrepancy that is due at a symbol, and the change of the register by it. The state is kept in lent arrays, so
-// that a step moves what it changes and no more. Arrays are a little longer than a register, with zeros after it: loops go on to a multiple of 8 entries,
+// One step of Algorithm 4 on arrays: the discrepancy that is due at a symbol, and the change of the register by it. The state is kept in lent arrays and
+// changed in place. Arrays are a little longer than a register, with zeros after it: loops go on to a multiple of 8 entries,
 // and none is left for the compiler to do one by one.
 pub mod copy;
 mod discrepancy;

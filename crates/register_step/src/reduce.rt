@@ -94,7 +94,8 @@ fn keep(saved: &mut [u16], h: usize, taps: &[u16], end: usize)
     copy(&mut saved[a..e], &taps[0..end])
 }
 
-// The same reduction where the register, of length l, grows: its taps before it become what is saved for sequence h.
+// The same reduction where the register, of length l, grows: its taps before it become what is saved for sequence h. They are copied first, since the
+// reduction still reads the block that they go to.
 pub fn reduce_keeping(
     f: Modulus,
     moduli: &[u16; 144],

@@ -10,8 +10,7 @@ ghost use Rattle.register_step.specs.Discrepancies.{Ending, InReach, due
 ghost use Rattle.register_step.specs.Modulus.{WorkedOut, Moduli};
 ghost use Rattle.register_step.specs.Progress.{Changeable, Ended, Stepped, progress, savedAfter, stateOf};
 
-// The discrepancy at (n, h) of a register of length l, or 0 where nothing is asked for. Sequence h, of so many symbols, stands backwards in its block of the
-// symbols.
+// The discrepancy at (n, h) of a register of length l, or 0 where nothing is asked for. Sequence h, `long` symbols, stands backwards in its block of the symbols.
 pub fn due(
     f: Modulus,
     longest: usize,
@@ -19,22 +18,22 @@ pub fn due(
     taps: &[u16; 144],
     symbols: &[u16; 1152],
     h: usize,
-    size: usize,
+    long: usize,
     n: usize,
 ) -> u32
     requires { ⌜ WorkedOut f ⌝ }
     requires { ⌜ Ending (f .p) l (now taps) ⌝ }
-    requires { ⌜ InReach (f .p) longest l h size n (now symbols) ⌝ }
-    ensures { λ r. ⌜ r ≡ dueAt (f .p) longest l (now (taps .entry)) (sequenceIn (now (symbols .entry)) h size) n ⌝ }
+    requires { ⌜ InReach (f .p) longest l h long n (now symbols) ⌝ }
+    ensures { λ r. ⌜ r ≡ dueAt (f .p) longest l (now (taps .entry)) (sequenceIn (now (symbols .entry)) h long) n ⌝ }
 {
-    let gap = longest - size;
+    let gap = longest - long;
     if n <= l + gap {
         return 0;
     }
     sum_at(f, l, taps, symbols, h * 144 + (longest - n))
 }
 
-// The change by a discrepancy d at (n, h), and the length of the register after it.
+// The change by a discrepancy d at (n, h), and the length of the register after it. No code reads `discs`: the state of the definition is read off it.
 pub fn change(
     f: Modulus,
     moduli: &[u16; 144],

@@ -20,7 +20,7 @@ use Rattle.field257.proofs.PowerTable.{table-power}
 use Rattle.lists.proofs.Entries.{getD-part}
 use Rattle.lists.proofs.Tabulated.{length-tabulate}
 use Rattle.search.specs.Block.{Searching, Blockable, Tried}
-use Rattle.search.specs.Values.{Factors}
+use Rattle.search.specs.Values.{Points}
 use Rattle.weights.specs.Weights.{carried}
 use Rattle.weights.proofs.CarriedRoot.{carried-root}
 
@@ -88,7 +88,7 @@ module _ (σ : List ℕ) (n from : ℕ) where
         getD-part from (from + 64 - from) powers j 0 (omega arith)
         ∙ ap (λ (y : List ℕ). getD y (from + j) 0) (asked .powers-known) ∙ table-power (from + j) (let r = room in omega arith)
 
-    pub factors : Factors lent
+    pub factors : Points lent
     factors = record { size = size-lent; small = λ j l. (let e = locator-at j l in omega arith) }
 
     -- v has the values there

@@ -9,17 +9,17 @@ pub struct Trial {
     pub tried: usize,
 }
 
-// Tries the 64 columns from `from` on, as far as there are columns, and ends with the last one to find, of which `most` are left. A column is a root where the
-// reversed taps have the value 0 at its locator.
+// Works out the values at the 64 columns from `from` on, then tries these, as far as there are columns, and ends with the last one to find, of which `wanted`
+// are left. A column is a root where the reversed taps have the value 0 at its locator.
 pub fn try_block(
     powers: &[u16],
     taps: &[u16],
     columns: usize,
     from: usize,
-    most: usize,
+    wanted: usize,
     words: &mut [u64; 4],
 ) -> Trial
-    requires { ⌜ Blockable (now powers) (now taps) columns from most (now words) ⌝ }
+    requires { ⌜ Blockable (now powers) (now taps) columns from wanted (now words) ⌝ }
     ensures { λ r. ⌜ Tried (now (taps .entry)) columns from (now (words .exit)) r ⌝ }
 {
     let end = from + 64;
@@ -28,7 +28,7 @@ pub fn try_block(
     if columns < end {
         to = columns;
     }
-    let mut left = most;
+    let mut left = wanted;
     let mut i = from;
     while i < to {
         if v[i - from] % 257 == 0 {

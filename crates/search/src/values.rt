@@ -7,7 +7,7 @@ ghost use Prim.Native.Nat.{ℕ, _+_, _%_, _<_};
 ghost use lib.ListN.{length, getD};
 ghost use Rattle.field257.specs.Montgomery.{montgomery};
 ghost use Rattle.lists.specs.Tabulate.{tabulate};
-ghost use Rattle.search.specs.Values.{Factors, Steppable};
+ghost use Rattle.search.specs.Values.{Points, Steppable};
 ghost use Rattle.weights.specs.Weights.{carried};
 
 // Horner's rule at the factors x, which have the companions z, goes on by one tap. Nothing is reduced.
@@ -24,7 +24,7 @@ fn step(tap: u16, x: &[u16], z: &[u16; 64], v: &mut [u16; 64])
 
 // The values of the reversed taps at the factors x: from the first tap on, none of them reduced.
 pub fn values(taps: &[u16], x: &[u16]) -> [u16; 64]
-    requires { ⌜ Factors (now x) ⌝ }
+    requires { ⌜ Points (now x) ⌝ }
     ensures { λ r. ⌜ ((i : ℕ) → i < 64 → getD r i 0 % 257 ≡ carried (now (taps .entry)) (getD (now (x .entry)) i 0) (length (now (taps .entry)))) ⌝ }
 {
     let z = companions(x);

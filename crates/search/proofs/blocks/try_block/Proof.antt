@@ -13,10 +13,10 @@ use Rattle.search.proofs.blocks.try_block.Statement.{statement}
 use Rattle.search.proofs.blocks.try_block.Tie as tie
 
 abbrev Inv-loop : tie.InvT-loop
-Inv-loop powers taps columns from most words₀ end v to left₀ i₀ words left i = InBlock taps columns from to i left words
+Inv-loop powers taps columns from wanted words₀ end v to left₀ i₀ words left i = InBlock taps columns from to i left words
 
 abbrev μ-loop : tie.MeasureT-loop
-μ-loop powers taps columns from most words₀ end v to left₀ i₀ words left i = to - i
+μ-loop powers taps columns from wanted words₀ end v to left₀ i₀ words left i = to - i
 
 -- the ways back
 abbrev start-of : tie.After-values Inv-loop μ-loop → tie.Start Inv-loop μ-loop
