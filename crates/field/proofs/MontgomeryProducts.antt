@@ -56,7 +56,7 @@ module _ (p i : ℕ) (inverse : (p * i) % 65536 ≡ 1) where
       ∙ ap (λ (x : ℕ). x % 65536) (mul-one u)
 
   -- 2^16 can be cancelled modulo p: it has the inverse c there
-  cancel : (r s : ℕ) → (65536 * r) % p ≡ (65536 * s) % p → r % p ≡ s % p
+  pub cancel : (r s : ℕ) → (65536 * r) % p ≡ (65536 * s) % p → r % p ≡ s % p
   cancel r s e = sym (back r) ∙ ap (λ (x : ℕ). (x * c) % p) e ∙ back s
     where
       w : ℕ

@@ -6,6 +6,7 @@ pub mod Reasons
 pub mod Refusing
 pub mod Reversing
 pub mod Running
+pub mod Settling
 pub mod Starting
 pub mod Synthesis
 pub mod Zeros

@@ -46,6 +46,11 @@ module _ {p N : ℕ} {o : Order} {k : ℕ} {blocks : List ℕ} (r : Running p N 
       bounded-turn p N ss (r .two-or-more) (n + 1) h (rounds p N ss n)
       (bounded-later p N ss (r .two-or-more) n (n + 1) (rounds p N ss n) (omega arith) (bounded-rounds p N ss (r .two-or-more) n))
 
+  -- a register is no longer than the rounds that found it
+  pub found-within : (n : ℕ) {g : Progress} {taps saved : List ℕ} → Reached p k (rounds p N ss n) g taps saved → g .length ≤ n
+  unfolding stateOf
+  found-within n reached = omega (arith, reached .state .size, bounded-rounds p N ss (r .two-or-more) n .size)
+
   pub positive : 0 < p
   positive = omega (arith, r .two-or-more)
 
@@ -106,6 +111,5 @@ module _ {p N : ℕ} {o : Order} {k : ℕ} {blocks : List ℕ} (r : Running p N 
           ap (rounds p N ss) (add-one n) ∙ rounds-suc p N ss n
           ∙ ap₂ (λ (m j : ℕ). turn p N ss m j (rounds p N ss n)) (sym (add-one n)) (length-sequences o k blocks)
 
-  pub all-run : (n : ℕ) {g : Progress} {taps saved : List ℕ} →
-      n ≡ N → Reached p k (rounds p N ss n) g taps saved → Reached p k (rounds p N ss N) g taps saved
-  all-run n {g} {taps} {saved} all = subst (λ (m : ℕ). Reached p k (rounds p N ss m) g taps saved) all
+  pub all-run : (n m : ℕ) {g : Progress} {taps saved : List ℕ} → n ≡ m → Reached p k (rounds p N ss n) g taps saved → Reached p k (rounds p N ss m) g taps saved
+  all-run n m {g} {taps} {saved} = subst (λ (j : ℕ). Reached p k (rounds p N ss j) g taps saved)

@@ -32,7 +32,7 @@ use Rattle.sequences.specs.declared.Order.{Order}
 use Rattle.finder.proofs.Accepted.{Accepted, lengths-split}
 use Rattle.sequences.proofs.Insertion.{length-within}
 use Rattle.register.proofs.Largest.{largest-bound}
-use Rattle.finder.proofs.Running.{length-part, length-sequences, sequence-at}
+use Rattle.finder.proofs.Running.{found-within, length-part, length-sequences, sequence-at}
 
 -- the mark read off the arrays is that of the state that they hold
 mark-is : (N : ℕ) (o : Order) (k : ℕ) (blocks : List ℕ) (g : Progress) (taps saved : List ℕ) (st : State) →
@@ -120,8 +120,7 @@ module _ {p : ℕ} {lengths symbols : List ℕ} {room : ℕ} (fine : Accepted p 
         bounded = bounded-rounds p N (sequencesIn o k blocks) (running .two-or-more) N
 
         pub size-within : g .length ≤ N
-        unfolding stateOf
-        size-within = omega (arith, reached .state .size, bounded .size)
+        size-within = found-within running N reached
 
         pub taps-room : g .length + 1 ≤ length taps
         taps-room = let width = reached .ended .width in omega (arith, size-within, running .longest)

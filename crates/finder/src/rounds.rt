@@ -3,8 +3,9 @@ use register_step::Modulus;
 use register_step::step::change;
 use register_step::step::due;
 use sequences::Order;
+use settled::test::is_settled;
 ghost use mathlib.Core.Path.{_≡_};
-ghost use Prim.Native.Nat.{_+_, _<_, min};
+ghost use Prim.Native.Nat.{_+_, _≤_, _<_, min};
 ghost use Rattle.register.specs.Algorithm4.{rounds as roundsOf};
 ghost use Rattle.register_step.specs.Modulus.{WorkedOut, Moduli};
 ghost use Rattle.register_step.specs.Progress.{progress};
@@ -84,6 +85,75 @@ fn round(
     l
 }
 
+// The rounds from + 1 .. to.
+fn advance(
+    f: Modulus,
+    moduli: &[u16; 144],
+    longest: usize,
+    symbols: &[u16; 1152],
+    order: Order,
+    count: usize,
+    from: usize,
+    to: usize,
+    length: usize,
+    places: &mut [u16; 8],
+    sizes: &mut [u16; 8],
+    discs: &mut [u16; 8],
+    quotients: &mut [u16; 8],
+    taps: &mut [u16; 144],
+    saved: &mut [u16; 1152],
+) -> usize
+    requires { ⌜ WorkedOut f ⌝ }
+    requires { ⌜ Moduli (f .p) (now moduli) ⌝ }
+    requires { ⌜ Running (f .p) longest order count (now symbols) ⌝ }
+    requires { ⌜ (from ≤ to) × (to ≤ longest) ⌝ }
+    requires { ⌜ Reached (f .p) count (roundsOf (f .p) longest (sequencesIn order count (now symbols)) from)
+        (progress length (now places) (now sizes) (now discs) (now quotients)) (now taps) (now saved) ⌝ }
+    ensures { λ r. ⌜ Reached (f .p) count (roundsOf (f .p) longest (sequencesIn order count (now (symbols .entry))) to)
+        (progress r (now (places .exit)) (now (sizes .exit)) (now (discs .exit)) (now (quotients .exit))) (now (taps .exit)) (now (saved .exit)) ⌝ }
+{
+    let mut l = length;
+    let mut n = from;
+    while n < to {
+        l = round(
+            f,
+            moduli,
+            longest,
+            symbols,
+            order,
+            count,
+            n,
+            l,
+            places,
+            sizes,
+            discs,
+            quotients,
+            taps,
+            saved,
+        );
+        n += 1;
+    }
+    l
+}
+
+// The next round after which it may pay to look whether the register is settled: 9, 17, or else the last.
+fn pause(n: usize, longest: usize) -> usize
+    requires { ⌜ n < longest ⌝ }
+    ensures { λ r. ⌜ (n < r) × (r ≤ longest) ⌝ }
+{
+    if longest < 24 {
+        return longest;
+    }
+    if n < 9 {
+        return 9;
+    }
+    if n < 17 {
+        return 17;
+    }
+    longest
+}
+
+// All rounds. Where fewer than half as many taps as rounds have been needed the register may well be settled, and the rounds that are left change nothing.
 pub fn rounds(
     f: Modulus,
     moduli: &[u16; 144],
@@ -109,7 +179,14 @@ pub fn rounds(
     let mut l = 0;
     let mut n = 0;
     while n < longest {
-        l = round(
+        if f.p != 2
+            && 2 * l < n
+            && is_settled(f, moduli, l, taps, symbols, order, count, longest - n)
+        {
+            return l;
+        }
+        let to = pause(n, longest);
+        l = advance(
             f,
             moduli,
             longest,
@@ -117,6 +194,7 @@ pub fn rounds(
             order,
             count,
             n,
+            to,
             l,
             places,
             sizes,
@@ -125,7 +203,7 @@ pub fn rounds(
             taps,
             saved,
         );
-        n += 1;
+        n = to;
     }
     l
 }

@@ -137,12 +137,15 @@ module _ {p u z w : ℕ} (read : z ≡ p) (factor : w ≡ z - (p - u)) (small : 
   pub factors : (v : ℕ) {x : ℕ} → (v * p) % 65536 ≡ u → x < p → (x < z) × (w < z) × ((v * z) % 65536 ≡ w)
   factors v match less = (omega arith, omega (arith, factor-back), ap (λ (k : ℕ). (v * k) % 65536) read ∙ match ∙ sym factor-back)
 
+  -- what it ensures, of p and u
+  pub taken-by : (x y r : ℕ) → (65536 * r + y * w) % z ≡ (65536 * x) % z → (65536 * r + y * u) % p ≡ (65536 * x) % p
+  taken-by x y r taken =
+      ap₂ (λ (j k : ℕ). (65536 * r + y * j) % k) (sym factor-back) (sym read) ∙ taken ∙ ap (λ (k : ℕ). (65536 * x) % k) read
+
   pub product-less : (v : ℕ) → (p * v) % 65536 ≡ 1 → (q y : ℕ) {x r : ℕ} → u ≡ (q * 65536) % p → x < p
       → (65536 * r + y * w) % z ≡ (65536 * x) % z → r < z → r ≡ minus p x (times p q y)
   product-less v inverse q y {x} {r} unit less taken below =
-      product-taken p v inverse q y unit
-      (ap₂ (λ (j k : ℕ). (65536 * r + y * j) % k) (sym factor-back) (sym read) ∙ taken ∙ ap (λ (k : ℕ). (65536 * x) % k) read)
-      less (omega (arith, below, read))
+      product-taken p v inverse q y unit (taken-by x y r taken) less (omega (arith, below, read))
 
 -- ---- by what is taken: d over c, of which 2^16 over c is told
 

@@ -1,0 +1,85 @@
+-- Products taken off the cells, cell after cell, and factor after factor.
+use mathlib.Core.Path.{_≡_, refl, sym, ap, ap₂, _∙_}
+use mathlib.Core.List.{List}
+use Prim.Native.Nat.{ℕ, suc, _+_, _*_, _%_, _≤_, _<_}
+use native.Mathlib.Decide.{ℕ-discrete}
+use native.Mathlib.Nat.{mod-add-mod, zero-mod}
+use native.Mathlib.Numerals.{add-one}
+use native.Mathlib.Omega.{arith}
+use lib.ListN.{length, getD, set, replicate, length-set, length-replicate}
+use lib.Seq.{getD-set-same, getD-set-other}
+use Rattle.lists.specs.Total.{total}
+use Rattle.lists.proofs.Joined.{replicate-each}
+use Rattle.lists.proofs.Totals.{total-zero, total-suc}
+use Rattle.register_step.proofs.Reduction.{set-below}
+use Rattle.settled.specs.Ahead.{Ahead, Cells, Less}
+
+-- the products of the first k cells are taken off, and the other cells are as they were
+pub record Partly (p u : ℕ) (symbols : List ℕ) (from : ℕ) (before now : List ℕ) (k : ℕ) : Type 0 where
+  pub less : Less p u symbols from k before now
+  pub rest : (j : ℕ) → k ≤ j → getD now j 0 ≡ getD before j 0
+
+module _ {p end from : ℕ} {before : List ℕ} (c : Cells p end from before) (u : ℕ) (symbols : List ℕ) where
+  pub partly-none : Partly p u symbols from before before 0
+  partly-none = record { less = record { width = c .width; residues = c .residues; each = λ k h. absurd (let no : ⊥ = omega arith in no) }; rest = λ j _. refl }
+
+  pub partly-more : {now : List ℕ} {k r : ℕ} → Partly p u symbols from before now k → k < end → r < p →
+      (65536 * r + getD symbols (from + k) 0 * u) % p ≡ (65536 * getD now k 0) % p → Partly p u symbols from before (set now k r) (k + 1)
+  partly-more {now} {k} {r} a inside small taken =
+      record {
+        less =
+            record {
+              width = length-set now k r ∙ a .less .width;
+              residues = set-below p now k r (a .less .residues) small;
+              each = λ j h. at j (omega arith) (ℕ-discrete j k);
+            };
+        rest = λ j h. getD-set-other now k j r 0 (λ same. let no : ⊥ = omega (arith, same) in no) ∙ a .rest j (omega arith);
+      }
+    where
+      at : (j : ℕ) → j ≤ k → Dec (j ≡ k) → (65536 * getD (set now k r) j 0 + getD symbols (from + j) 0 * u) % p ≡ (65536 * getD before j 0) % p
+      at j le (yes same) =
+          rw (same, getD-set-same now k r 0 (omega (arith, a .less .width, c .within)))
+          (taken ∙ ap (λ (x : ℕ). (65536 * x) % p) (a .rest k (omega arith)))
+      at j le (no other) = rw (getD-set-other now k j r 0 other) (a .less .each j (omega arith))
+
+-- the products of the first i taps are taken off, cell k having those with the symbols at k, k + 1, ..
+pub record Summed (p : ℕ) (taps symbols : List ℕ) (at end : ℕ) (cells : List ℕ) (i : ℕ) : Type 0 where
+  pub width : length cells ≡ 144
+  pub residues : (k : ℕ) → getD cells k 0 < p
+  pub each : (k : ℕ) → k < end → (65536 * getD cells k 0 + total i (λ j. getD taps j 0 * getD symbols (at + k + j) 0)) % p ≡ 0
+
+module _ {p : ℕ} (taps symbols : List ℕ) (at end : ℕ) where
+  pub summed-none : 0 < p → Summed p taps symbols at end (replicate 144 0) 0
+  summed-none positive =
+      record {
+        width = length-replicate {A = ℕ} 144 0;
+        residues = λ k. rw (zero-at k) positive;
+        each = λ k _. rw (zero-at k, total-zero (λ j. getD taps j 0 * getD symbols (at + k + j) 0)) (zero-mod p);
+      }
+    where
+      zero-at : (k : ℕ) → getD {A = ℕ} (replicate 144 0) k 0 ≡ 0
+      zero-at k = replicate-each (λ (x : ℕ). x ≡ 0) 0 refl 144 k
+
+  pub summed-more : {before after : List ℕ} {i : ℕ} → Summed p taps symbols at end before i → Less p (getD taps i 0) symbols (at + i) end before after →
+      Summed p taps symbols at end after (i + 1)
+  summed-more {before} {after} {i} s less =
+      record {
+        width = less .width;
+        residues = less .residues;
+        each = λ k h.
+            let f : ℕ → ℕ = λ j. getD taps j 0 * getD symbols (at + k + j) 0 in
+            let a : ℕ = getD after k 0 in
+            let y : ℕ = getD symbols (at + i + k) 0 in
+            let place : at + k + i ≡ at + i + k = omega arith in
+            ap (λ (x : ℕ). (65536 * a + x) % p) (ap (λ (m : ℕ). total m f) (add-one i) ∙ total-suc i f)
+            ∙ ap (λ (x : ℕ). (65536 * a + (total i f + getD taps i 0 * getD symbols x 0)) % p) place
+            ∙ ap (λ (x : ℕ). x % p) (let e : 65536 * a + (total i f + getD taps i 0 * y) ≡ 65536 * a + y * getD taps i 0 + total i f = omega arith in e)
+            ∙ sym (mod-add-mod (65536 * a + y * getD taps i 0) p (total i f))
+            ∙ ap (λ (x : ℕ). (x + total i f) % p) (less .each k h)
+            ∙ mod-add-mod (65536 * getD before k 0) p (total i f)
+            ∙ s .each k h;
+      }
+
+  -- those of all taps of a register of length l, where a few cells more than asked for have theirs
+  pub summed-all : {l i count : ℕ} {cells : List ℕ} → Summed p taps symbols at end cells i → i ≡ suc l → count ≤ end → Ahead p l taps symbols at count cells
+  summed-all s all le = record { width = s .width; residues = s .residues; each = λ k h. rw (← all) (s .each k (omega arith)) }

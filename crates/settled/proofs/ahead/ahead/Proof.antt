@@ -1,0 +1,83 @@
+-- `ahead` answers the discrepancies. The invariant: the products of the taps passed are taken off.
+use mathlib.Core.Path.{_≡_, refl, ap, sym, _∙_}
+use Prim.Native.Nat.{ℕ, suc, _+_, _-_, _*_, _%_, _≤_, _<_}
+use native.Mathlib.Omega.{arith}
+use borrow.Author.Needs.{needs}
+use lib.ListN.{getD}
+use Rattle.settled.proofs.Cells.{Summed, summed-none, summed-more, summed-all}
+use Rattle.settled.proofs.ahead.ahead.Statement.{statement}
+use Rattle.settled.proofs.ahead.ahead.Tie as tie
+
+abbrev Inv-loop : tie.InvT-loop
+Inv-loop f moduli l taps symbols h count cells₀ end at i₀ cells i = (i ≤ suc l) × Summed (f .p) taps symbols at end cells i
+
+abbrev μ-loop : tie.MeasureT-loop
+μ-loop f moduli l taps symbols h count cells₀ end at i₀ cells i = suc l - i
+
+add-end : tie.Need-add-end Inv-loop μ-loop
+add-end c = record { fits = omega (arith, c .pre .within) }
+
+mul-end : tie.Need-mul-end Inv-loop μ-loop
+mul-end c = record { fits = omega (arith, c .pre .within) }
+
+mul-at : tie.Need-mul-at Inv-loop μ-loop
+mul-at c = record { fits = omega (arith, c .pre .sequence) }
+
+loop-holds : tie.Need-loop-holds Inv-loop μ-loop
+loop-holds c = (search needs, summed-none _ _ _ _ (omega (arith, c .pre .modulus .taken .two-or-more)))
+
+mul-take-off : tie.Need-mul-take-off Inv-loop μ-loop
+mul-take-off c = record { fits = omega (arith, c .before .before .before .pre .within) }
+
+element-copy-out-take-off : tie.Need-element-copy-out-take-off Inv-loop μ-loop
+element-copy-out-take-off c = omega (arith, c .before .before .before .pre .within)
+
+-- the tap is a residue
+tap-less : (c : tie.After-take-off-arg Inv-loop μ-loop) →
+    let at = c .before .before .before in
+    getD (at .before .args .taps .now) (at .loop .i) 0 < at .before .args .f .p
+tap-less c = let at = c .before .before .before in at .before .pre .ending .residues (at .loop .i) (omega arith)
+
+cast-take-off : tie.Need-cast-take-off Inv-loop μ-loop
+cast-take-off c = record { fits = omega (arith, tap-less c, c .before .before .before .before .pre .modulus .taken .modulus) }
+
+add-take-off : tie.Need-add-take-off Inv-loop μ-loop
+add-take-off c = let pre = c .before .before .before .before .pre in record { fits = omega (arith, pre .sequence, pre .within) }
+
+take-off-requires : tie.Need-take-off-requires Inv-loop μ-loop
+take-off-requires c κs =
+    let at = c .before .before .before in
+    let pre = at .before .pre in
+    let sums = at .loop .inv .1 in (
+      record { modulus = pre .modulus; not-two = pre .not-two; lent = pre .lent; factor = tap-less c },
+      record { width = sums .width; residues = sums .residues; within = omega (arith, pre .within); inside = omega (arith, pre .sequence, pre .within) },
+    )
+
+add-i : tie.Need-add-i Inv-loop μ-loop
+add-i c = record { fits = omega (arith, c .before .before .before .before .before .pre .within) }
+
+loop-again : tie.Need-loop-again Inv-loop μ-loop
+loop-again c = (search needs, summed-more _ _ _ _ (c .before .before .before .before .loop .inv .1) (c .take-off .ensures))
+
+returns : tie.Need-returns Inv-loop μ-loop
+returns c = summed-all _ _ _ _ (c .before .loop .inv .1) (omega arith) (omega arith)
+
+pub ahead-spec : {M : Type 1} → statement M
+ahead-spec =
+    tie.close
+    (tie.spec
+    Inv-loop
+    μ-loop
+    add-end
+    mul-end
+    mul-at
+    loop-holds
+    mul-take-off
+    element-copy-out-take-off
+    cast-take-off
+    add-take-off
+    take-off-requires
+    add-i
+    (λ c. search needs)
+    loop-again
+    returns)

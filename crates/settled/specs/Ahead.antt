@@ -1,0 +1,36 @@
+-- The discrepancies of a register at many symbols of a sequence, cell k being for the symbol k places before the last: the sequences stand backwards.
+use mathlib.Core.Path.{_≡_}
+use mathlib.Core.List.{List}
+use Prim.Native.Nat.{ℕ, _+_, _*_, _%_, _≤_, _<_}
+use lib.ListN.{length, getD}
+use Rattle.register_step.specs.Discrepancies.{Ending, sumAt}
+use Rattle.register_step.specs.Modulus.{WorkedOut, Moduli}
+use Rattle.register_step.specs.declared.Modulus.{Modulus}
+
+-- cells that are residues, of which those below `end` have a symbol each, from `from` on
+pub record Cells (p end from : ℕ) (cells : List ℕ) : Type 0 where
+  pub width : length cells ≡ 144
+  pub residues : (k : ℕ) → getD cells k 0 < p
+  pub within : end ≤ 144
+  pub inside : from + end ≤ 1152
+
+-- the cells once the products of u and their symbols, over 2^16, are taken off
+pub record Less (p u : ℕ) (symbols : List ℕ) (from end : ℕ) (before after : List ℕ) : Type 0 where
+  pub width : length after ≡ 144
+  pub residues : (k : ℕ) → getD after k 0 < p
+  pub each : (k : ℕ) → k < end → (65536 * getD after k 0 + getD symbols (from + k) 0 * u) % p ≡ (65536 * getD before k 0) % p
+
+-- a register of length l and `count` symbols of sequence h, which has no more than 128, modulo an odd p
+pub record Foreseeable (f : Modulus) (moduli : List ℕ) (l : ℕ) (taps : List ℕ) (h count : ℕ) : Type 0 where
+  pub modulus : WorkedOut f
+  pub not-two : f .p ≡ 2 → ⊥
+  pub lent : Moduli (f .p) moduli
+  pub ending : Ending (f .p) l taps
+  pub sequence : h < 8
+  pub within : l + count ≤ 128
+
+-- a cell holds its discrepancy over −2^16
+pub record Ahead (p l : ℕ) (taps symbols : List ℕ) (at count : ℕ) (cells : List ℕ) : Type 0 where
+  pub width : length cells ≡ 144
+  pub residues : (k : ℕ) → getD cells k 0 < p
+  pub each : (k : ℕ) → k < count → (65536 * getD cells k 0 + sumAt l taps symbols (at + k)) % p ≡ 0
