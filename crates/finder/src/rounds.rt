@@ -136,14 +136,11 @@ fn advance(
     l
 }
 
-// The next round after which it may pay to look whether the register is settled: 9, 17, or else the last.
+// The next round after which it is looked whether the register is settled: 9, 17, or the last.
 fn pause(n: usize, longest: usize) -> usize
-    requires { ⌜ n < longest ⌝ }
+    requires { ⌜ (n < longest) × (17 ≤ longest) ⌝ }
     ensures { λ r. ⌜ (n < r) × (r ≤ longest) ⌝ }
 {
-    if longest < 24 {
-        return longest;
-    }
     if n < 9 {
         return 9;
     }
@@ -153,8 +150,9 @@ fn pause(n: usize, longest: usize) -> usize
     longest
 }
 
-// All rounds. Where fewer than half as many taps as rounds have been needed the register may well be settled, and the rounds that are left change nothing.
-pub fn rounds(
+// All rounds, as long as they may change something. Where fewer than half as many taps as rounds were needed the register is likely settled; then the rounds
+// that are left are not made.
+fn until_settled(
     f: Modulus,
     moduli: &[u16; 144],
     longest: usize,
@@ -171,6 +169,7 @@ pub fn rounds(
     requires { ⌜ WorkedOut f ⌝ }
     requires { ⌜ Moduli (f .p) (now moduli) ⌝ }
     requires { ⌜ Running (f .p) longest order count (now symbols) ⌝ }
+    requires { ⌜ (f .p ≡ 2 → ⊥) × (17 ≤ longest) ⌝ }
     requires { ⌜ Reached (f .p) count (roundsOf (f .p) longest (sequencesIn order count (now symbols)) 0)
         (progress 0 (now places) (now sizes) (now discs) (now quotients)) (now taps) (now saved) ⌝ }
     ensures { λ r. ⌜ Reached (f .p) count (roundsOf (f .p) longest (sequencesIn order count (now (symbols .entry))) longest)
@@ -179,10 +178,7 @@ pub fn rounds(
     let mut l = 0;
     let mut n = 0;
     while n < longest {
-        if f.p != 2
-            && 2 * l < n
-            && is_settled(f, moduli, l, taps, symbols, order, count, longest - n)
-        {
+        if 2 * l < n && is_settled(f, moduli, l, taps, symbols, order, count, longest - n) {
             return l;
         }
         let to = pause(n, longest);
@@ -206,6 +202,64 @@ pub fn rounds(
         n = to;
     }
     l
+}
+
+// All rounds. Where there are few it does not pay to look whether the register is settled.
+pub fn rounds(
+    f: Modulus,
+    moduli: &[u16; 144],
+    longest: usize,
+    symbols: &[u16; 1152],
+    order: Order,
+    count: usize,
+    places: &mut [u16; 8],
+    sizes: &mut [u16; 8],
+    discs: &mut [u16; 8],
+    quotients: &mut [u16; 8],
+    taps: &mut [u16; 144],
+    saved: &mut [u16; 1152],
+) -> usize
+    requires { ⌜ WorkedOut f ⌝ }
+    requires { ⌜ Moduli (f .p) (now moduli) ⌝ }
+    requires { ⌜ Running (f .p) longest order count (now symbols) ⌝ }
+    requires { ⌜ Reached (f .p) count (roundsOf (f .p) longest (sequencesIn order count (now symbols)) 0)
+        (progress 0 (now places) (now sizes) (now discs) (now quotients)) (now taps) (now saved) ⌝ }
+    ensures { λ r. ⌜ Reached (f .p) count (roundsOf (f .p) longest (sequencesIn order count (now (symbols .entry))) longest)
+        (progress r (now (places .exit)) (now (sizes .exit)) (now (discs .exit)) (now (quotients .exit))) (now (taps .exit)) (now (saved .exit)) ⌝ }
+{
+    if longest < 24 || f.p == 2 {
+        return advance(
+            f,
+            moduli,
+            longest,
+            symbols,
+            order,
+            count,
+            0,
+            longest,
+            0,
+            places,
+            sizes,
+            discs,
+            quotients,
+            taps,
+            saved,
+        );
+    }
+    until_settled(
+        f,
+        moduli,
+        longest,
+        symbols,
+        order,
+        count,
+        places,
+        sizes,
+        discs,
+        quotients,
+        taps,
+        saved,
+    )
 }
 
 fn smaller(a: usize, b: usize) -> usize
