@@ -24,16 +24,15 @@ remainder-is v k p r e less = sym (ap (λ (x : ℕ). x % p) (sym e) ∙ add-mul-
 pub halves-fit : {x y : ℕ} → x < 65536 → y < 65536 → x * y < 4294967296
 halves-fit {x} {y} hx hy = omega (arith, mul-le-mul (let e : x ≤ 65535 = omega arith in e) (let e : y ≤ 65535 = omega arith in e))
 
--- a sum of 129 products of residues times the wide reciprocal of p
-pub wide-reciprocal-fits : {p v m : ℕ} → p ≤ 65521 → v ≤ 129 * (p * p) → m ≡ 1099511627776 / p → m * v < 18446744073709551616
-wide-reciprocal-fits {p} {v} {m} small hv eq =
+-- a number whose quotient by p is below 2^24, times the wide reciprocal of p
+pub wide-reciprocal-fits : (p : ℕ) {v m : ℕ} → v ≤ 16777215 * p → m ≡ 1099511627776 / p → m * v < 18446744073709551616
+wide-reciprocal-fits p {v} {m} hv eq =
     let part : m * p ≤ 1099511627776 = rw eq (div-mul-le-self 1099511627776 p) in
-    let whole : m * v ≤ m * (129 * (p * p)) = mul-le-mul-left m hv in
-    let scaled : m * p * (129 * p) ≤ 1099511627776 * 8452209 = mul-le-mul part (let e : 129 * p ≤ 8452209 = omega arith in e) in
+    let whole : m * v ≤ m * (16777215 * p) = mul-le-mul-left m hv in
     omega arith
 
-pub wide-below : {p v : ℕ} → p ≤ 65521 → v ≤ 129 * (p * p) → v ≤ 1099511627776
-wide-below {p} {v} small hv = omega (arith, mul-le-mul small small)
+pub wide-below : {p v : ℕ} → p ≤ 65521 → v ≤ 16777215 * p → v ≤ 1099511627776
+wide-below small hv = omega arith
 
 -- ---- m is a reciprocal of p in parts of b: m·v / b is the quotient of v by p, or one less
 

@@ -9,9 +9,9 @@ pub record Dividend (v p m : ℕ) : Type 0 where
   pub product : v < p * p
   pub reciprocal : m ≡ 281474976710655 / p + 1
 
--- v is a sum of up to 129 products of residues; m is in parts of 2^40
+-- the quotient of v by p is below 2^24, as that of a sum of up to 129 products of residues is; m is in parts of 2^40
 pub record WideDividend (v p m : ℕ) : Type 0 where
   pub positive : 0 < p
   pub modulus : p ≤ 65521
-  pub sum : v ≤ 129 * (p * p)
+  pub quotient : v ≤ 16777215 * p
   pub reciprocal : m ≡ 1099511627776 / p

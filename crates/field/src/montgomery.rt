@@ -1,5 +1,6 @@
 // Products modulo an odd p without a division (Montgomery), and the inverse of p modulo 2^16 that they need (Newton).
 use crate::narrow::difference;
+use crate::narrow::product;
 ghost use mathlib.Core.Path.{_≡_};
 ghost use Prim.Native.Nat.{_+_, _-_, _*_, _/_, _%_, _<_};
 
@@ -7,14 +8,14 @@ ghost use Prim.Native.Nat.{_+_, _-_, _*_, _/_, _%_, _<_};
 pub fn top(a: u16, b: u16) -> u16
     ensures { λ r. ⌜ r ≡ a * b / 65536 ⌝ }
 {
-    ((a as u32) * (b as u32) / 65536) as u16
+    (product(a, b) / 65536) as u16
 }
 
 // The lower 16 bits of a product.
 pub fn bottom(a: u16, b: u16) -> u16
     ensures { λ r. ⌜ r ≡ (a * b) % 65536 ⌝ }
 {
-    ((a as u32) * (b as u32) % 65536) as u16
+    (product(a, b) % 65536) as u16
 }
 
 // A better inverse of p modulo 2^16 than v, which is v·(2 − p·v): where p·v is 1 modulo m, p·r is 1 modulo m².

@@ -30,7 +30,7 @@ pub fn wide_reciprocal(p: u32) -> u64
     1099511627776 / (p as u64)
 }
 
-// The quotient that the reciprocal m gives is right or one too small (Barrett). With v up to 129·p², v is below 2^40 and m·v below 2^64.
+// The quotient that the reciprocal m gives is right or one too small (Barrett). With v below 2^24·p, v is below 2^40 and m·v below 2^64.
 pub fn wide_remainder(v: u64, p: u32, m: u64) -> u32
     requires { ⌜ WideDividend v p m ⌝ }
     ensures equals { λ r. ⌜ r ≡ v % p ⌝ }

@@ -1,5 +1,6 @@
 // The rounds of Algorithm 4: its start, each round, all of them, and the alone mark at the end.
 use register_step::Modulus;
+use register_step::discrepancy::residue;
 use register_step::step::change;
 use register_step::step::due;
 use sequences::Order;
@@ -54,7 +55,7 @@ fn round(
     let mut l = length;
     let mut h = 0;
     while h < count {
-        let d = due(
+        let sum = due(
             f,
             longest,
             l,
@@ -64,6 +65,7 @@ fn round(
             order.lengths[h] as usize,
             n + 1,
         );
+        let d = residue(f, sum);
         if d != 0 {
             l = change(
                 f,
@@ -71,6 +73,7 @@ fn round(
                 n + 1,
                 h,
                 d,
+                sum,
                 l,
                 places,
                 sizes,

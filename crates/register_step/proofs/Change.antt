@@ -100,6 +100,11 @@ module _ {p n h d : ℕ} {g : Progress} {taps saved : List ℕ}
   abbrev pub changedArray : List ℕ
   changedArray = reduced p 143 taps (quotient p d disc) (n - place) (take (suc size) (block h saved))
 
+  -- the same by a number that stands for d
+  pub by-sum : (sum : ℕ) {now : List ℕ} → sum % p ≡ d →
+      now ≡ reduced p 143 taps (quotient p (sum % p) disc) (n - place) (take (suc size) (block h saved)) → now ≡ changedArray
+  by-sum sum stands eq = eq ∙ ap (λ (x : ℕ). reduced p 143 taps (quotient p x disc) (n - place) (take (suc size) (block h saved))) stands
+
   bounds : (place ≤ n) × (size ≤ place) × (n ≤ 128) × (g .length ≤ n) × (h < 8)
   unfolding stateOf
   bounds = (c .place, c .saved-size, c .round, c .size, c .sequence)

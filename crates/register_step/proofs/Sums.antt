@@ -1,23 +1,60 @@
 -- The products that a discrepancy sums: they are small, those past the register are 0, and the symbols before one are those after it where the sequence stands
 -- backwards.
-use mathlib.Core.Path.{_≡_, sym, ap, _∙_}
+use mathlib.Core.Path.{_≡_, sym, ap, ap₂, _∙_}
 use mathlib.Core.List.{List}
-use Prim.Native.Nat.{ℕ, suc, _+_, _-_, _*_, _/_, _%_, _≤_, _<_}
+use Prim.Native.Nat.{ℕ, suc, _+_, _-_, _*_, _/_, _%_, _≤_, _<_, zero-le}
 use native.Mathlib.Decide.{decLe}
 use native.Mathlib.Nat.{mul-le-mul, zero-mul}
+use native.Mathlib.Numerals.{add-one}
 use native.Mathlib.Omega.{arith}
 use borrow.Author.Tests.{lt-ltb, le-ltb}
 use lib.ListN.{length, getD}
 use Rattle.field.proofs.ProductSums.{sum-below}
 use Rattle.lists.specs.Total.{total}
 use Rattle.lists.proofs.Tabulated.{length-tabulate, getD-tabulate}
-use Rattle.lists.proofs.Totals.{total-ext, total-bound}
+use Rattle.lists.proofs.Totals.{total-zero, total-suc, total-ext, total-bound}
 use Rattle.register.specs.Register.{discrepancy}
 use Rattle.register.specs.Sequences.{symbol}
-use Rattle.register_step.specs.Discrepancies.{Ending, InReach, Summable, sumAt, sequenceIn, dueAt}
+use Rattle.register_step.specs.Discrepancies.{Ending, InReach, Loose, Narrow, Summable, sumAt, sequenceIn, dueAt}
 use Rattle.register_step.specs.Modulus.{WorkedOut}
 use Rattle.register_step.specs.declared.Modulus.{Modulus}
 use Rattle.lists.proofs.Halves.{Halved, total-first, past-last}
+
+-- ---- zeros follow the register
+
+module _ (l : ℕ) (taps symbols : List ℕ) (from : ℕ) (zeros : (i : ℕ) → l < i → getD taps i 0 ≡ 0) where
+  none-past : (k : ℕ) → suc l ≤ k → getD taps k 0 * getD symbols (from + k) 0 ≡ 0
+  none-past k past = ap (λ (x : ℕ). x * getD symbols (from + k) 0) (zeros k (omega arith)) ∙ zero-mul (getD symbols (from + k) 0)
+
+  -- the products up to the next multiple of 8
+  rounded : total ((l / 8 + 1) * 8) (λ k. getD taps k 0 * getD symbols (from + k) 0) ≡ sumAt l taps symbols from
+  rounded = total-first (suc l) ((l / 8 + 1) * 8) _ (omega (arith, past-last l)) none-past
+
+-- ---- products that are small: k of n are summed
+
+pub record Summed (n : ℕ) (f : ℕ → ℕ) (k s : ℕ) : Type 0 where
+  pub within : k ≤ n
+  pub bound : s ≤ k * 66049
+  pub so-far : s ≡ total k f
+
+pub summed-none : (n : ℕ) (f : ℕ → ℕ) → Summed n f 0 0
+summed-none n f = record { within = zero-le; bound = zero-le; so-far = sym (total-zero f) }
+
+pub summed-more : (n : ℕ) (f : ℕ → ℕ) {k s x : ℕ} → Summed n f k s → k < n → x ≡ f k → x ≤ 66049 → Summed n f (k + 1) (s + x)
+summed-more n f {k} {s} {x} a less is small =
+    record {
+      within = omega arith;
+      bound = let b = a .bound in omega arith;
+      so-far = ap₂ _+_ (a .so-far) is ∙ sym (total-suc k f) ∙ ap (λ (m : ℕ). total m f) (sym (add-one k));
+    }
+
+pub summed-all : {l : ℕ} {taps symbols : List ℕ} {from k s : ℕ} → Narrow l taps symbols from →
+    Summed ((l / 8 + 1) * 8) (λ i. getD taps i 0 * getD symbols (from + i) 0) k s → (l / 8 + 1) * 8 ≤ k → s ≡ sumAt l taps symbols from
+summed-all {l} {taps} {symbols} {from} {k} narrow a done =
+    a .so-far ∙ ap (λ (n : ℕ). total n (λ i. getD taps i 0 * getD symbols (from + i) 0)) (let e : k ≡ (l / 8 + 1) * 8 = omega (arith, a .within) in e)
+    ∙ rounded l taps symbols from (narrow .zeros)
+
+-- ---- products of residues
 
 module _ {f : Modulus} {l : ℕ} {taps symbols : List ℕ} {from : ℕ} (s : Summable f l taps symbols from) where
   abbrev term : ℕ → ℕ
@@ -26,9 +63,6 @@ module _ {f : Modulus} {l : ℕ} {taps symbols : List ℕ} {from : ℕ} (s : Sum
   abbrev p : ℕ
   p = f .p
 
-  none-past : (k : ℕ) → suc l ≤ k → term k ≡ 0
-  none-past k past = ap (λ (x : ℕ). x * getD symbols (from + k) 0) (s .ending .zeros k (omega arith)) ∙ zero-mul (getD symbols (from + k) 0)
-
   term-below : (k : ℕ) → term k ≤ p * p
   term-below k = pick (decLe k l)
     where
@@ -36,7 +70,24 @@ module _ {f : Modulus} {l : ℕ} {taps symbols : List ℕ} {from : ℕ} (s : Sum
       pick (yes within) =
           mul-le-mul (let e : getD taps k 0 ≤ p = omega (arith, s .ending .residues k within) in e)
           (let e : getD symbols (from + k) 0 ≤ p = omega (arith, s .below k within) in e)
-      pick (no past) = omega (arith, none-past k (omega arith))
+      pick (no past) = omega (arith, none-past l taps symbols from (s .ending .zeros) k (omega arith))
+
+  all-below : sumAt l taps symbols from ≤ 129 * (p * p)
+  all-below = sum-below p (let e : suc l ≤ 129 = omega (arith, s .short) in e) (total-bound (suc l) (p * p) term (λ k _. term-below k))
+
+  -- modulo a small p: the products are small, and their sum stands for its residue
+  module _ (small : p ≤ 257) where
+    pub narrow : Narrow l taps symbols from
+    narrow =
+        record {
+          short = s .short;
+          inside = s .inside;
+          zeros = s .ending .zeros;
+          products = λ k. omega (arith, term-below k, mul-le-mul small small);
+        }
+
+    pub narrow-loose : {r : ℕ} → r ≡ sumAt l taps symbols from → Loose p r
+    narrow-loose e = record { small = λ _. rw e all-below; large = λ more. absurd (let no : ⊥ = omega arith in no) }
 
   pub top-small : (k : ℕ) → term k / 65536 < 65536
   top-small k = let m = s .modulus .taken .modulus in omega (arith, term-below k, mul-le-mul m m)
@@ -46,10 +97,17 @@ module _ {f : Modulus} {l : ℕ} {taps symbols : List ℕ} {from : ℕ} (s : Sum
     pub whole : low + 65536 * high ≡ sumAt l taps symbols from
     whole =
         h .so-far ∙ ap (λ (n : ℕ). total n term) (let e : k ≡ (l / 8 + 1) * 8 = omega (arith, h .within) in e)
-        ∙ total-first (suc l) ((l / 8 + 1) * 8) term (omega (arith, past-last l)) none-past
+        ∙ rounded l taps symbols from (s .ending .zeros)
 
     pub whole-below : low + 65536 * high ≤ 129 * (p * p)
-    whole-below = rw whole (sum-below p (let e : suc l ≤ 129 = omega (arith, s .short) in e) (total-bound (suc l) (p * p) term (λ k _. term-below k)))
+    whole-below = rw whole all-below
+
+-- a residue stands for itself
+pub residue-loose : {p r : ℕ} → 257 < p → r < p → Loose p r
+residue-loose more less = record { small = λ le. absurd (let no : ⊥ = omega arith in no); large = λ _. less }
+
+pub zero-loose : {p : ℕ} → Loose p 0
+zero-loose = record { small = λ _. zero-le; large = λ more. omega arith }
 
 module _ {p N l h size n : ℕ} {symbols : List ℕ} (r : InReach p N l h size n symbols) where
   abbrev s : List ℕ

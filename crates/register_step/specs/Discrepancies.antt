@@ -29,6 +29,18 @@ pub record Summable (f : Modulus) (l : ℕ) (taps symbols : List ℕ) (from : �
   pub inside : from + l + 8 ≤ 1152
   pub below : (i : ℕ) → i ≤ l → getD symbols (from + i) 0 < f .p
 
+-- all products are small enough for one sum of 32 bits
+pub record Narrow (l : ℕ) (taps symbols : List ℕ) (from : ℕ) : Type 0 where
+  pub short : l ≤ 128
+  pub inside : from + l + 8 ≤ 1152
+  pub zeros : (i : ℕ) → l < i → getD taps i 0 ≡ 0
+  pub products : (i : ℕ) → getD taps i 0 * getD symbols (from + i) 0 ≤ 66049
+
+-- a number that stands for its residue modulo p: where p is small, a sum of up to 129 products, whose product with a residue still fits 32 bits
+pub record Loose (p s : ℕ) : Type 0 where
+  pub small : p ≤ 257 → s ≤ 129 * (p * p)
+  pub large : 257 < p → s < p
+
 -- the sequence of so many symbols that stands backwards in block h
 unfoldable pub sequenceIn : (symbols : List ℕ) (h long : ℕ) → List ℕ
 sequenceIn symbols h long = tabulate long (λ i. getD symbols (h * 144 + (long - suc i)) 0)

@@ -3,6 +3,7 @@ use mathlib.Core.Path.{_≡_}
 use mathlib.Core.List.{List}
 use Prim.Native.Nat.{ℕ, _+_, _*_, _≤_, _<_}
 use lib.ListN.{length, getD}
+use Rattle.register_step.specs.Discrepancies.{Loose}
 use Rattle.register_step.specs.Modulus.{WorkedOut, Moduli}
 use Rattle.register_step.specs.declared.Modulus.{Modulus}
 
@@ -26,11 +27,11 @@ pub record Odd (f : Modulus) (moduli : List ℕ) (u : ℕ) : Type 0 where
   pub lent : Moduli (f .p) moduli
   pub factor : u < f .p
 
--- a modulus, the array of it, a discrepancy, and 2^16 over a saved one
-pub record Divided (f : Modulus) (moduli : List ℕ) (d over : ℕ) : Type 0 where
+-- a modulus, the array of it, what stands for a discrepancy, and 2^16 over a saved one
+pub record Divided (f : Modulus) (moduli : List ℕ) (sum over : ℕ) : Type 0 where
   pub modulus : WorkedOut f
   pub lent : Moduli (f .p) moduli
-  pub discrepancy : d < f .p
+  pub loose : Loose (f .p) sum
   pub residue : over < f .p
 
 -- so many of the taps fit into block h

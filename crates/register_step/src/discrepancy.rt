@@ -2,14 +2,31 @@
 use crate::Modulus;
 use field::montgomery::bottom;
 use field::montgomery::top;
+use field::narrow::product;
 use field::reciprocal::wide_remainder;
 ghost use mathlib.Core.Path.{_≡_};
 ghost use Prim.Native.Nat.{_%_};
-ghost use Rattle.register_step.specs.Discrepancies.{Summable, sumAt};
+ghost use Rattle.register_step.specs.Discrepancies.{Loose, Narrow, Summable, sumAt};
+ghost use Rattle.register_step.specs.Modulus.{WorkedOut};
 
-// The products of the taps 0 .. l and the symbols from `from` on. The lower and the upper halves of the products are summed each by themselves, since 32
-// bits vectorise well, and reduced once, by the reciprocal.
-pub fn sum_at(f: Modulus, l: usize, taps: &[u16; 144], symbols: &[u16; 1152], from: usize) -> u32
+// The products of the taps 0 .. l and the symbols from `from` on, where they are small.
+fn narrow_sum(l: usize, taps: &[u16; 144], symbols: &[u16; 1152], from: usize) -> u32
+    requires { ⌜ Narrow l (now taps) (now symbols) from ⌝ }
+    ensures { λ r. ⌜ r ≡ sumAt l (now (taps .entry)) (now (symbols .entry)) from ⌝ }
+{
+    let mut sum: u32 = 0;
+    let end = (l / 8 + 1) * 8;
+    let mut i = 0;
+    while i < end {
+        sum += product(taps[i], symbols[from + i]);
+        i += 1;
+    }
+    sum
+}
+
+// The same where they need not be. The lower and the upper halves of the products are summed each by themselves, since 32 bits vectorise well, and reduced
+// once, by the reciprocal.
+fn wide_sum(f: Modulus, l: usize, taps: &[u16; 144], symbols: &[u16; 1152], from: usize) -> u32
     requires { ⌜ Summable f l (now taps) (now symbols) from ⌝ }
     ensures { λ r. ⌜ r ≡ sumAt l (now (taps .entry)) (now (symbols .entry)) from % f .p ⌝ }
 {
@@ -25,4 +42,27 @@ pub fn sum_at(f: Modulus, l: usize, taps: &[u16; 144], symbols: &[u16; 1152], fr
         i += 1;
     }
     wide_remainder((low as u64) + 65536 * (high as u64), f.p, f.wide)
+}
+
+// Modulo a small p, as that of frames is, the sum is left as it is: what it is multiplied by is reduced once then.
+pub fn sum_at(f: Modulus, l: usize, taps: &[u16; 144], symbols: &[u16; 1152], from: usize) -> u32
+    requires { ⌜ Summable f l (now taps) (now symbols) from ⌝ }
+    ensures { λ r. ⌜ r % f .p ≡ sumAt l (now (taps .entry)) (now (symbols .entry)) from % f .p ⌝ }
+    ensures { λ r. ⌜ Loose (f .p) r ⌝ }
+{
+    if f.p <= 257 {
+        return narrow_sum(l, taps, symbols, from);
+    }
+    wide_sum(f, l, taps, symbols, from)
+}
+
+// The residue that a sum stands for.
+pub fn residue(f: Modulus, sum: u32) -> u32
+    requires { ⌜ WorkedOut f × Loose (f .p) sum ⌝ }
+    ensures { λ r. ⌜ r ≡ sum % f .p ⌝ }
+{
+    if f.p <= 257 {
+        return wide_remainder(sum as u64, f.p, f.wide);
+    }
+    sum
 }

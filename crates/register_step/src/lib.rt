@@ -2,7 +2,7 @@
 // changed in place. Arrays are a little longer than a register, with zeros after it: loops go on to a multiple of 8 entries,
 // and none is left for the compiler to do one by one.
 pub mod copy;
-mod discrepancy;
+pub mod discrepancy;
 mod reduce;
 pub mod step;
 pub mod worked_out;

@@ -5,12 +5,15 @@ use field::montgomery::bottom;
 use field::montgomery::less_product;
 use field::narrow::difference;
 use field::reciprocal::remainder;
+use field::reciprocal::wide_remainder;
 ghost use mathlib.Core.Path.{_≡_};
 ghost use Prim.Native.Nat.{ℕ, suc, _*_, _%_, _<_};
 ghost use lib.ListN.{length, take};
 ghost use Rattle.field.specs.Coefficients.{reduced};
 ghost use Rattle.field.specs.Residue.{quotient};
 ghost use Rattle.lists.specs.Parts.{replaced};
+ghost use Rattle.register_step.specs.Discrepancies.{Loose};
+ghost use Rattle.register_step.specs.Modulus.{WorkedOut};
 ghost use Rattle.register_step.specs.Progress.{block};
 ghost use Rattle.register_step.specs.Reductions.{Reducible, Odd, Divided, Keepable, Growable};
 
@@ -59,29 +62,42 @@ fn reduce_two(taps: &mut [u16; 144], q: u32, e: usize, m: usize, saved: &[u16; 1
     }
 }
 
-// The taps less (d / c)·x^e·τ, where c is the discrepancy that τ was saved with; `over` is 2^16 over c modulo p. Modulo 2 it is d itself that τ is taken by.
+// The factor of `reduce_odd`, d times `over`, where `sum` stands for d.
+fn factor(f: Modulus, sum: u32, over: u16) -> u32
+    requires { ⌜ WorkedOut f × Loose (f .p) sum × (over < f .p) ⌝ }
+    ensures equals { λ r. ⌜ r ≡ (sum * over) % f .p ⌝ }
+    ensures below { λ r. ⌜ r < f .p ⌝ }
+{
+    let v = sum * (over as u32);
+    if f.p <= 257 {
+        return wide_remainder(v as u64, f.p, f.wide);
+    }
+    remainder(v, f.p, f.reciprocal)
+}
+
+// The taps less (d / c)·x^e·τ, where `sum` stands for d, and c is the discrepancy that τ was saved with; `over` is 2^16 over c modulo p. Modulo 2 it is d itself
+// that τ is taken by.
 pub fn reduce(
     f: Modulus,
     moduli: &[u16; 144],
     taps: &mut [u16; 144],
-    d: u32,
+    sum: u32,
     over: u16,
     e: usize,
     m: usize,
     saved: &[u16; 1152],
     h: usize,
 )
-    requires { ⌜ Divided f (now moduli) d over ⌝ }
+    requires { ⌜ Divided f (now moduli) sum over ⌝ }
     requires { ⌜ Reducible (f .p) (now taps) e m (now saved) h ⌝ }
     ensures { λ _. ⌜ ((c : ℕ) → over ≡ quotient (f .p) (65536 % f .p) c →
-        now (taps .exit) ≡ reduced (f .p) 143 (now (taps .entry)) (quotient (f .p) d c) e (take (suc m) (block h (now (saved .entry))))) ⌝ }
+        now (taps .exit) ≡ reduced (f .p) 143 (now (taps .entry)) (quotient (f .p) (sum % f .p) c) e (take (suc m) (block h (now (saved .entry))))) ⌝ }
 {
     if f.p == 2 {
-        reduce_two(taps, d, e, m, saved, h);
+        reduce_two(taps, sum % 2, e, m, saved, h);
         return;
     }
-    let u = remainder(d * (over as u32), f.p, f.reciprocal);
-    reduce_odd(f, moduli, taps, u, e, m, saved, h);
+    reduce_odd(f, moduli, taps, factor(f, sum, over), e, m, saved, h);
 }
 
 // The first entries of the taps become those of the block of sequence h.
@@ -101,22 +117,22 @@ pub fn reduce_keeping(
     moduli: &[u16; 144],
     l: usize,
     taps: &mut [u16; 144],
-    d: u32,
+    sum: u32,
     over: u16,
     e: usize,
     m: usize,
     saved: &mut [u16; 1152],
     h: usize,
 )
-    requires { ⌜ Divided f (now moduli) d over ⌝ }
+    requires { ⌜ Divided f (now moduli) sum over ⌝ }
     requires { ⌜ Reducible (f .p) (now taps) e m (now saved) h ⌝ }
     requires { ⌜ Growable l (now taps) m ⌝ }
     ensures { λ _. ⌜ ((c : ℕ) → over ≡ quotient (f .p) (65536 % f .p) c →
-        now (taps .exit) ≡ reduced (f .p) 143 (now (taps .entry)) (quotient (f .p) d c) e (take (suc m) (block h (now (saved .entry))))) ⌝ }
+        now (taps .exit) ≡ reduced (f .p) 143 (now (taps .entry)) (quotient (f .p) (sum % f .p) c) e (take (suc m) (block h (now (saved .entry))))) ⌝ }
     ensures { λ _. ⌜ now (saved .exit) ≡ replaced (h * 144) 144 (now (saved .entry)) (now (taps .entry)) ⌝ }
 {
     let old = *taps;
-    reduce(f, moduli, taps, d, over, e, m, saved, h);
+    reduce(f, moduli, taps, sum, over, e, m, saved, h);
     let end = (l / 8 + 1) * 8;
     keep(saved, h, &old, end);
 }

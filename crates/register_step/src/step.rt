@@ -5,12 +5,14 @@ use crate::reduce::reduce;
 use crate::reduce::reduce_keeping;
 use field::residue::quotient;
 ghost use mathlib.Core.Path.{_≡_};
+ghost use Prim.Native.Nat.{_%_};
 ghost use Rattle.register.specs.Algorithm4.{changed};
-ghost use Rattle.register_step.specs.Discrepancies.{Ending, InReach, dueAt, sequenceIn};
+ghost use Rattle.register_step.specs.Discrepancies.{Ending, InReach, Loose, dueAt, sequenceIn};
 ghost use Rattle.register_step.specs.Modulus.{WorkedOut, Moduli};
 ghost use Rattle.register_step.specs.Progress.{Changeable, Ended, Stepped, progress, savedAfter, stateOf};
 
-// The discrepancy at (n, h) of a register of length l, or 0 where nothing is asked for. Sequence h, `long` symbols, stands backwards in its block of the symbols.
+// What stands for the discrepancy at (n, h) of a register of length l, or 0 where nothing is asked for. Sequence h, `long` symbols, stands backwards in its
+// block of the symbols.
 pub fn due(
     f: Modulus,
     longest: usize,
@@ -24,7 +26,8 @@ pub fn due(
     requires { ⌜ WorkedOut f ⌝ }
     requires { ⌜ Ending (f .p) l (now taps) ⌝ }
     requires { ⌜ InReach (f .p) longest l h long n (now symbols) ⌝ }
-    ensures { λ r. ⌜ r ≡ dueAt (f .p) longest l (now (taps .entry)) (sequenceIn (now (symbols .entry)) h long) n ⌝ }
+    ensures { λ r. ⌜ r % f .p ≡ dueAt (f .p) longest l (now (taps .entry)) (sequenceIn (now (symbols .entry)) h long) n ⌝ }
+    ensures { λ r. ⌜ Loose (f .p) r ⌝ }
 {
     let gap = longest - long;
     if n <= l + gap {
@@ -33,13 +36,15 @@ pub fn due(
     sum_at(f, l, taps, symbols, h * 144 + (longest - n))
 }
 
-// The change by a discrepancy d at (n, h), and the length of the register after it. No code reads `discs`: the state of the definition is read off it.
+// The change by a discrepancy d at (n, h), for which `sum` stands, and the length of the register after it. No code reads `discs`: the state of the definition
+// is read off it.
 pub fn change(
     f: Modulus,
     moduli: &[u16; 144],
     n: usize,
     h: usize,
     d: u32,
+    sum: u32,
     l: usize,
     places: &mut [u16; 8],
     sizes: &mut [u16; 8],
@@ -50,6 +55,7 @@ pub fn change(
 ) -> usize
     requires { ⌜ WorkedOut f ⌝ }
     requires { ⌜ Moduli (f .p) (now moduli) ⌝ }
+    requires { ⌜ Loose (f .p) sum × (sum % f .p ≡ d) ⌝ }
     requires { ⌜ Changeable (f .p) n h d (stateOf (progress l (now places) (now sizes) (now discs) (now quotients)) (now taps) (now saved)) ⌝ }
     requires { ⌜ Ended (f .p) (progress l (now places) (now sizes) (now discs) (now quotients)) (now taps) (now saved) ⌝ }
     ensures { λ r. ⌜ Stepped (f .p)
@@ -63,10 +69,10 @@ pub fn change(
     let size = sizes[h] as usize;
     let e = n - place;
     if n + size <= place + l {
-        reduce(f, moduli, taps, d, quotients[h], e, size, saved, h);
+        reduce(f, moduli, taps, sum, quotients[h], e, size, saved, h);
         return l;
     }
-    reduce_keeping(f, moduli, l, taps, d, quotients[h], e, size, saved, h);
+    reduce_keeping(f, moduli, l, taps, sum, quotients[h], e, size, saved, h);
     places[h] = n as u16;
     sizes[h] = l as u16;
     discs[h] = d as u16;

@@ -1,0 +1,25 @@
+-- `residue` reduces where p is small; else the sum is reduced.
+use mathlib.Core.Path.{sym}
+use native.Mathlib.Nat.{mod-eq-of-lt}
+use native.Mathlib.Omega.{arith}
+use borrow.Author.Needs.{needs}
+use Rattle.field.proofs.ProductSums.{sum-quotient}
+use Rattle.register_step.proofs.discrepancy.residue.Statement.{statement}
+use Rattle.register_step.proofs.discrepancy.residue.Tie as tie
+
+wide-remainder-requires : tie.Need-wide-remainder-requires
+wide-remainder-requires c κs =
+    let pre = c .before .before .pre in
+    let taken = pre .0 .taken in
+    record {
+      positive = omega (arith, taken .two-or-more);
+      modulus = taken .modulus;
+      quotient = sum-quotient _ (taken .modulus) (pre .1 .small (c .if1 .taken));
+      reciprocal = pre .0 .wide;
+    }
+
+returns-2 : tie.Need-returns-2
+returns-2 c = sym (mod-eq-of-lt (c .before .before .pre .1 .large (c .if1 .left)))
+
+pub residue-spec : {M : Type 1} → statement M
+residue-spec = tie.close (tie.spec wide-remainder-requires (λ c. search needs) returns-2)
