@@ -1,4 +1,5 @@
 -- `round` makes a round of Algorithm 4. The invariant: the sequences passed have had their step.
+use mathlib.Core.Path.{sym, _∙_}
 use mathlib.Core.Logic.{⊎-elim}
 use Prim.Native.Nat.{_+_, _-_, _≤_}
 use native.Mathlib.Omega.{arith}
@@ -32,28 +33,37 @@ due-requires c κs =
     let begun = ready r round (search needs) (at .inv .1) in
     (pre .0, (ending (positive r) begun (at .inv .1 .ended), in-reach r round (search needs) (at .inv .1)))
 
+residue-requires : tie.Need-residue-requires Inv-loop μ-loop
+residue-requires c κs = (c .before .before .before .before .before .pre .0, c .due .ensures .1)
+
 change-requires : tie.Need-change-requires Inv-loop μ-loop
 change-requires c κs =
-    let computed = c .before .before .before .before .before .before .before in
-    let looped = computed .before .before .before .before in
+    let tested = c .before .before .before .before .before .before in
+    let reduced = tested .before in
+    let looped = reduced .before .before .before .before .before in
     let at = looped .loop in
     let pre = looped .before .pre in
     let r = pre .1 .1 .0 in
     let begun = ready r (pre .1 .1 .1 .0) (search needs) (at .inv .1) in (
       pre .0,
-      (pre .1 .0, (changeable (positive r) begun (at .inv .1 .ended) (computed .due .ensures) (c .before .before .before .before .before .before .if1 .taken), at .inv .1 .ended)),
+      (
+        pre .1 .0,
+        (
+          (reduced .before .due .ensures .1, sym (reduced .residue .ensures)),
+          (changeable (positive r) begun (at .inv .1 .ended) (reduced .residue .ensures ∙ reduced .before .due .ensures .0) (tested .if1 .taken), at .inv .1 .ended),
+        ),
+      ),
     )
 
 loop-again : tie.Need-loop-again Inv-loop μ-loop
 loop-again c =
-    let computed = c .before in
-    let looped = computed .before .before .before .before in
+    let looped = c .before .before .before .before .before .before in
     let at = looped .loop in
     let pre = looped .before .pre in
     let r = pre .1 .1 .0 in
     let round = pre .1 .1 .1 .0 in
     let begun = ready r round (search needs) (at .inv .1) in
-    let due = computed .due .ensures in (
+    let due = c .before .residue .ensures ∙ c .before .before .due .ensures .0 in (
       search needs,
       stepped r round (search needs) (at .inv .1)
           (⊎-elim
@@ -78,6 +88,7 @@ round-spec =
     (λ c. search needs)
     (λ c. search needs)
     due-requires
+    residue-requires
     (λ c. search needs)
     change-requires
     (λ c. search needs)
