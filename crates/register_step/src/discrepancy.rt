@@ -6,6 +6,7 @@ use field::narrow::product;
 use field::reciprocal::wide_remainder;
 ghost use mathlib.Core.Path.{_≡_};
 ghost use Prim.Native.Nat.{_%_};
+ghost use lib.Dec.{leb};
 ghost use Rattle.register_step.specs.Discrepancies.{Loose, Narrow, Summable, sumAt};
 ghost use Rattle.register_step.specs.Modulus.{WorkedOut};
 
@@ -44,13 +45,20 @@ fn wide_sum(f: Modulus, l: usize, taps: &[u16; 144], symbols: &[u16; 1152], from
     wide_remainder((low as u64) + 65536 * (high as u64), f.p, f.wide)
 }
 
-// Modulo a small p, as that of frames is, the sum is left as it is: what it is multiplied by is reduced once then.
+// Whether p is that of frames, or less.
+pub fn is_small(f: Modulus) -> bool
+    ensures { λ r. ⌜ r ≡ leb (f .p) 257 ⌝ }
+{
+    f.p <= 257
+}
+
+// Modulo a small p the sum is left as it is: its product with a residue is reduced once then.
 pub fn sum_at(f: Modulus, l: usize, taps: &[u16; 144], symbols: &[u16; 1152], from: usize) -> u32
     requires { ⌜ Summable f l (now taps) (now symbols) from ⌝ }
     ensures { λ r. ⌜ r % f .p ≡ sumAt l (now (taps .entry)) (now (symbols .entry)) from % f .p ⌝ }
     ensures { λ r. ⌜ Loose (f .p) r ⌝ }
 {
-    if f.p <= 257 {
+    if is_small(f) {
         return narrow_sum(l, taps, symbols, from);
     }
     wide_sum(f, l, taps, symbols, from)
@@ -61,7 +69,7 @@ pub fn residue(f: Modulus, sum: u32) -> u32
     requires { ⌜ WorkedOut f × Loose (f .p) sum ⌝ }
     ensures { λ r. ⌜ r ≡ sum % f .p ⌝ }
 {
-    if f.p <= 257 {
+    if is_small(f) {
         return wide_remainder(sum as u64, f.p, f.wide);
     }
     sum

@@ -1,6 +1,7 @@
 // The taps of a register less a multiple of a shifted one, and the register that is saved.
 use crate::Modulus;
 use crate::copy::copy;
+use crate::discrepancy::is_small;
 use field::montgomery::bottom;
 use field::montgomery::less_product;
 use field::narrow::difference;
@@ -69,7 +70,7 @@ fn factor(f: Modulus, sum: u32, over: u16) -> u32
     ensures below { λ r. ⌜ r < f .p ⌝ }
 {
     let v = sum * (over as u32);
-    if f.p <= 257 {
+    if is_small(f) {
         return wide_remainder(v as u64, f.p, f.wide);
     }
     remainder(v, f.p, f.reciprocal)

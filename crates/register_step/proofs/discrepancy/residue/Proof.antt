@@ -1,8 +1,9 @@
 -- `residue` reduces where p is small; else the sum is reduced.
-use mathlib.Core.Path.{sym}
+use mathlib.Core.Path.{sym, _∙_}
 use native.Mathlib.Nat.{mod-eq-of-lt}
 use native.Mathlib.Omega.{arith}
 use borrow.Author.Needs.{needs}
+use borrow.Author.Tests.{leb-true, leb-false}
 use Rattle.field.proofs.ProductSums.{sum-quotient}
 use Rattle.register_step.proofs.discrepancy.residue.Statement.{statement}
 use Rattle.register_step.proofs.discrepancy.residue.Tie as tie
@@ -14,12 +15,12 @@ wide-remainder-requires c κs =
     record {
       positive = omega (arith, taken .two-or-more);
       modulus = taken .modulus;
-      quotient = sum-quotient _ (taken .modulus) (pre .1 .small (c .if1 .taken));
+      quotient = sum-quotient _ (taken .modulus) (pre .1 .small (leb-true _ _ (sym (c .before .is-small .ensures) ∙ c .if1 .taken)));
       reciprocal = pre .0 .wide;
     }
 
 returns-2 : tie.Need-returns-2
-returns-2 c = sym (mod-eq-of-lt (c .before .before .pre .1 .large (c .if1 .left)))
+returns-2 c = sym (mod-eq-of-lt (c .before .before .pre .1 .large (leb-false _ _ (sym (c .before .is-small .ensures) ∙ c .if1 .left))))
 
 pub residue-spec : {M : Type 1} → statement M
-residue-spec = tie.close (tie.spec wide-remainder-requires (λ c. search needs) returns-2)
+residue-spec = tie.close (tie.spec (λ c κs. search needs) wide-remainder-requires (λ c. search needs) returns-2)

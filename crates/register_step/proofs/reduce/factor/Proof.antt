@@ -1,8 +1,10 @@
 -- `factor` multiplies and reduces: the product fits, and so few times p that it can be reduced.
+use mathlib.Core.Path.{sym, _∙_}
 use Prim.Native.Nat.{_*_, _≤_, _<_}
 use native.Mathlib.Decide.{decLe}
 use native.Mathlib.Omega.{arith}
 use borrow.Author.Needs.{needs}
+use borrow.Author.Tests.{leb-true, leb-false}
 use Rattle.field.proofs.Fits.{product-fits, product-below}
 use Rattle.field.proofs.ProductSums.{scaled-quotient, scaled-fits}
 use Rattle.register_step.proofs.reduce.factor.Statement.{statement}
@@ -20,17 +22,19 @@ cast-wide-remainder : tie.Need-cast-wide-remainder
 cast-wide-remainder c =
     let start = c .before .before in
     let pre = start .pre in
-    record { fits = omega (arith, scaled-fits (start .args .f .p) (start .args .sum) (start .args .over) (c .if1 .taken) (pre .1 .small (c .if1 .taken)) (pre .2)) }
+    let small = leb-true _ _ (sym (c .before .is-small .ensures) ∙ c .if1 .taken) in
+    record { fits = omega (arith, scaled-fits (start .args .f .p) (start .args .sum) (start .args .over) small (pre .1 .small small) (pre .2)) }
 
 wide-remainder-requires : tie.Need-wide-remainder-requires
 wide-remainder-requires c κs =
     let start = c .before .before in
     let pre = start .pre in
     let taken = pre .0 .taken in
+    let small = leb-true _ _ (sym (c .before .is-small .ensures) ∙ c .if1 .taken) in
     record {
       positive = omega (arith, taken .two-or-more);
       modulus = taken .modulus;
-      quotient = scaled-quotient (start .args .f .p) (start .args .sum) (start .args .over) (c .if1 .taken) (pre .1 .small (c .if1 .taken)) (pre .2);
+      quotient = scaled-quotient (start .args .f .p) (start .args .sum) (start .args .over) small (pre .1 .small small) (pre .2);
       reciprocal = pre .0 .wide;
     }
 
@@ -42,11 +46,11 @@ remainder-requires c κs =
     record {
       positive = omega (arith, taken .two-or-more);
       modulus = taken .modulus;
-      product = product-below (start .args .sum) (start .args .over) (start .args .f .p) (pre .1 .large (c .if1 .left)) (pre .2);
+      product = product-below (start .args .sum) (start .args .over) (start .args .f .p) (pre .1 .large (leb-false _ _ (sym (c .before .is-small .ensures) ∙ c .if1 .left))) (pre .2);
       reciprocal = pre .0 .reciprocal;
     }
 
 pub factor-spec : {M : Type 1} → statement M
 factor-spec =
     tie.close
-    (tie.spec mul-v cast-wide-remainder wide-remainder-requires (λ c. search needs) remainder-requires (λ c. search needs))
+    (tie.spec mul-v (λ c κs. search needs) cast-wide-remainder wide-remainder-requires (λ c. search needs) remainder-requires (λ c. search needs))
