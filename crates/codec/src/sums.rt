@@ -65,7 +65,7 @@ fn is_little(s: Shape) -> bool
 {
     let mut checks: usize = 0;
     let mut h = 0;
-    while h < s.rows {
+    while h < 8 {
         checks += s.checks[h] as usize;
         h += 1;
     }

@@ -4,14 +4,17 @@ use native.Mathlib.Nat.{mul-le-mul}
 use native.Mathlib.Omega.{arith}
 use Rattle.frame.proofs.Shapes.{Ranges, shape-ranges}
 use borrow.Author.Needs.{needs}
+use lib.ListN.{getD}
+use mir.Syntax.{w16}
+use mir.Val.{Fits}
 use Rattle.codec.proofs.sums.is_little.Statement.{statement}
 use Rattle.codec.proofs.sums.is_little.Tie as tie
 
 abbrev Inv-loop : tie.InvT-loop
-Inv-loop s checks₀ h₀ checks h = (h ≤ s .rows) × (checks ≤ 64 * h)
+Inv-loop s checks₀ h₀ checks h = (h ≤ 8) × (checks ≤ 65535 * h)
 
 abbrev μ-loop : tie.MeasureT-loop
-μ-loop s checks₀ h₀ checks h = s .rows - h
+μ-loop s checks₀ h₀ checks h = 8 - h
 
 ranges : (c : tie.Start Inv-loop μ-loop) → Ranges (c .args .t1)
 ranges c = shape-ranges (c .args .t1) (c .pre)
@@ -19,34 +22,20 @@ ranges c = shape-ranges (c .args .t1) (c .pre)
 loop-holds : tie.Need-loop-holds Inv-loop μ-loop
 loop-holds c = (omega arith, omega arith)
 
-mul-checks : tie.Need-mul-checks Inv-loop μ-loop
-mul-checks c = let r = ranges (c .before .before) .rows-most in omega arith
-
-element-copy-out-checks : tie.Need-element-copy-out-checks Inv-loop μ-loop
-element-copy-out-checks c = let r = ranges (c .before .before) .rows-most in omega arith
-
-cast-checks : tie.Need-cast-checks Inv-loop μ-loop
-cast-checks c = let r = ranges (c .before .before .before) .checks (c .before .before .loop .h) (c .before .loop-test .taken) .most in omega arith
+-- a count has 16 bits
+count : (c : tie.After-checks Inv-loop μ-loop) → Fits w16 (getD (c .before .before .before .args .t1 .checks) (c .before .before .loop .h) 0)
+count c = search needs
 
 add-checks : tie.Need-add-checks Inv-loop μ-loop
-add-checks c =
-    let rows = ranges (c .before .before .before) .rows-most in
-    let r = ranges (c .before .before .before) .checks (c .before .before .loop .h) (c .before .loop-test .taken) .most in
-    omega arith
-
-add-h : tie.Need-add-h Inv-loop μ-loop
-add-h c = let rows = ranges (c .before .before .before) .rows-most in omega arith
+add-checks c = record { fits = omega (arith, count c .fits) }
 
 loop-again : tie.Need-loop-again Inv-loop μ-loop
-loop-again c =
-    let r = ranges (c .before .before .before) .checks (c .before .before .loop .h) (c .before .loop-test .taken) .most in
-    (omega arith, omega arith)
+loop-again c = (omega arith, omega (arith, count c .fits))
 
 mul-result : tie.Need-mul-result Inv-loop μ-loop
 mul-result c =
     let r = ranges (c .before .before) in
-    let rows = r .rows-most in
-    let most = mul-le-mul (let l : c .before .loop .checks ≤ 512 = omega arith in l) (r .columns-most) in
+    let most = mul-le-mul (let l : c .before .loop .checks ≤ 524280 = omega arith in l) (r .columns-most) in
     omega arith
 
 add-result : tie.Need-add-result Inv-loop μ-loop
@@ -62,11 +51,11 @@ is-little-spec =
     Inv-loop
     μ-loop
     loop-holds
-    mul-checks
-    element-copy-out-checks
-    cast-checks
+    (λ c. search needs)
+    (λ c. search needs)
+    (λ c. search needs)
     add-checks
-    add-h
+    (λ c. search needs)
     (λ c. omega arith)
     loop-again
     mul-result
