@@ -16,9 +16,10 @@ use calls::Work;
 use cases::{Beside, Case};
 use common::interface::{Calls, Job};
 use plain::Plain;
+use timing::Fresh;
 
-/// The inputs that are drawn of each case. The medians are those of the first; the longest call and the
-/// most stack are over all.
+/// The inputs that are drawn of each case. The medians are those of the first, called over and over; the
+/// fresh times and the most stack are over all.
 const INPUTS: u64 = 200;
 
 /// What is in the library's columns. The stack is that of calls in C.
@@ -31,7 +32,7 @@ struct Subject {
 struct Figures {
     plain: f64,
     library: f64,
-    worst: f64,
+    fresh: Fresh,
     stack: Option<usize>,
     flint: Option<f64>,
     /// The time of the library over its own for the call beside.
@@ -104,13 +105,13 @@ fn measure(case: &Case, subject: &Subject) -> Figures {
             black_box(black_box(&mut others).run(library));
         },
     ]);
-    let worst = timing::worst(&mut works, |work| {
+    let fresh = timing::fresh(&mut works, |work| {
         black_box(black_box(work).run(library));
     });
     Figures {
         plain: times[0],
         library: times[1],
-        worst,
+        fresh,
         flint: flint_time(&works[0]),
         stack: subject.stack.map(|most_used| most_used(&mut works)),
         to_beside: beside.map(|(what, _)| (what, times[1] / times[2])),
@@ -123,7 +124,9 @@ impl Figures {
     }
 
     fn print(&self, name: &str) {
-        let [plain, library, worst] = [self.plain, self.library, self.worst].map(|time| time / 1e3);
+        let Fresh { median, worst } = self.fresh;
+        let [plain, library, fresh, worst] =
+            [self.plain, self.library, median, worst].map(|time| time / 1e3);
         let stack = self
             .stack
             .map_or("-".to_string(), |bytes| bytes.to_string());
@@ -131,7 +134,7 @@ impl Figures {
             "{name:<66}{plain:>12.3}{library:>12.3}{:>8.2}",
             self.to_plain()
         );
-        print!("{worst:>12.3}{stack:>8}");
+        print!("{fresh:>12.3}{worst:>12.3}{stack:>8}");
         if let Some(time) = self.flint {
             print!("{:>12.3}", time / 1e3);
         }
@@ -177,11 +180,12 @@ impl Worst {
 fn main() {
     let subject = subject();
     println!(
-        "{:<66}{:>12}{:>12}{:>8}{:>12}{:>8}{:>12}{:>12}{:>12}",
+        "{:<66}{:>12}{:>12}{:>8}{:>12}{:>12}{:>8}{:>12}{:>12}{:>12}",
         "microseconds a call (median), bytes of stack",
         "plain",
         "library",
         "ratio",
+        "fresh",
         "worst",
         "stack",
         "FLINT",

@@ -7,10 +7,15 @@ use std::time::{Duration, Instant};
 const SAMPLES: usize = 201;
 const SAMPLE_TIME: Duration = Duration::from_micros(100);
 
-/// How often each of many inputs is called: so many times in a row, in so many passes over all inputs, so
-/// that a machine that is busy for a while does not slow all of its calls.
-const PASSES: usize = 4;
-const CALLS: usize = 3;
+/// How often each of many inputs is called: once in each pass over all of them, so that a machine that is
+/// busy for a while does not slow all of its calls.
+const PASSES: usize = 12;
+
+/// The times over many inputs of a call that comes after those of all the others.
+pub struct Fresh {
+    pub median: f64,
+    pub worst: f64,
+}
 
 /// The time of one of `rounds` calls.
 fn sample(rounds: u32, work: &mut dyn FnMut()) -> Duration {
@@ -50,18 +55,20 @@ pub fn medians(works: &mut [&mut dyn FnMut()]) -> Vec<f64> {
     samples.iter_mut().map(median).collect()
 }
 
-/// The time of the longest call over these inputs. Each call is timed by itself, and of the times of an
-/// input the least is taken, so that an interrupt of the machine is not the call's. What reading the
-/// clock takes is not counted.
-pub fn worst<T>(inputs: &mut [T], call: impl Fn(&mut T)) -> f64 {
+/// The median and the longest time of a call over these inputs. All the others are called between two
+/// calls of one, so that the processor has forgotten most of its branches. Each call is timed by itself,
+/// and of the times of an input the least is taken, so that an interrupt of the machine is not the call's.
+/// What reading the clock takes is not counted.
+pub fn fresh<T>(inputs: &mut [T], call: impl Fn(&mut T)) -> Fresh {
     let mut least = vec![Duration::MAX; inputs.len()];
     for _ in 0..PASSES {
         for (input, least) in inputs.iter_mut().zip(&mut least) {
-            for _ in 0..CALLS {
-                *least = sample(1, &mut || call(input)).min(*least);
-            }
+            *least = sample(1, &mut || call(input)).min(*least);
         }
     }
+    least.sort();
     let clock = (0..1000).map(|_| sample(1, &mut || {})).min();
-    nanoseconds(*least.iter().max().unwrap()) - nanoseconds(clock.unwrap())
+    let [median, worst] = [least.len() / 2, least.len() - 1]
+        .map(|place| nanoseconds(least[place]) - nanoseconds(clock.unwrap()));
+    Fresh { median, worst }
 }
