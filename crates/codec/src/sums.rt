@@ -5,12 +5,12 @@ use frame::Shape;
 use transform::factors::weights;
 use transform::stages::staged_sums;
 ghost use mathlib.Core.Path.{_≡_};
-ghost use Prim.Native.Nat.{_*_, _≤_};
+ghost use Prim.Native.Nat.{_≤_};
 ghost use lib.ListN.{length, replicate};
 ghost use Rattle.transform.specs.Stages.{Weights};
 ghost use Rattle.codec.specs.Summable.{Summable};
 ghost use mathlib.Core.Bool.{true};
-ghost use Rattle.frame.specs.Frame.{checkSums, heldSums};
+ghost use Rattle.frame.specs.Frame.{WellFormed, checkSums, heldSums};
 ghost use Rattle.frame.specs.Shape.{isShape};
 
 // The check sums of a row x from the exponent b on, as many as there are places for them, one after the other. Each is the value of the row, as a polynomial,
@@ -40,7 +40,7 @@ fn row_sums(powers: &[u16; 256], b: u32, t: &[u16], x: &[u16], sums: &mut [u16])
 
 // The check sums of the rows of a frame, row after row, written over zeros.
 fn sum_rows(s: Shape, t: &[u16], frame: &[u16], sums: &mut [u16])
-    requires { ⌜ (isShape s ≡ true) × (length (now frame) ≡ s .rows * s .columns)
+    requires { ⌜ (isShape s ≡ true) × WellFormed s (now frame)
         × (1024 ≤ length (now t) → Weights (s .exponent) (now t)) × (now sums ≡ replicate 512 0) ⌝ }
     ensures { λ r. ⌜ now (sums .exit) ≡ heldSums s (now (frame .entry)) ⌝ }
 {
@@ -74,7 +74,7 @@ fn is_little(s: Shape) -> bool
 
 // The check sums of the rows of a frame, row after row, and zeros after them. The table for stages is made where they gain something.
 pub fn frame_sums(s: Shape, frame: &[u16]) -> [u16; 512]
-    requires { ⌜ (isShape s ≡ true) × (length (now frame) ≡ s .rows * s .columns) ⌝ }
+    requires { ⌜ (isShape s ≡ true) × WellFormed s (now frame) ⌝ }
     ensures { λ r. ⌜ r ≡ heldSums s (now (frame .entry)) ⌝ }
 {
     let mut sums = [0u16; 512];

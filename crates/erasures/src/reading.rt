@@ -14,7 +14,7 @@ ghost use Prim.Native.Nat.{_≤_};
 ghost use lib.ListN.{length, take};
 ghost use Rattle.erasures.specs.Readable.{ReadableFrame};
 ghost use Rattle.frame.specs.Completion.{cleared};
-ghost use Rattle.frame.specs.DeclaredCells.{asRead, declaredBy, readTests};
+ghost use Rattle.frame.specs.DeclaredCells.{WellFormedRead, asRead, declaredBy, readTests};
 ghost use Rattle.frame.specs.Frame.{heldSums};
 ghost use Rattle.frame.specs.Shape.{isShape};
 ghost use Rattle.refusal.specs.Outcome.{outcome, outcomeOf};
@@ -93,7 +93,7 @@ pub fn check_read(s: Shape, declared: &[u64; 32], frame: &[u16]) -> Checked
 
 // The check sums of the frame as read, row after row, and zeros after them.
 pub fn sums_read(s: Shape, declared: &[u64; 32], frame: &[u16]) -> [u16; 512]
-    requires { ⌜ ReadableFrame s (now frame) ⌝ }
+    requires { ⌜ (isShape s ≡ true) × WellFormedRead s (declaredBy (now declared)) (now frame) ⌝ }
     ensures { λ r. ⌜ r ≡ heldSums s (asRead s (declaredBy (now (declared .entry))) (now (frame .entry))) ⌝ }
 {
     let n = frame.len();

@@ -1,5 +1,6 @@
 pub mod Accumulation
 pub mod Field257
+pub mod Halves
 pub mod LocatorBuilding
 pub mod LocatorPolynomial
 pub mod Locators

@@ -3,7 +3,7 @@ use crate::powers::entry;
 ghost use mathlib.Core.Path.{_≡_};
 ghost use Prim.Native.Nat.{_+_, _*_, _/_, _%_, _^_, _≤_, _<_};
 ghost use lib.ListN.{length, getD};
-ghost use Rattle.field257.specs.Evaluable.{Evaluable, cubicAt};
+ghost use Rattle.field257.specs.Evaluable.{Evaluable, Paired, linearAt};
 ghost use Rattle.field.specs.Coefficients.{value};
 ghost use Rattle.lists.specs.Total.{total};
 ghost use Rattle.field257.specs.Powers.{powerOf3};
@@ -21,28 +21,23 @@ fn long(x: u16) -> u64
     x as u64
 }
 
-// A coefficient and, above it, the value at y of those that follow.
-fn above(a: u16, y: u64, rest: u64) -> u64
-    requires { ⌜ (y ≤ 256) × (rest ≤ 1099511627776) ⌝ }
-    ensures equals { λ r. ⌜ r ≡ a + y * rest ⌝ }
-    ensures bounded { λ r. ⌜ r ≤ 65535 + 256 * rest ⌝ }
+// Two coefficients in one number, the second in the upper half.
+fn beside(a: u16, b: u16) -> u64
+    ensures { λ r. ⌜ r ≡ a + 4294967296 * b ⌝ }
 {
-    long(a) + y * rest
+    long(a) + 4294967296 * long(b)
 }
 
-// The value at y of the polynomial of the four coefficients from k on, not reduced.
-fn cubic(f: &[u16], k: usize, y: u64) -> u64
-    requires { ⌜ (k + 4 ≤ length (now f)) × (y ≤ 256) ⌝ }
-    ensures equals { λ r. ⌜ r ≡ cubicAt (now (f .entry)) k y ⌝ }
-    ensures bounded { λ r. ⌜ r ≤ 4398046511104 ⌝ }
+// The values at y of the polynomials of the two coefficients from k on and, beside it, from j on: one product for both.
+fn linear(f: &[u16], k: usize, j: usize, y: u64) -> u64
+    requires { ⌜ Paired (now f) k j y ⌝ }
+    ensures { λ r. ⌜ r ≡ linearAt (now (f .entry)) k y + 4294967296 * linearAt (now (f .entry)) j y ⌝ }
 {
-    let two = above(f[k + 2], y, long(f[k + 3]));
-    let three = above(f[k + 1], y, two);
-    above(f[k], y, three)
+    beside(f[k], f[j]) + y * beside(f[k + 1], f[j + 1])
 }
 
-// What the coefficients up to the last multiple of four add to the value at 3^e, not reduced: one power of 3 is looked up for
-// four of them.
+// What the coefficients up to the last multiple of four add to the value at 3^e, not reduced. The second half of them is summed beside the first, so that there
+// are half as many products, and one power of 3 is looked up for four coefficients.
 fn fours(powers: &[u16; 256], f: &[u16], e: u32) -> u64
     requires { ⌜ Evaluable (now powers) (now f) e ⌝ }
     ensures equals { λ r. ⌜
@@ -52,15 +47,16 @@ fn fours(powers: &[u16; 256], f: &[u16], e: u32) -> u64
 {
     let y = long(entry(powers, e));
     let blocks = f.len() / 4;
+    let half = 2 * blocks;
     let mut total: u64 = 0;
     let mut exponent: u32 = 0;
     let mut b = 0;
     while b < blocks {
-        total += cubic(f, 4 * b, y) * long(entry(powers, exponent));
-        exponent += 4 * e;
+        total += linear(f, 2 * b, half + 2 * b, y) * long(entry(powers, exponent));
+        exponent += 2 * e;
         b += 1;
     }
-    total
+    total % 4294967296 + total / 4294967296 * long(entry(powers, exponent))
 }
 
 // The value at 3^e of the polynomial with the coefficients f. The sum fits 64 bits, so that it is reduced once.

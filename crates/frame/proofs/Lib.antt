@@ -31,5 +31,6 @@ pub mod RowsAtSets
 pub mod RowsChanged
 pub mod ShapeTests
 pub mod Shapes
+pub mod Symbols
 pub mod SymbolsPut
 pub mod Weights

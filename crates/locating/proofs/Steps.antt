@@ -2,12 +2,12 @@
 use mathlib.Core.Path.{_≡_, refl, sym, ap, ap₂, _∙_}
 use mathlib.Core.Bool.{true, false, and-eq-true-iff}
 use mathlib.Core.List.{List, [], _∷_}
-use Prim.Native.Nat.{ℕ, _≤_, _<_}
-use lib.ListN.{length, getD}
+use Prim.Native.Nat.{ℕ, _≤_}
+use lib.ListN.{length}
 use Rattle.decoding.specs.Remaining.{leftReach, mended}
 use Rattle.frame.specs.DeclaredCells.{Declared, declaredBy, declarable, asRead, undeclaredBelow, readTests, rereadTests, WellFormedRead}
 use Rattle.frame.specs.Encode.{encoded, encodeTests}
-use Rattle.frame.specs.Frame.{heldSums, frameTests}
+use Rattle.frame.specs.Frame.{WellFormed, heldSums, frameTests}
 use Rattle.frame.specs.Shape.{shapeOf, shapeTests}
 use Rattle.frame.specs.declared.Shape.{Shape}
 use Rattle.frame.proofs.Declarable.{read-passes}
@@ -40,15 +40,15 @@ pub mended-outcome : (j : Head) (a : Arrays) (f : List ℕ) {r : Answered} {c : 
     → c ≡ lengthOf (j .phase) → left ≡ mended (j .shape) (declaredBy (a .declared)) (j .columns) f → answeredOutcome r a left ≡ repairs (beside j a) f
 mended-outcome j a f e n l = rw (e, n, l) refl
 
+pub passed-frame : (s : Shape) (f : List ℕ) → outcome (frameTests s f) ≡ passed → WellFormed s f
+passed-frame s f e = frame-passes s f (passed-pass (frameTests s f) e)
+
 pub passed-read : (s : Shape) (words f : List ℕ) → outcome (readTests s (declaredBy words) f) ≡ passed → WellFormedRead s (declaredBy words) f
 passed-read s words f e = read-passes s (declaredBy words) f (passed-pass (readTests s (declaredBy words) f) e)
 
 pub passed-undeclared : (s : Shape) (words f : List ℕ) → outcome (readTests s (declaredBy words) f) ≡ passed → undeclaredBelow s (declaredBy words) f ≡ true
 unfolding readTests
 passed-undeclared s words f e = let (size, (declared, (symbols, u))) = passed-pass (readTests s (declaredBy words) f) e in no-fail _ symbols
-
-pub passed-symbols : (s : Shape) (f : List ℕ) → outcome (frameTests s f) ≡ passed → (k : ℕ) → k < length f → getD f k 0 < 257
-passed-symbols s f e = frame-passes s f (passed-pass (frameTests s f) e) .symbols
 
 -- ---- shape
 

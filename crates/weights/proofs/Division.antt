@@ -2,6 +2,7 @@
 use mathlib.Core.Path.{_≡_, refl, sym, ap, ap₂, _∙_}
 use mathlib.Core.List.{List}
 use Prim.Native.Nat.{ℕ, zero, suc, _+_, _*_, _%_, _≤_, _<_}
+use native.Mathlib.Decide.{decLt}
 use native.Mathlib.Nat.{mod-lt, mul-le-mul}
 use native.Mathlib.Numerals.{add-one}
 use native.Mathlib.Omega.{arith}
@@ -10,7 +11,9 @@ use lib.ListN.{length, getD, set}
 use Rattle.field.proofs.Remainders.{same-sums}
 use Rattle.field257.specs.Montgomery.{montgomery}
 use Rattle.field257.proofs.MontgomeryProduct.{montgomery-residue}
+use Rattle.lists.specs.Tabulate.{tabulate}
 use Rattle.lists.proofs.Filling.{Filled, filled-none, filled-more}
+use Rattle.lists.proofs.Tabulated.{getD-tabulate, getD-tabulate-past}
 use Rattle.weights.specs.Weights.{carried}
 
 pub carried-zero : (f : List ℕ) (x : ℕ) → carried f x 0 ≡ 0
@@ -25,6 +28,13 @@ pub carried-below : (f : List ℕ) (x k : ℕ) → carried f x k < 257
 unfolding carried
 carried-below f x zero = lit< tt
 carried-below f x (suc k) = mod-lt _ (lit< tt)
+
+pub quotient-below : (f : List ℕ) (x m k : ℕ) → getD (tabulate m (λ i. carried f x (suc i))) k 0 < 257
+quotient-below f x m k = pick (decLt k m)
+  where
+    pick : Dec (k < m) → getD (tabulate m (λ i. carried f x (suc i))) k 0 < 257
+    pick (yes inside) = rw (getD-tabulate m (λ i. carried f x (suc i)) k 0 inside) (carried-below f x (suc k))
+    pick (no past) = rw (getD-tabulate-past m (λ i. carried f x (suc i)) k 0 (omega arith)) (lit< tt)
 
 -- one coefficient more, where v and c stand for residues and the product is Montgomery's
 pub carried-more : (f : List ℕ) (x k v c : ℕ) → v % 257 ≡ carried f x k → c % 257 ≡ getD f k 0 % 257 → (c + montgomery v x) % 257 ≡ carried f x (suc k)

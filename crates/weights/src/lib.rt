@@ -8,7 +8,7 @@ use field257::powers::entry;
 use field257::powers::wide;
 use field257::values::value_at;
 ghost use mathlib.Core.Path.{_≡_};
-ghost use Prim.Native.Nat.{suc, _≤_, _<_};
+ghost use Prim.Native.Nat.{ℕ, suc, _≤_, _<_};
 ghost use lib.ListN.{length, getD};
 ghost use Rattle.weights.specs.Weighable.{Weighable};
 ghost use Rattle.weights.specs.Weights.{carried, factorOf, readOff};
@@ -44,7 +44,7 @@ fn scale(row: &mut [u16], c: u32)
 
 // What the coefficients of column i are multiples of, for the locator polynomial of the other columns of its set.
 fn factor(powers: &[u16; 256], b: u32, others: &[u16], i: usize) -> u32
-    requires { ⌜ Weighable (now powers) b i (now others) ⌝ }
+    requires { ⌜ Weighable (now powers) b i (now others) × ((k : ℕ) → getD (now others) k 0 < 257) ⌝ }
     ensures equals { λ r. ⌜ r ≡ factorOf b (length (now (others .entry))) i (now (others .entry)) ⌝ }
     ensures below { λ r. ⌜ r < 257 ⌝ }
 {

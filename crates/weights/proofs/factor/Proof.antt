@@ -19,15 +19,15 @@ mul-entry : tie.Need-mul-entry
 mul-entry c =
     let start = start-of c in
     let m = length (start .args .others .now) in
-    let less : start .args .i ≤ 255 = omega (arith, start .pre .column) in
-    let most : start .args .b + m - 1 ≤ 318 = omega (arith, start .pre .exponent, start .pre .few) in
+    let less : start .args .i ≤ 255 = omega (arith, start .pre .0 .column) in
+    let most : start .args .b + m - 1 ≤ 318 = omega (arith, start .pre .0 .exponent, start .pre .0 .few) in
     omega (arith, mul-le-mul less most)
 
 -- the weight in the last check sum
 weight : (c : tie.After-entry) →
     let args = start-of (c .before) .args in
     c .entry .result ≡ powerOf3 (args .i * (args .b + length (args .others .now) - 1))
-weight c = c .entry .ensures .0 (start-of (c .before) .pre .powers-known)
+weight c = c .entry .ensures .0 (start-of (c .before) .pre .0 .powers-known)
 
 product-requires : tie.Need-product-requires
 product-requires c κs =
@@ -41,7 +41,7 @@ returns c =
     let there = powered .before .value-at in
     let start = start-of (powered .before) in (
       factor-is (start .args .b) (length (start .args .others .now)) (start .args .i) _ (there .result) (powered .entry .result) (part .product .result)
-          (c .before .inverse .result) (c .difference .result) (omega (arith, start .pre .column)) (there .ensures .0) (weight powered)
+          (c .before .inverse .result) (c .difference .result) (omega (arith, start .pre .0 .column)) (there .ensures .0) (weight powered)
           (part .product .ensures .0 ∙ ap₂ (times 257) (part .before .before .wide .ensures .0) (part .before .wide2 .ensures .0))
           (c .before .inverse .ensures .0) (c .difference .ensures .0),
       c .difference .ensures .1,

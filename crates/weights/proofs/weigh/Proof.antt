@@ -7,6 +7,7 @@ use Rattle.field257.specs.Powers.{locatorOf}
 use Rattle.lists.specs.Tabulate.{tabulate}
 use Rattle.lists.proofs.Tabulated.{length-tabulate}
 use Rattle.weights.specs.Weights.{carried}
+use Rattle.weights.proofs.Division.{quotient-below}
 use Rattle.weights.proofs.ReadOff.{scaled-is}
 use borrow.Author.Needs.{needs}
 use Rattle.weights.proofs.weigh.Statement.{statement}
@@ -22,6 +23,11 @@ looked-up c = c .wide .ensures .0 ∙ c .before .entry .ensures .0 (start-of c .
 
 divide-requires : tie.Need-divide-requires
 divide-requires c κs = (omega (arith, looked-up (c .before)), start-of (c .before) .pre .few)
+
+factor-requires : tie.Need-factor-requires
+factor-requires c κs =
+    let divided = c .before .before .before in
+    (search needs, λ k. rw (divided .divide .ensures) (quotient-below _ _ _ k))
 
 returns : tie.Need-returns
 returns c =
@@ -44,7 +50,7 @@ weigh-spec =
     (λ c κs. search needs)
     (λ c κs. search needs)
     divide-requires
-    (λ c κs. search needs)
+    factor-requires
     (λ c κs. search needs)
     (λ c. search needs)
     returns)

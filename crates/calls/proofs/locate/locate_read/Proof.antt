@@ -52,7 +52,7 @@ passes c = sym (tested c .check-read .ensures) ∙ ap outcomeOf (c .enum-told .g
 -- ---- locating from its sums
 
 sums-read-requires : tie.Need-sums-read-requires
-sums-read-requires c κs = record { shape = shape (start-of (tested c)); whole = passed-read _ _ _ (passes c) .size }
+sums-read-requires c κs = (shape (start-of (tested c)), passed-read _ _ _ (passes c))
 
 locate-from-requires : tie.Need-locate-from-requires
 locate-from-requires c κs =

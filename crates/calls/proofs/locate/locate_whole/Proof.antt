@@ -12,7 +12,7 @@ use Rattle.frame.proofs.NothingDeclared.{nothing-declarable}
 use Rattle.job.proofs.Forms.{has-shape}
 use Rattle.refusal.specs.Outcome.{outcome, outcomeOf, passed}
 use Rattle.locating.proofs.Locating.{arrays-kept, arrays-written}
-use Rattle.locating.proofs.Steps.{refusal-outcome, passed-read, locate-refused, locate-goes-on}
+use Rattle.locating.proofs.Steps.{refusal-outcome, passed-frame, passed-read, locate-refused, locate-goes-on}
 use Rattle.job.proofs.Undeclared.{whole-tests, whole-sums}
 use borrow.Author.Needs.{needs}
 use Rattle.calls.proofs.locate.locate_whole.Statement.{statement}
@@ -57,7 +57,8 @@ passes c =
 -- ---- locating from its sums
 
 frame-sums-requires : tie.Need-frame-sums-requires
-frame-sums-requires c κs = (shape (start-of (tested c)), passed-read _ _ _ (passes c) .size)
+frame-sums-requires c κs =
+    (shape (start-of (tested c)), passed-frame _ _ (sym (tested c .check-frame .ensures) ∙ ap outcomeOf (c .enum-told .given .1)))
 
 locate-from-requires : tie.Need-locate-from-requires
 locate-from-requires c κs =

@@ -93,7 +93,7 @@ passes : (c : tie.After-enum-told) →
 passes c = sym (told-by c .check-read .ensures) ∙ ap outcomeOf (c .enum-told .given .1)
 
 sums-read-requires : tie.Need-sums-read-requires
-sums-read-requires c κs = record { shape = shape (begun (held-sound (c .before))); whole = passed-read _ _ _ (passes (c .before)) .size }
+sums-read-requires c κs = (shape (begun (held-sound (c .before))), passed-read _ _ _ (passes (c .before)))
 
 -- the sums are compared
 compared : (c : tie.After-same-sums) →

@@ -8,7 +8,7 @@ use borrow.Author.Tests.{not-true, not-false}
 use Rattle.columns.specs.Columns.{Sound}
 use Rattle.columns.proofs.Marks.{sound}
 use Rattle.frame.specs.DeclaredCells.{declaredBy, asRead, readTests}
-use Rattle.frame.specs.Frame.{heldSums}
+use Rattle.frame.specs.Frame.{WellFormed, heldSums}
 use Rattle.frame.specs.Shape.{isShape}
 use Rattle.frame.proofs.NothingDeclared.{nothing-declarable}
 use Rattle.job.specs.Calls.{sameSums}
@@ -16,7 +16,7 @@ use Rattle.job.specs.Job.{Arrays, beside, isLocated, withRead}
 use Rattle.job.proofs.Forms.{has-shape}
 use Rattle.job.proofs.Marked.{located-marked, located-reach}
 use Rattle.refusal.specs.Outcome.{outcome, outcomeOf, passed}
-use Rattle.locating.proofs.Steps.{refusal-outcome, mended-outcome, passed-read, passed-symbols, repair-refused, repair-differs, repair-mends}
+use Rattle.locating.proofs.Steps.{refusal-outcome, mended-outcome, passed-frame, repair-refused, repair-differs, repair-mends}
 use Rattle.job.proofs.Undeclared.{whole-tests, whole-sums, whole-sound, whole-mended}
 use borrow.Author.Needs.{needs}
 use Rattle.calls.proofs.repair.repair_whole.Statement.{statement}
@@ -72,8 +72,11 @@ passes c =
     let start = start-of (told-by c) in
     sym (whole-tests _ (shape start) _ (start .pre .nothing) _) ∙ sym (told-by c .check-frame .ensures) ∙ ap outcomeOf (c .enum-told .given .1)
 
+well-formed : (c : tie.After-enum-told) → let args = start-of (told-by c) .args in WellFormed (args .j .shape) (now (args .frame))
+well-formed c = passed-frame _ _ (sym (told-by c .check-frame .ensures) ∙ ap outcomeOf (c .enum-told .given .1))
+
 frame-sums-requires : tie.Need-frame-sums-requires
-frame-sums-requires c κs = (shape (start-of (told-by (c .before))), passed-read _ _ _ (passes (c .before)) .size)
+frame-sums-requires c κs = (shape (start-of (told-by (c .before))), well-formed (c .before))
 
 -- the sums are compared
 compared : (c : tie.After-same-sums) →
@@ -83,7 +86,7 @@ compared c =
     let start = begun c in
     sym (c .same-sums .ensures
     ∙ ap (λ (l : List ℕ). sameSums l (start .args .sums .now)) (c .before .before .frame-sums .ensures
-    ∙ whole-sums _ (shape start) _ (start .pre .nothing) _ (passed-read _ _ _ (passes (told-before c)) .size)))
+    ∙ whole-sums _ (shape start) _ (start .pre .nothing) _ (well-formed (told-before c) .size)))
 
 returns-2 : tie.Need-returns-2
 returns-2 c =
@@ -107,8 +110,8 @@ mend-requires c κs =
     let marked = located-marked _ (start .pre .repairable .full) (start .pre .repairable .located) (words start) in
     record {
       shape = shape start;
-      whole = passed-read _ _ _ (passes told) .size;
-      small = passed-symbols _ _ (sym (told-by told .check-frame .ensures) ∙ ap outcomeOf (told .enum-told .given .1));
+      whole = well-formed told .size;
+      small = well-formed told .symbols;
       held = same .before .before .frame-sums .ensures;
       below = marked .inside;
       reach = marked .reach;

@@ -1,11 +1,13 @@
 -- `codec::sums::sum_rows` meets its contract.
 use mathlib.Core.Path.{sym, ap, _∙_}
-use Prim.Native.Nat.{_-_}
+use Prim.Native.Nat.{_+_, _-_, _*_}
 use native.Mathlib.Omega.{arith}
 use lib.ListN.{length, length-take}
 use Rattle.frame.proofs.Held.{Held, held-none, held-more, held-all, length-row}
+use Rattle.frame.proofs.HeldParts.{part-below}
 use Rattle.frame.proofs.RowPlace.{RowPlace, row-place}
 use Rattle.frame.proofs.Shapes.{shape-ranges}
+use Rattle.frame.proofs.Symbols.{symbols-below}
 use borrow.Author.Needs.{needs}
 use Rattle.codec.proofs.sums.sum_rows.Statement.{statement}
 use Rattle.codec.proofs.sums.sum_rows.Tie as tie
@@ -23,7 +25,7 @@ start-of c = c .before .before .before .before .before .before
 place : (c : tie.In-loop Inv-loop μ-loop) → RowPlace (start-of c .args .t1) (length (start-of c .args .frame .now)) (c .before .loop .h)
 place c =
     let start = start-of c in
-    row-place (start .args .t1) (length (start .args .frame .now)) (c .before .loop .h) (start .pre .0) (start .pre .1) (c .loop-test .taken)
+    row-place (start .args .t1) (length (start .args .frame .now)) (c .before .loop .h) (start .pre .0) (start .pre .1 .size) (c .loop-test .taken)
 
 loop-holds : tie.Need-loop-holds Inv-loop μ-loop
 loop-holds c = rw (c .before .before .before .before .pre .3) (held-none _ _)
@@ -71,11 +73,15 @@ row-sums-requires : tie.Need-row-sums-requires Inv-loop μ-loop
 row-sums-requires c κs =
     let at = c .before .before .before .before in
     let start = start-of at in
-    let p = place at in (
+    let p = place at in
+    let s = start .args .t1 in
+    let f = start .args .frame .now in
+    let h = at .before .loop .h in (
       record {
         powers-known = at .before .before .powers .ensures;
         exponent = omega (arith, shape-ranges (start .args .t1) (start .pre .0) .exponent-most);
         narrow = omega (arith, length-row _ _ _ _ _ (at .before .loop .inv) p);
+        symbols = part-below f (symbols-below s f (start .pre .1)) (h * s .columns) (h * s .columns + s .columns - h * s .columns);
         few = simp length-take (omega arith);
       },
       start .pre .2,
