@@ -60,6 +60,7 @@ fn sum_rows(s: Shape, t: &[u16], frame: &[u16], sums: &mut [u16])
 }
 
 // Whether there is so little to sum that stages gain nothing: measured, their table costs as much as 512 products one after the other, and so does each row.
+// All eight counts are added, since a loop of eight has no jumps: those of rows that are not there are 0 in the shapes that calls make.
 fn is_little(s: Shape) -> bool
     requires { ⌜ isShape s ≡ true ⌝ }
 {

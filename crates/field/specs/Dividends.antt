@@ -9,7 +9,7 @@ pub record Dividend (v p m : ℕ) : Type 0 where
   pub product : v < p * p
   pub reciprocal : m ≡ 281474976710655 / p + 1
 
--- the quotient of v by p is below 2^24, as that of a sum of up to 129 products of residues is; m is in parts of 2^40
+-- v is at most p times 2^24 − 1, as a sum of up to 129 products of residues is; m is in parts of 2^40
 pub record WideDividend (v p m : ℕ) : Type 0 where
   pub positive : 0 < p
   pub modulus : p ≤ 65521

@@ -1,5 +1,6 @@
--- A settled register answers all that is still asked for, so the rounds that are left change nothing on the arrays.
-use mathlib.Core.Path.{_≡_, refl, sym, subst, _∙_}
+-- A settled register answers all that is still asked for, so the rounds that are left change nothing on the arrays. (`settled` of `register` says this of the
+-- state of Algorithm 4; here each step is shown to rest, by the law that the code of a step has, so that the arrays need not be read back.)
+use mathlib.Core.Path.{_≡_, refl, sym}
 use mathlib.Core.Bool.{true}
 use mathlib.Core.List.{List}
 use Prim.Native.Nat.{ℕ, zero, suc, _+_, _-_, _*_, _%_, _≤_, _<_}
@@ -33,7 +34,7 @@ testable {k = k} worked not-two lent r round reached h more =
       modulus = worked;
       not-two = not-two;
       lent = lent;
-      ending = ending (positive r) (ready r round first begun) (reached .ended);
+      residues = ending (positive r) (ready r round first begun) (reached .ended) .residues;
       short = omega (arith, reach .grown, reach .round, reach .longest);
       sequence = omega (arith, r .count);
       shorter = omega (arith, r .shorter h more, r .longest);
@@ -49,7 +50,8 @@ module _ {p N : ℕ} {o : Order} {k : ℕ} {blocks : List ℕ} (r : Running p N 
   unfolding settled settledIn
   no-sum h more j left asked = eqb-true _ _ (every-at _ _ (every-at k _ is-settled h more) j (omega arith))
 
-  none-due : (m h : ℕ) → n ≤ m → h < k → InReach p N (g .length) h (size h) (m + 1) blocks → 0 ≡ dueAt p N (g .length) taps (sequenceIn blocks h (size h)) (m + 1)
+  none-due : (m h : ℕ) → n ≤ m → h < k → InReach p N (g .length) h (size h) (m + 1) blocks →
+      0 ≡ dueAt p N (g .length) taps (sequenceIn blocks h (size h)) (m + 1)
   none-due m h later more reach = pick (decLt (g .length + (N - size h)) (m + 1))
     where
       pick : Dec (g .length + (N - size h) < m + 1) → 0 ≡ dueAt p N (g .length) taps (sequenceIn blocks h (size h)) (m + 1)
@@ -67,7 +69,8 @@ module _ {p N : ℕ} {o : Order} {k : ℕ} {blocks : List ℕ} (r : Running p N 
       (stepped r round more before
       (resting (positive r) (ready r round more before) (before .ended) (none-due m h later more (in-reach r round more before)) refl))
 
-  rests : (d : ℕ) → n + d ≤ N → Reached p k (rounds p N (sequencesIn o k blocks) n) g taps saved → Reached p k (rounds p N (sequencesIn o k blocks) (n + d)) g taps saved
+  rests : (d : ℕ) → n + d ≤ N → Reached p k (rounds p N (sequencesIn o k blocks) n) g taps saved →
+      Reached p k (rounds p N (sequencesIn o k blocks) (n + d)) g taps saved
   rests zero le reached = all-run r n (n + 0) (omega arith) reached
   rests (suc d) le reached =
       all-run r (n + d + 1) (n + suc d) (omega arith)

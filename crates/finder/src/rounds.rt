@@ -1,4 +1,4 @@
-// The rounds of Algorithm 4: its start, each round, all of them, and the alone mark at the end.
+// The rounds of Algorithm 4: its start, each round, those that may change something, and the alone mark at the end.
 use register_step::Modulus;
 use register_step::discrepancy::residue;
 use register_step::step::change;
@@ -139,7 +139,7 @@ fn advance(
     l
 }
 
-// The next round after which it is looked whether the register is settled: 9, 17, or the last.
+// How many rounds are made before the next look whether the register is settled: 9, 17, or all.
 fn pause(n: usize, longest: usize) -> usize
     requires { ⌜ (n < longest) × (17 ≤ longest) ⌝ }
     ensures { λ r. ⌜ (n < r) × (r ≤ longest) ⌝ }
@@ -153,8 +153,8 @@ fn pause(n: usize, longest: usize) -> usize
     longest
 }
 
-// All rounds, as long as they may change something. Where fewer than half as many taps as rounds were needed the register is likely settled; then the rounds
-// that are left are not made.
+// All rounds, as long as they may change something. Where fewer than half as many taps as rounds were needed the register is likely settled, and is tested; the
+// rounds that are left are not made where it is.
 fn until_settled(
     f: Modulus,
     moduli: &[u16; 144],
@@ -207,7 +207,8 @@ fn until_settled(
     l
 }
 
-// All rounds. Where there are few it does not pay to look whether the register is settled.
+// All rounds, as long as they may change something. Where there are few it does not pay to look whether the register is settled, and modulo 2 the test does not
+// serve.
 pub fn rounds(
     f: Modulus,
     moduli: &[u16; 144],

@@ -1,18 +1,18 @@
 -- The products that a discrepancy sums: they are small, those past the register are 0, and the symbols before one are those after it where the sequence stands
 -- backwards.
-use mathlib.Core.Path.{_≡_, sym, ap, ap₂, _∙_}
+use mathlib.Core.Path.{_≡_, sym, ap, _∙_}
 use mathlib.Core.List.{List}
 use Prim.Native.Nat.{ℕ, suc, _+_, _-_, _*_, _/_, _%_, _≤_, _<_, zero-le}
 use native.Mathlib.Decide.{decLe}
 use native.Mathlib.Nat.{mul-le-mul, zero-mul}
-use native.Mathlib.Numerals.{add-one}
 use native.Mathlib.Omega.{arith}
 use borrow.Author.Tests.{lt-ltb, le-ltb}
 use lib.ListN.{length, getD}
 use Rattle.field.proofs.ProductSums.{sum-below}
 use Rattle.lists.specs.Total.{total}
+use Rattle.lists.proofs.Summing.{Summed, summed-all}
 use Rattle.lists.proofs.Tabulated.{length-tabulate, getD-tabulate}
-use Rattle.lists.proofs.Totals.{total-zero, total-suc, total-ext, total-bound}
+use Rattle.lists.proofs.Totals.{total-ext, total-bound}
 use Rattle.register.specs.Register.{discrepancy}
 use Rattle.register.specs.Sequences.{symbol}
 use Rattle.register_step.specs.Discrepancies.{Ending, InReach, Loose, Narrow, Summable, sumAt, sequenceIn, dueAt}
@@ -30,29 +30,11 @@ module _ (l : ℕ) (taps symbols : List ℕ) (from : ℕ) (zeros : (i : ℕ) →
   rounded : total ((l / 8 + 1) * 8) (λ k. getD taps k 0 * getD symbols (from + k) 0) ≡ sumAt l taps symbols from
   rounded = total-first (suc l) ((l / 8 + 1) * 8) _ (omega (arith, past-last l)) none-past
 
--- ---- products that are small: k of n are summed
+-- ---- products that are small, once all are summed
 
-pub record Summed (n : ℕ) (f : ℕ → ℕ) (k s : ℕ) : Type 0 where
-  pub within : k ≤ n
-  pub bound : s ≤ k * 66049
-  pub so-far : s ≡ total k f
-
-pub summed-none : (n : ℕ) (f : ℕ → ℕ) → Summed n f 0 0
-summed-none n f = record { within = zero-le; bound = zero-le; so-far = sym (total-zero f) }
-
-pub summed-more : (n : ℕ) (f : ℕ → ℕ) {k s x : ℕ} → Summed n f k s → k < n → x ≡ f k → x ≤ 66049 → Summed n f (k + 1) (s + x)
-summed-more n f {k} {s} {x} a less is small =
-    record {
-      within = omega arith;
-      bound = let b = a .bound in omega arith;
-      so-far = ap₂ _+_ (a .so-far) is ∙ sym (total-suc k f) ∙ ap (λ (m : ℕ). total m f) (sym (add-one k));
-    }
-
-pub summed-all : {l : ℕ} {taps symbols : List ℕ} {from k s : ℕ} → Narrow l taps symbols from →
-    Summed ((l / 8 + 1) * 8) (λ i. getD taps i 0 * getD symbols (from + i) 0) k s → (l / 8 + 1) * 8 ≤ k → s ≡ sumAt l taps symbols from
-summed-all {l} {taps} {symbols} {from} {k} narrow a done =
-    a .so-far ∙ ap (λ (n : ℕ). total n (λ i. getD taps i 0 * getD symbols (from + i) 0)) (let e : k ≡ (l / 8 + 1) * 8 = omega (arith, a .within) in e)
-    ∙ rounded l taps symbols from (narrow .zeros)
+pub narrow-all : {l : ℕ} {taps symbols : List ℕ} {from k s : ℕ} → Narrow l taps symbols from →
+    Summed ((l / 8 + 1) * 8) 66049 (λ i. getD taps i 0 * getD symbols (from + i) 0) k s → (l / 8 + 1) * 8 ≤ k → s ≡ sumAt l taps symbols from
+narrow-all {l} {taps} {symbols} {from} narrow a done = summed-all _ _ _ _ _ a done ∙ rounded l taps symbols from (narrow .zeros)
 
 -- ---- products of residues
 

@@ -36,7 +36,8 @@ pub record Narrow (l : ℕ) (taps symbols : List ℕ) (from : ℕ) : Type 0 wher
   pub zeros : (i : ℕ) → l < i → getD taps i 0 ≡ 0
   pub products : (i : ℕ) → getD taps i 0 * getD symbols (from + i) 0 ≤ 66049
 
--- a number that stands for its residue modulo p: where p is small, a sum of up to 129 products, whose product with a residue still fits 32 bits
+-- a number that stands for its residue modulo p: where p is small, as much as 129 products of residues can be, so that its product with a residue fits 32
+-- bits; else the residue itself
 pub record Loose (p s : ℕ) : Type 0 where
   pub small : p ≤ 257 → s ≤ 129 * (p * p)
   pub large : 257 < p → s < p

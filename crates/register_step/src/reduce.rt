@@ -76,8 +76,8 @@ fn factor(f: Modulus, sum: u32, over: u16) -> u32
     remainder(v, f.p, f.reciprocal)
 }
 
-// The taps less (d / c)·x^e·τ, where `sum` stands for d, and c is the discrepancy that τ was saved with; `over` is 2^16 over c modulo p. Modulo 2 it is d itself
-// that τ is taken by.
+// The taps less (d / c)·x^e·τ, where `sum` stands for d, and c is the discrepancy that τ was saved with; `over` is 2^16 over c modulo p. Modulo 2 τ is taken d
+// times.
 pub fn reduce(
     f: Modulus,
     moduli: &[u16; 144],

@@ -11,7 +11,7 @@ ghost use Rattle.register_step.specs.Discrepancies.{Ending, InReach, Loo
 ghost use Rattle.register_step.specs.Modulus.{WorkedOut, Moduli};
 ghost use Rattle.register_step.specs.Progress.{Changeable, Ended, Stepped, progress, savedAfter, stateOf};
 
-// What stands for the discrepancy at (n, h) of a register of length l, or 0 where nothing is asked for. Sequence h, `long` symbols, stands backwards in its
+// What stands for the discrepancy at (n, h) of a register of length l, or for 0 where nothing is asked for. Sequence h, `long` symbols, stands backwards in its
 // block of the symbols.
 pub fn due(
     f: Modulus,

@@ -1,5 +1,5 @@
 -- Products taken off the cells, cell after cell, and factor after factor.
-use mathlib.Core.Path.{_≡_, refl, sym, ap, ap₂, _∙_}
+use mathlib.Core.Path.{_≡_, refl, sym, ap, _∙_}
 use mathlib.Core.List.{List}
 use Prim.Native.Nat.{ℕ, suc, _+_, _*_, _%_, _≤_, _<_}
 use native.Mathlib.Decide.{ℕ-discrete}
@@ -43,14 +43,14 @@ module _ {p end from : ℕ} {before : List ℕ} (c : Cells p end from before) (u
       at j le (no other) = rw (getD-set-other now k j r 0 other) (a .less .each j (omega arith))
 
 -- the products of the first i taps are taken off, cell k having those with the symbols at k, k + 1, ..
-pub record Summed (p : ℕ) (taps symbols : List ℕ) (at end : ℕ) (cells : List ℕ) (i : ℕ) : Type 0 where
+pub record TakenOff (p : ℕ) (taps symbols : List ℕ) (at end : ℕ) (cells : List ℕ) (i : ℕ) : Type 0 where
   pub width : length cells ≡ 144
   pub residues : (k : ℕ) → getD cells k 0 < p
   pub each : (k : ℕ) → k < end → (65536 * getD cells k 0 + total i (λ j. getD taps j 0 * getD symbols (at + k + j) 0)) % p ≡ 0
 
 module _ {p : ℕ} (taps symbols : List ℕ) (at end : ℕ) where
-  pub summed-none : 0 < p → Summed p taps symbols at end (replicate 144 0) 0
-  summed-none positive =
+  pub taken-off-none : 0 < p → TakenOff p taps symbols at end (replicate 144 0) 0
+  taken-off-none positive =
       record {
         width = length-replicate {A = ℕ} 144 0;
         residues = λ k. rw (zero-at k) positive;
@@ -60,9 +60,9 @@ module _ {p : ℕ} (taps symbols : List ℕ) (at end : ℕ) where
       zero-at : (k : ℕ) → getD {A = ℕ} (replicate 144 0) k 0 ≡ 0
       zero-at k = replicate-each (λ (x : ℕ). x ≡ 0) 0 refl 144 k
 
-  pub summed-more : {before after : List ℕ} {i : ℕ} → Summed p taps symbols at end before i → Less p (getD taps i 0) symbols (at + i) end before after →
-      Summed p taps symbols at end after (i + 1)
-  summed-more {before} {after} {i} s less =
+  pub taken-off-more : {before after : List ℕ} {i : ℕ} → TakenOff p taps symbols at end before i → Less p (getD taps i 0) symbols (at + i) end before after →
+      TakenOff p taps symbols at end after (i + 1)
+  taken-off-more {before} {after} {i} s less =
       record {
         width = less .width;
         residues = less .residues;
@@ -81,5 +81,6 @@ module _ {p : ℕ} (taps symbols : List ℕ) (at end : ℕ) where
       }
 
   -- those of all taps of a register of length l, where a few cells more than asked for have theirs
-  pub summed-all : {l i count : ℕ} {cells : List ℕ} → Summed p taps symbols at end cells i → i ≡ suc l → count ≤ end → Ahead p l taps symbols at count cells
-  summed-all s all le = record { width = s .width; residues = s .residues; each = λ k h. rw (← all) (s .each k (omega arith)) }
+  pub taken-off-all : {l i count : ℕ} {cells : List ℕ} → TakenOff p taps symbols at end cells i → i ≡ suc l → count ≤ end →
+      Ahead p l taps symbols at count cells
+  taken-off-all s all le = record { width = s .width; residues = s .residues; each = λ k h. rw (← all) (s .each k (omega arith)) }

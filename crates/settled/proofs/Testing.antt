@@ -8,7 +8,7 @@ use native.Mathlib.Nat.{mod-eq-of-lt, sub-zero, zero-mod}
 use native.Mathlib.Omega.{arith}
 use borrow.Author.Tests.{eq-eqb, ne-eqb}
 use lib.Dec.{eqb}
-use lib.ListN.{length, getD, take}
+use lib.ListN.{getD, take}
 use lib.Seq.{getD-take, length-take-le}
 use Rattle.field.proofs.MontgomeryProducts.{cancel}
 use Rattle.field.proofs.Remainders.{mod-add-zero}
@@ -31,8 +31,8 @@ module _ (p v : ℕ) (inverse : (p * v) % 65536 ≡ 1) where
           (sym (mod-eq-of-lt less) ∙ cancel p v inverse c 0 (sym (mod-add-zero (65536 * c) s p none) ∙ sum ∙ sym (zero-mod p)) ∙ zero-mod p)))
 
   -- the slice of the cells that is tested begins with entry 0
-  pub settled-where : {l count : ℕ} {taps symbols cells : List ℕ} (h long left : ℕ) → Ahead p l taps symbols (h * 144) count cells → count ≡ min left (long - l) →
-      count ≤ 144 → {b : Bool} → b ≡ allZero (take (count - 0) cells) → b ≡ settledIn p l taps symbols h long left
+  pub settled-where : {l count : ℕ} {taps symbols cells : List ℕ} (h long left : ℕ) → Ahead p l taps symbols (h * 144) count cells →
+      count ≡ min left (long - l) → count ≤ 144 → {b : Bool} → b ≡ allZero (take (count - 0) cells) → b ≡ settledIn p l taps symbols h long left
   unfolding settledIn
   settled-where {l} {count} {taps} {symbols} {cells} h long left a all small told =
       told ∙ ap (λ (n : ℕ). allZero (take n cells)) (sub-zero count)

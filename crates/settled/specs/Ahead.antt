@@ -3,7 +3,7 @@ use mathlib.Core.Path.{_≡_}
 use mathlib.Core.List.{List}
 use Prim.Native.Nat.{ℕ, _+_, _*_, _%_, _≤_, _<_}
 use lib.ListN.{length, getD}
-use Rattle.register_step.specs.Discrepancies.{Ending, sumAt}
+use Rattle.register_step.specs.Discrepancies.{sumAt}
 use Rattle.register_step.specs.Modulus.{WorkedOut, Moduli}
 use Rattle.register_step.specs.declared.Modulus.{Modulus}
 
@@ -20,12 +20,12 @@ pub record Less (p u : ℕ) (symbols : List ℕ) (from end : ℕ) (before after 
   pub residues : (k : ℕ) → getD after k 0 < p
   pub each : (k : ℕ) → k < end → (65536 * getD after k 0 + getD symbols (from + k) 0 * u) % p ≡ (65536 * getD before k 0) % p
 
--- a register of length l and `count` symbols of sequence h, which has no more than 128, modulo an odd p
+-- the taps 0 .. l and the last `count` symbols of sequence h, with the l symbols before them no more than 128, modulo an odd p
 pub record Foreseeable (f : Modulus) (moduli : List ℕ) (l : ℕ) (taps : List ℕ) (h count : ℕ) : Type 0 where
   pub modulus : WorkedOut f
   pub not-two : f .p ≡ 2 → ⊥
   pub lent : Moduli (f .p) moduli
-  pub ending : Ending (f .p) l taps
+  pub residues : (i : ℕ) → i ≤ l → getD taps i 0 < f .p
   pub sequence : h < 8
   pub within : l + count ≤ 128
 

@@ -7,7 +7,7 @@ use lib.Dec.{eqb}
 use lib.ListN.{getD}
 use Rattle.lists.specs.Tabulate.{every}
 use Rattle.sequences.specs.declared.Order.{Order}
-use Rattle.register_step.specs.Discrepancies.{Ending, sumAt}
+use Rattle.register_step.specs.Discrepancies.{sumAt}
 use Rattle.register_step.specs.Modulus.{WorkedOut, Moduli}
 use Rattle.register_step.specs.declared.Modulus.{Modulus}
 
@@ -24,7 +24,7 @@ pub record Testable (f : Modulus) (moduli : List ℕ) (l : ℕ) (taps : List ℕ
   pub modulus : WorkedOut f
   pub not-two : f .p ≡ 2 → ⊥
   pub lent : Moduli (f .p) moduli
-  pub ending : Ending (f .p) l taps
+  pub residues : (i : ℕ) → i ≤ l → getD taps i 0 < f .p
   pub short : l ≤ 128
   pub sequence : h < 8
   pub shorter : long ≤ 128

@@ -15,7 +15,8 @@ Inv-loop f moduli longest symbols order count from to length places₀ sizes₀ 
     × Reached (f .p) count (rounds (f .p) longest (sequencesIn order count symbols) n) (progress l places sizes discs quotients) taps saved
 
 abbrev μ-loop : tie.MeasureT-loop
-μ-loop f moduli longest symbols order count from to length places₀ sizes₀ discs₀ quotients₀ taps₀ saved₀ l₀ n₀ places sizes discs quotients taps saved l n = to - n
+μ-loop f moduli longest symbols order count from to length places₀ sizes₀ discs₀ quotients₀ taps₀ saved₀ l₀ n₀ places sizes discs quotients taps saved l n =
+    to - n
 
 loop-holds : tie.Need-loop-holds Inv-loop μ-loop
 loop-holds c = (c .pre .1 .1 .1 .0 .0, c .pre .1 .1 .1 .1)

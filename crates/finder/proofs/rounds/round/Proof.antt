@@ -50,7 +50,10 @@ change-requires c κs =
         pre .1 .0,
         (
           (reduced .before .due .ensures .1, sym (reduced .residue .ensures)),
-          (changeable (positive r) begun (at .inv .1 .ended) (reduced .residue .ensures ∙ reduced .before .due .ensures .0) (tested .if1 .taken), at .inv .1 .ended),
+          (
+            changeable (positive r) begun (at .inv .1 .ended) (reduced .residue .ensures ∙ reduced .before .due .ensures .0) (tested .if1 .taken),
+            at .inv .1 .ended,
+          ),
         ),
       ),
     )

@@ -4,7 +4,8 @@ use Prim.Native.Nat.{ℕ, _+_, _-_, _*_, _≤_}
 use native.Mathlib.Omega.{arith}
 use borrow.Author.Needs.{needs}
 use lib.ListN.{getD}
-use Rattle.register_step.proofs.Sums.{Summed, summed-none, summed-more, summed-all}
+use Rattle.lists.proofs.Summing.{Summed, summed-none, summed-more}
+use Rattle.register_step.proofs.Sums.{narrow-all}
 use Rattle.register_step.proofs.discrepancy.narrow_sum.Statement.{statement}
 use Rattle.register_step.proofs.discrepancy.narrow_sum.Tie as tie
 
@@ -12,7 +13,7 @@ abbrev term : (taps symbols : List ℕ) (from k : ℕ) → ℕ
 term taps symbols from k = getD taps k 0 * getD symbols (from + k) 0
 
 abbrev Inv-loop : tie.InvT-loop
-Inv-loop l taps symbols from sum₀ end i₀ sum i = Summed end (term taps symbols from) i sum
+Inv-loop l taps symbols from sum₀ end i₀ sum i = Summed end 66049 (term taps symbols from) i sum
 
 abbrev μ-loop : tie.MeasureT-loop
 μ-loop l taps symbols from sum₀ end i₀ sum i = end - i
@@ -24,7 +25,7 @@ mul-end : tie.Need-mul-end Inv-loop μ-loop
 mul-end c = record { fits = omega (arith, c .pre .short) }
 
 loop-holds : tie.Need-loop-holds Inv-loop μ-loop
-loop-holds c = summed-none _ _
+loop-holds c = summed-none _ _ _
 
 mul-product : tie.Need-mul-product Inv-loop μ-loop
 mul-product c = record { fits = omega (arith, c .before .before .pre .short) }
@@ -48,13 +49,13 @@ small c = let at = c .before .before .before .before in rw (c .product .ensures)
 add-sum : tie.Need-add-sum Inv-loop μ-loop
 add-sum c =
     let at = c .before .before .before .before in
-    record { fits = omega (arith, small c, at .loop .inv .bound, at .before .pre .short) }
+    record { fits = omega (arith, small c, at .loop .inv .bounded, at .before .pre .short) }
 
 loop-again : tie.Need-loop-again Inv-loop μ-loop
-loop-again c = summed-more _ _ (c .before .before .before .before .loop .inv) (omega arith) (c .product .ensures) (small c)
+loop-again c = summed-more _ _ _ _ _ (c .before .before .before .before .loop .inv) _ (omega arith) (c .product .ensures) (small c)
 
 returns : tie.Need-returns Inv-loop μ-loop
-returns c = summed-all (c .before .before .pre) (c .before .loop .inv) (omega arith)
+returns c = narrow-all (c .before .before .pre) (c .before .loop .inv) (omega arith)
 
 pub narrow-sum-spec : {M : Type 1} → statement M
 narrow-sum-spec =

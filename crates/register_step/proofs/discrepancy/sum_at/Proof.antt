@@ -16,7 +16,8 @@ returns : tie.Need-returns
 returns c =
     let start = c .before .before .before in
     let sum = c .narrow-sum .ensures in
-    (ap (λ (x : ℕ). x % start .args .f .p) sum, narrow-loose (start .pre) (leb-true _ _ (sym (c .before .before .is-small .ensures) ∙ c .before .if1 .taken)) sum)
+    let small = leb-true _ _ (sym (c .before .before .is-small .ensures) ∙ c .before .if1 .taken) in
+    (ap (λ (x : ℕ). x % start .args .f .p) sum, narrow-loose (start .pre) small sum)
 
 returns-2 : tie.Need-returns-2
 returns-2 c =
@@ -24,7 +25,8 @@ returns-2 c =
     let p = start .args .f .p in
     let sum = c .wide-sum .ensures in
     let positive = start .pre .modulus .taken .two-or-more in
-    (ap (λ (x : ℕ). x % p) sum ∙ mod-mod _ p, residue-loose (leb-false _ _ (sym (c .before .before .is-small .ensures) ∙ c .before .if1 .left)) (rw sum (mod-lt _ (omega arith))))
+    let large = leb-false _ _ (sym (c .before .before .is-small .ensures) ∙ c .before .if1 .left) in
+    (ap (λ (x : ℕ). x % p) sum ∙ mod-mod _ p, residue-loose large (rw sum (mod-lt _ (omega arith))))
 
 pub sum-at-spec : {M : Type 1} → statement M
 sum-at-spec = tie.close (tie.spec (λ c κs. search needs) narrow-sum-requires returns (λ c κs. search needs) returns-2)

@@ -46,7 +46,8 @@ remainder-requires c κs =
     record {
       positive = omega (arith, taken .two-or-more);
       modulus = taken .modulus;
-      product = product-below (start .args .sum) (start .args .over) (start .args .f .p) (pre .1 .large (leb-false _ _ (sym (c .before .is-small .ensures) ∙ c .if1 .left))) (pre .2);
+      product = product-below (start .args .sum) (start .args .over) (start .args .f .p)
+          (pre .1 .large (leb-false _ _ (sym (c .before .is-small .ensures) ∙ c .if1 .left))) (pre .2);
       reciprocal = pre .0 .reciprocal;
     }
 

@@ -1,15 +1,14 @@
 -- `ahead` answers the discrepancies. The invariant: the products of the taps passed are taken off.
-use mathlib.Core.Path.{_≡_, refl, ap, sym, _∙_}
-use Prim.Native.Nat.{ℕ, suc, _+_, _-_, _*_, _%_, _≤_, _<_}
+use Prim.Native.Nat.{suc, _-_, _≤_, _<_}
 use native.Mathlib.Omega.{arith}
 use borrow.Author.Needs.{needs}
 use lib.ListN.{getD}
-use Rattle.settled.proofs.Cells.{Summed, summed-none, summed-more, summed-all}
+use Rattle.settled.proofs.Cells.{TakenOff, taken-off-none, taken-off-more, taken-off-all}
 use Rattle.settled.proofs.ahead.ahead.Statement.{statement}
 use Rattle.settled.proofs.ahead.ahead.Tie as tie
 
 abbrev Inv-loop : tie.InvT-loop
-Inv-loop f moduli l taps symbols h count cells₀ end at i₀ cells i = (i ≤ suc l) × Summed (f .p) taps symbols at end cells i
+Inv-loop f moduli l taps symbols h count cells₀ end at i₀ cells i = (i ≤ suc l) × TakenOff (f .p) taps symbols at end cells i
 
 abbrev μ-loop : tie.MeasureT-loop
 μ-loop f moduli l taps symbols h count cells₀ end at i₀ cells i = suc l - i
@@ -24,7 +23,7 @@ mul-at : tie.Need-mul-at Inv-loop μ-loop
 mul-at c = record { fits = omega (arith, c .pre .sequence) }
 
 loop-holds : tie.Need-loop-holds Inv-loop μ-loop
-loop-holds c = (search needs, summed-none _ _ _ _ (omega (arith, c .pre .modulus .taken .two-or-more)))
+loop-holds c = (search needs, taken-off-none _ _ _ _ (omega (arith, c .pre .modulus .taken .two-or-more)))
 
 mul-take-off : tie.Need-mul-take-off Inv-loop μ-loop
 mul-take-off c = record { fits = omega (arith, c .before .before .before .pre .within) }
@@ -36,7 +35,7 @@ element-copy-out-take-off c = omega (arith, c .before .before .before .pre .with
 tap-less : (c : tie.After-take-off-arg Inv-loop μ-loop) →
     let at = c .before .before .before in
     getD (at .before .args .taps .now) (at .loop .i) 0 < at .before .args .f .p
-tap-less c = let at = c .before .before .before in at .before .pre .ending .residues (at .loop .i) (omega arith)
+tap-less c = let at = c .before .before .before in at .before .pre .residues (at .loop .i) (omega arith)
 
 cast-take-off : tie.Need-cast-take-off Inv-loop μ-loop
 cast-take-off c = record { fits = omega (arith, tap-less c, c .before .before .before .before .pre .modulus .taken .modulus) }
@@ -57,10 +56,10 @@ add-i : tie.Need-add-i Inv-loop μ-loop
 add-i c = record { fits = omega (arith, c .before .before .before .before .before .pre .within) }
 
 loop-again : tie.Need-loop-again Inv-loop μ-loop
-loop-again c = (search needs, summed-more _ _ _ _ (c .before .before .before .before .loop .inv .1) (c .take-off .ensures))
+loop-again c = (search needs, taken-off-more _ _ _ _ (c .before .before .before .before .loop .inv .1) (c .take-off .ensures))
 
 returns : tie.Need-returns Inv-loop μ-loop
-returns c = summed-all _ _ _ _ (c .before .loop .inv .1) (omega arith) (omega arith)
+returns c = taken-off-all _ _ _ _ (c .before .loop .inv .1) (omega arith) (omega arith)
 
 pub ahead-spec : {M : Type 1} → statement M
 ahead-spec =

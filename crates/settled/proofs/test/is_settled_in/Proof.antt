@@ -9,8 +9,8 @@ returns : tie.Need-returns
 returns c =
     let start = c .before .before .before .before .before in
     let modulus = start .pre .modulus in
-    settled-where (start .args .f .p) (start .args .f .inverse) (modulus .inverse (start .pre .not-two)) (start .args .h) (start .args .long) (start .args .left)
-    (c .before .before .before .ahead .ensures) (c .before .before .before .before .asked .ensures) (omega arith) (c .all-zero .ensures)
+    settled-where (start .args .f .p) (start .args .f .inverse) (modulus .inverse (start .pre .not-two)) (start .args .h) (start .args .long)
+    (start .args .left) (c .before .before .before .ahead .ensures) (c .before .before .before .before .asked .ensures) (omega arith) (c .all-zero .ensures)
 
 pub is-settled-in-spec : {M : Type 1} → statement M
 is-settled-in-spec =
