@@ -1,12 +1,7 @@
 pub mod Accepted
-pub mod Agreement
 pub mod Demands
-pub mod Marking
 pub mod Reasons
 pub mod Refusing
 pub mod Reversing
-pub mod Running
-pub mod Settling
-pub mod Starting
 pub mod Synthesis
 pub mod Zeros

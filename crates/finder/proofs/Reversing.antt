@@ -14,7 +14,7 @@ use Rattle.lists.specs.Tabulate.{tabulate}
 use Rattle.sequences.specs.declared.Order.{Order}
 use Rattle.sequences.specs.Places.{sequenceAt}
 use Rattle.sequences.proofs.Insertion.{length-within}
-use Rattle.finder.specs.Rounds.{Backwards, Reversible}
+use Rattle.finder.specs.Backwards.{Backwards, Reversible}
 
 pub none-backwards : (o : Order) (symbols blocks : List ℕ) → Backwards o 0 symbols blocks
 none-backwards o symbols blocks = record { entries = λ h b. absurd (let no : ⊥ = omega arith in no) }

@@ -22,17 +22,18 @@ use Rattle.register.specs.Sequences.{largest, longest, ordered, split}
 use Rattle.sequences.specs.Tests.{tests}
 use Rattle.finder.specs.Finder.{register, refused, answer, tapsLeft, Finds}
 use Rattle.sequences.specs.Places.{sequenceAt, sequencesAt, Sortable, Stands}
-use Rattle.register_step.specs.Discrepancies.{sequenceIn}
-use Rattle.register_step.specs.Modulus.{Taken}
+use Rattle.discrepancy.specs.Discrepancies.{sequenceIn}
+use Rattle.discrepancy.specs.Modulus.{Taken}
 use Rattle.register_step.specs.Progress.{Progress, stateOf}
-use Rattle.finder.specs.Rounds.{Agree, Backwards, Markable, Reached, Reversible, Running, Startable, aloneMark, sequencesIn}
+use Rattle.rounds.specs.Rounds.{Agree, Markable, Reached, Running, Startable, aloneMark, sequencesIn}
+use Rattle.finder.specs.Backwards.{Backwards, Reversible}
 use Rattle.finder.specs.declared.Found.{Found}
 use Rattle.finder.specs.declared.Found.the-variants.{Register}
 use Rattle.sequences.specs.declared.Order.{Order}
 use Rattle.finder.proofs.Accepted.{Accepted, lengths-split}
 use Rattle.sequences.proofs.Insertion.{length-within}
 use Rattle.register.proofs.Largest.{largest-bound}
-use Rattle.finder.proofs.Running.{found-within, length-part, length-sequences, sequence-at}
+use Rattle.rounds.proofs.Running.{found-within, length-part, length-sequences, sequence-at}
 
 -- the mark read off the arrays is that of the state that they hold
 mark-is : (N : ℕ) (o : Order) (k : ℕ) (blocks : List ℕ) (g : Progress) (taps saved : List ℕ) (st : State) →

@@ -1,3 +1,3 @@
+pub mod Backwards
 pub mod Demands
 pub mod Finder
-pub mod Rounds

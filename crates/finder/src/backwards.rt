@@ -4,7 +4,7 @@ ghost use mathlib.Core.Path.{_≡_};
 ghost use Prim.Native.Nat.{suc, _-_};
 ghost use lib.ListN.{length, getD};
 ghost use Rattle.lists.specs.Tabulate.{tabulate};
-ghost use Rattle.finder.specs.Rounds.{Backwards, Reversible};
+ghost use Rattle.finder.specs.Backwards.{Backwards, Reversible};
 
 fn backwards(to: &mut [u16], s: &[u16])
     requires { ⌜ length (now to) ≡ length (now s) ⌝ }

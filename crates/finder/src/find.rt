@@ -1,12 +1,12 @@
 // The finder: the shortest register of the sequences lent, or why the input is refused.
 use crate::Found;
 use crate::backwards::all_backwards;
-use crate::rounds::alone;
-use crate::rounds::rounds;
-use crate::rounds::start;
+use discrepancy::worked_out::worked_out;
 use refusal::Checked;
 use register_step::copy::copy;
-use register_step::worked_out::worked_out;
+use rounds::alone;
+use rounds::rounds;
+use rounds::start;
 use sequences::check::check;
 use sequences::check::longest;
 use sequences::sort::by_length;

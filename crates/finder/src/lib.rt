@@ -1,7 +1,6 @@
-// The shortest register of up to eight sequences: the rounds of Algorithm 4, and the finder (SPECIFICATION.md, "Registers").
+// The shortest register of up to eight sequences (SPECIFICATION.md, "Registers").
 mod backwards;
 pub mod find;
-mod rounds;
 
 use refusal::Refusal;
 

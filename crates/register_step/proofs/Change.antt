@@ -20,7 +20,7 @@ use Rattle.register.specs.Algorithm4.{Saved, State, changed, withSaved}
 use Rattle.register_step.specs.Progress.{Progress, Whole, block, stateOf, Ended, Changeable, Stepped, savedAfter, saving}
 use Rattle.register_step.specs.Reductions.{Growable, Reducible, ZerosAfter}
 use Rattle.register_step.proofs.Blocks.{block-replaced, block-other, replaced-whole, replaced-entry, other-entry}
-use Rattle.register_step.proofs.Reduction.{minus-zero, shifted-past}
+use Rattle.discrepancy.proofs.Reduction.{minus-zero, shifted-past}
 
 -- ---- the taps
 

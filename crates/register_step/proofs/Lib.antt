@@ -1,5 +1,3 @@
 pub mod Blocks
 pub mod Change
-pub mod Reduction
 pub mod Steps
-pub mod Sums

@@ -15,7 +15,7 @@ use Rattle.register.proofs.Cases.{step-cases}
 use Rattle.register.specs.Algorithm4.{State, step, changed}
 use Rattle.register.specs.Register.{discrepancy}
 use Rattle.register.specs.Sequences.{symbol}
-use Rattle.register_step.specs.Discrepancies.{Ending, dueAt}
+use Rattle.discrepancy.specs.Discrepancies.{Ending, dueAt}
 use Rattle.register_step.specs.Progress.{Progress, progress, stateOf, Ended, Ready, Changeable, Stepped}
 
 -- a discrepancy looks at the register's own taps only

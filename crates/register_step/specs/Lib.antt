@@ -1,4 +1,2 @@
-pub mod Discrepancies
-pub mod Modulus
 pub mod Progress
 pub mod Reductions

@@ -3,9 +3,9 @@ use mathlib.Core.Path.{_≡_}
 use mathlib.Core.List.{List}
 use Prim.Native.Nat.{ℕ, _+_, _*_, _≤_, _<_}
 use lib.ListN.{length, getD}
-use Rattle.register_step.specs.Discrepancies.{Loose}
-use Rattle.register_step.specs.Modulus.{WorkedOut, Moduli}
-use Rattle.register_step.specs.declared.Modulus.{Modulus}
+use Rattle.discrepancy.specs.Discrepancies.{Loose}
+use Rattle.discrepancy.specs.Modulus.{WorkedOut, Moduli}
+use Rattle.discrepancy.specs.declared.Modulus.{Modulus}
 
 -- zeros follow entry m of block h
 abbrev pub ZerosAfter : (saved : List ℕ) (h m : ℕ) → Type 0

@@ -1,7 +1,7 @@
 // The taps of a register less a multiple of a shifted one, and the register that is saved.
-use crate::Modulus;
 use crate::copy::copy;
-use crate::discrepancy::is_small;
+use discrepancy::Modulus;
+use discrepancy::sums::is_small;
 use field::montgomery::bottom;
 use field::montgomery::less_product;
 use field::narrow::difference;
@@ -13,8 +13,8 @@ ghost use lib.ListN.{length, take};
 ghost use Rattle.field.specs.Coefficients.{reduced};
 ghost use Rattle.field.specs.Residue.{quotient};
 ghost use Rattle.lists.specs.Parts.{replaced};
-ghost use Rattle.register_step.specs.Discrepancies.{Loose};
-ghost use Rattle.register_step.specs.Modulus.{WorkedOut};
+ghost use Rattle.discrepancy.specs.Discrepancies.{Loose};
+ghost use Rattle.discrepancy.specs.Modulus.{WorkedOut};
 ghost use Rattle.register_step.specs.Progress.{block};
 ghost use Rattle.register_step.specs.Reductions.{Reducible, Odd, Divided, Keepable, Growable};
 

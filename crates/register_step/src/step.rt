@@ -1,40 +1,14 @@
-// One step (n, h) of Algorithm 4: the discrepancy that is due, and the change by it where it is not 0.
-use crate::Modulus;
-use crate::discrepancy::sum_at;
+// The change of the state at a step (n, h) of Algorithm 4 by a discrepancy that is not 0.
 use crate::reduce::reduce;
 use crate::reduce::reduce_keeping;
+use discrepancy::Modulus;
 use field::residue::quotient;
 ghost use mathlib.Core.Path.{_≡_};
 ghost use Prim.Native.Nat.{_%_};
 ghost use Rattle.register.specs.Algorithm4.{changed};
-ghost use Rattle.register_step.specs.Discrepancies.{Ending, InReach, Loose, dueAt, sequenceIn};
-ghost use Rattle.register_step.specs.Modulus.{WorkedOut, Moduli};
+ghost use Rattle.discrepancy.specs.Discrepancies.{Loose};
+ghost use Rattle.discrepancy.specs.Modulus.{WorkedOut, Moduli};
 ghost use Rattle.register_step.specs.Progress.{Changeable, Ended, Stepped, progress, savedAfter, stateOf};
-
-// What stands for the discrepancy at (n, h) of a register of length l, or for 0 where nothing is asked for. Sequence h, `long` symbols, stands backwards in its
-// block of the symbols.
-pub fn due(
-    f: Modulus,
-    longest: usize,
-    l: usize,
-    taps: &[u16; 144],
-    symbols: &[u16; 1152],
-    h: usize,
-    long: usize,
-    n: usize,
-) -> u32
-    requires { ⌜ WorkedOut f ⌝ }
-    requires { ⌜ Ending (f .p) l (now taps) ⌝ }
-    requires { ⌜ InReach (f .p) longest l h long n (now symbols) ⌝ }
-    ensures { λ r. ⌜ r % f .p ≡ dueAt (f .p) longest l (now (taps .entry)) (sequenceIn (now (symbols .entry)) h long) n ⌝ }
-    ensures { λ r. ⌜ Loose (f .p) r ⌝ }
-{
-    let gap = longest - long;
-    if n <= l + gap {
-        return 0;
-    }
-    sum_at(f, l, taps, symbols, h * 144 + (longest - n))
-}
 
 // The change by a discrepancy d at (n, h), for which `sum` stands, and the length of the register after it. No code reads `discs`: the state of the definition
 // is read off it.

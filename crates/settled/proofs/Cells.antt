@@ -11,7 +11,7 @@ use lib.Seq.{getD-set-same, getD-set-other}
 use Rattle.lists.specs.Total.{total}
 use Rattle.lists.proofs.Joined.{replicate-each}
 use Rattle.lists.proofs.Totals.{total-zero, total-suc}
-use Rattle.register_step.proofs.Reduction.{set-below}
+use Rattle.discrepancy.proofs.Reduction.{set-below}
 use Rattle.settled.specs.Ahead.{Ahead, Cells, Less}
 
 -- the products of the first k cells are taken off, and the other cells are as they were

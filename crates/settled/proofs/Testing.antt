@@ -14,7 +14,7 @@ use Rattle.field.proofs.MontgomeryProducts.{cancel}
 use Rattle.field.proofs.Remainders.{mod-add-zero}
 use Rattle.lists.specs.Tabulate.{every}
 use Rattle.lists.proofs.Tabulated.{every-ext}
-use Rattle.register_step.specs.Discrepancies.{sumAt}
+use Rattle.discrepancy.specs.Discrepancies.{sumAt}
 use Rattle.sequences.specs.Zeros.{allZero}
 use Rattle.settled.specs.Ahead.{Ahead}
 use Rattle.settled.specs.Settled.{settledIn}

@@ -3,9 +3,9 @@ use mathlib.Core.Path.{_≡_}
 use mathlib.Core.List.{List}
 use Prim.Native.Nat.{ℕ, _+_, _*_, _%_, _≤_, _<_}
 use lib.ListN.{length, getD}
-use Rattle.register_step.specs.Discrepancies.{sumAt}
-use Rattle.register_step.specs.Modulus.{WorkedOut, Moduli}
-use Rattle.register_step.specs.declared.Modulus.{Modulus}
+use Rattle.discrepancy.specs.Discrepancies.{sumAt}
+use Rattle.discrepancy.specs.Modulus.{WorkedOut, Moduli}
+use Rattle.discrepancy.specs.declared.Modulus.{Modulus}
 
 -- cells that are residues, of which those below `end` have a symbol each, from `from` on
 pub record Cells (p end from : ℕ) (cells : List ℕ) : Type 0 where

@@ -7,9 +7,9 @@ use lib.Dec.{eqb}
 use lib.ListN.{getD}
 use Rattle.lists.specs.Tabulate.{every}
 use Rattle.sequences.specs.declared.Order.{Order}
-use Rattle.register_step.specs.Discrepancies.{sumAt}
-use Rattle.register_step.specs.Modulus.{WorkedOut, Moduli}
-use Rattle.register_step.specs.declared.Modulus.{Modulus}
+use Rattle.discrepancy.specs.Discrepancies.{sumAt}
+use Rattle.discrepancy.specs.Modulus.{WorkedOut, Moduli}
+use Rattle.discrepancy.specs.declared.Modulus.{Modulus}
 
 -- in sequence h, of `long` symbols: a symbol with fewer than l before it asks nothing of a register of length l
 unfoldable pub settledIn : (p l : ℕ) (taps symbols : List ℕ) (h long left : ℕ) → Bool

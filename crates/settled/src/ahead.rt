@@ -1,7 +1,7 @@
 // The discrepancies of a register at many symbols of a sequence.
+use discrepancy::Modulus;
 use field::montgomery::bottom;
 use field::montgomery::less_product;
-use register_step::Modulus;
 ghost use Prim.Native.Nat.{_*_};
 ghost use Rattle.register_step.specs.Reductions.{Odd};
 ghost use Rattle.settled.specs.Ahead.{Cells, Less, Foreseeable, Ahead};

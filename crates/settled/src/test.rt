@@ -1,6 +1,6 @@
 // The test of one sequence, and of all.
 use crate::ahead::ahead;
-use register_step::Modulus;
+use discrepancy::Modulus;
 use sequences::Order;
 use sequences::zeros::all_zero;
 ghost use mathlib.Core.Path.{_≡_};

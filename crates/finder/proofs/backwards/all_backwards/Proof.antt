@@ -6,7 +6,7 @@ use mir.Syntax.{w16}
 use mir.Val.{Fits}
 use borrow.Author.Needs.{needs}
 use lib.ListN.{length, getD}
-use Rattle.finder.specs.Rounds.{Backwards}
+use Rattle.finder.specs.Backwards.{Backwards}
 use Rattle.finder.proofs.Reversing.{none-backwards, one-backwards, same-lengths, still-whole}
 use Rattle.finder.proofs.backwards.all_backwards.Statement.{statement}
 use Rattle.finder.proofs.backwards.all_backwards.Tie as tie

@@ -8,7 +8,7 @@ use lib.ListN.{length, getD-replicate, length-replicate}
 use Rattle.refusal.specs.Outcome.{passed, outcome}
 use Rattle.sequences.specs.Tests.{tests}
 use Rattle.finder.proofs.Accepted.{Accepted, accepted}
-use Rattle.finder.proofs.Starting.{reached-start}
+use Rattle.rounds.proofs.Starting.{reached-start}
 use Rattle.finder.proofs.Synthesis.{sortable, startable, reversible, taken, running, size-within, taps-room, buffer-room, markable, finds, finds-same}
 use Rattle.finder.proofs.find.shortest.Statement.{statement}
 use Rattle.finder.proofs.find.shortest.Tie as tie

@@ -10,7 +10,7 @@ use Rattle.field.specs.Residue.{quotient}
 use Rattle.field.proofs.Remainders.{mod-mul-mod}
 use Rattle.register_step.specs.Progress.{block}
 use Rattle.register_step.specs.Reductions.{Reducible}
-use Rattle.register_step.proofs.Reduction.{quotient-unit, quotient-two}
+use Rattle.discrepancy.proofs.Reduction.{quotient-unit, quotient-two}
 use Rattle.register_step.proofs.reduce.reduce.Statement.{statement}
 use Rattle.register_step.proofs.reduce.reduce.Tie as tie
 

@@ -7,11 +7,11 @@ use native.Mathlib.Omega.{arith}
 use borrow.Author.Needs.{needs}
 use lib.ListN.{getD, take}
 use Rattle.field.specs.Coefficients.{reduced}
-use Rattle.register_step.specs.Modulus.{Moduli}
+use Rattle.discrepancy.specs.Modulus.{Moduli}
 use Rattle.register_step.specs.Progress.{block}
 use Rattle.field.proofs.MontgomeryProducts.{companion-is}
 use Rattle.register_step.proofs.Blocks.{saved-at}
-use Rattle.register_step.proofs.Reduction.{reduced-none, reduced-all, turn-reduces, set-below, each-modulus, factors, product-less}
+use Rattle.discrepancy.proofs.Reduction.{reduced-none, reduced-all, turn-reduces, set-below, each-modulus, factors, product-less}
 use Rattle.register_step.proofs.reduce.reduce_odd.Statement.{statement}
 use Rattle.register_step.proofs.reduce.reduce_odd.Tie as tie
 

@@ -10,7 +10,7 @@ use Rattle.field.specs.Residue.{minus}
 use Rattle.field.proofs.Remainders.{mul-mod-mod}
 use Rattle.register_step.specs.Progress.{block}
 use Rattle.register_step.proofs.Blocks.{saved-at}
-use Rattle.register_step.proofs.Reduction.{reduced-none, reduced-all, tap-less, turn-reduces}
+use Rattle.discrepancy.proofs.Reduction.{reduced-none, reduced-all, tap-less, turn-reduces}
 use Rattle.register_step.proofs.reduce.reduce_two.Statement.{statement}
 use Rattle.register_step.proofs.reduce.reduce_two.Tie as tie
 

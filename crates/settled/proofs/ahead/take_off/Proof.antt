@@ -6,8 +6,8 @@ use native.Mathlib.Omega.{arith}
 use borrow.Author.Needs.{needs}
 use lib.ListN.{getD}
 use Rattle.field.proofs.MontgomeryProducts.{companion-is}
-use Rattle.register_step.specs.Modulus.{Moduli}
-use Rattle.register_step.proofs.Reduction.{each-modulus, factors, taken-by}
+use Rattle.discrepancy.specs.Modulus.{Moduli}
+use Rattle.discrepancy.proofs.Reduction.{each-modulus, factors, taken-by}
 use Rattle.settled.proofs.Cells.{Partly, partly-none, partly-more}
 use Rattle.settled.proofs.ahead.take_off.Statement.{statement}
 use Rattle.settled.proofs.ahead.take_off.Tie as tie

@@ -1,0 +1,136 @@
+-- The products that a discrepancy sums: they are small, those past the register are 0, and the symbols before one are those after it where the sequence stands
+-- backwards.
+use mathlib.Core.Path.{_≡_, sym, ap, _∙_}
+use mathlib.Core.List.{List}
+use Prim.Native.Nat.{ℕ, suc, _+_, _-_, _*_, _/_, _%_, _≤_, _<_, zero-le}
+use native.Mathlib.Decide.{decLe}
+use native.Mathlib.Nat.{mul-le-mul, zero-mul}
+use native.Mathlib.Omega.{arith}
+use borrow.Author.Tests.{lt-ltb, le-ltb}
+use lib.ListN.{length, getD}
+use Rattle.field.proofs.ProductSums.{sum-below}
+use Rattle.lists.specs.Total.{total}
+use Rattle.lists.proofs.Summing.{Summed, summed-all}
+use Rattle.lists.proofs.Tabulated.{length-tabulate, getD-tabulate}
+use Rattle.lists.proofs.Totals.{total-ext, total-bound}
+use Rattle.register.specs.Register.{discrepancy}
+use Rattle.register.specs.Sequences.{symbol}
+use Rattle.discrepancy.specs.Discrepancies.{Ending, InReach, Loose, Narrow, Summable, sumAt, sequenceIn, dueAt}
+use Rattle.discrepancy.specs.Modulus.{WorkedOut}
+use Rattle.discrepancy.specs.declared.Modulus.{Modulus}
+use Rattle.lists.proofs.Halves.{Halved, total-first, past-last}
+
+-- ---- zeros follow the register
+
+module _ (l : ℕ) (taps symbols : List ℕ) (from : ℕ) (zeros : (i : ℕ) → l < i → getD taps i 0 ≡ 0) where
+  none-past : (k : ℕ) → suc l ≤ k → getD taps k 0 * getD symbols (from + k) 0 ≡ 0
+  none-past k past = ap (λ (x : ℕ). x * getD symbols (from + k) 0) (zeros k (omega arith)) ∙ zero-mul (getD symbols (from + k) 0)
+
+  -- the products up to the next multiple of 8
+  rounded : total ((l / 8 + 1) * 8) (λ k. getD taps k 0 * getD symbols (from + k) 0) ≡ sumAt l taps symbols from
+  rounded = total-first (suc l) ((l / 8 + 1) * 8) _ (omega (arith, past-last l)) none-past
+
+-- ---- products that are small, once all are summed
+
+pub narrow-all : {l : ℕ} {taps symbols : List ℕ} {from k s : ℕ} → Narrow l taps symbols from →
+    Summed ((l / 8 + 1) * 8) 66049 (λ i. getD taps i 0 * getD symbols (from + i) 0) k s → (l / 8 + 1) * 8 ≤ k → s ≡ sumAt l taps symbols from
+narrow-all {l} {taps} {symbols} {from} narrow a done = summed-all _ _ _ _ _ a done ∙ rounded l taps symbols from (narrow .zeros)
+
+-- ---- products of residues
+
+module _ {f : Modulus} {l : ℕ} {taps symbols : List ℕ} {from : ℕ} (s : Summable f l taps symbols from) where
+  abbrev term : ℕ → ℕ
+  term k = getD taps k 0 * getD symbols (from + k) 0
+
+  abbrev p : ℕ
+  p = f .p
+
+  term-below : (k : ℕ) → term k ≤ p * p
+  term-below k = pick (decLe k l)
+    where
+      pick : Dec (k ≤ l) → term k ≤ p * p
+      pick (yes within) =
+          mul-le-mul (let e : getD taps k 0 ≤ p = omega (arith, s .ending .residues k within) in e)
+          (let e : getD symbols (from + k) 0 ≤ p = omega (arith, s .below k within) in e)
+      pick (no past) = omega (arith, none-past l taps symbols from (s .ending .zeros) k (omega arith))
+
+  all-below : sumAt l taps symbols from ≤ 129 * (p * p)
+  all-below = sum-below p (let e : suc l ≤ 129 = omega (arith, s .short) in e) (total-bound (suc l) (p * p) term (λ k _. term-below k))
+
+  -- modulo a small p: the products are small, and their sum stands for its residue
+  module _ (small : p ≤ 257) where
+    pub narrow : Narrow l taps symbols from
+    narrow =
+        record {
+          short = s .short;
+          inside = s .inside;
+          zeros = s .ending .zeros;
+          products = λ k. omega (arith, term-below k, mul-le-mul small small);
+        }
+
+    pub narrow-loose : {r : ℕ} → r ≡ sumAt l taps symbols from → Loose p r
+    narrow-loose e = record { small = λ _. rw e all-below; large = λ more. absurd (let no : ⊥ = omega arith in no) }
+
+  pub top-small : (k : ℕ) → term k / 65536 < 65536
+  top-small k = let m = s .modulus .taken .modulus in omega (arith, term-below k, mul-le-mul m m)
+
+  -- all of the sum, once the loop has ended
+  module _ {k low high : ℕ} (h : Halved ((l / 8 + 1) * 8) term k low high) (done : (l / 8 + 1) * 8 ≤ k) where
+    pub whole : low + 65536 * high ≡ sumAt l taps symbols from
+    whole =
+        h .so-far ∙ ap (λ (n : ℕ). total n term) (let e : k ≡ (l / 8 + 1) * 8 = omega (arith, h .within) in e)
+        ∙ rounded l taps symbols from (s .ending .zeros)
+
+    pub whole-below : low + 65536 * high ≤ 129 * (p * p)
+    whole-below = rw whole all-below
+
+-- a residue stands for itself
+pub residue-loose : {p r : ℕ} → 257 < p → r < p → Loose p r
+residue-loose more less = record { small = λ le. absurd (let no : ⊥ = omega arith in no); large = λ _. less }
+
+pub zero-loose : {p : ℕ} → Loose p 0
+zero-loose = record { small = λ _. zero-le; large = λ more. omega arith }
+
+module _ {p N l h size n : ℕ} {symbols : List ℕ} (r : InReach p N l h size n symbols) where
+  abbrev s : List ℕ
+  s = sequenceIn symbols h size
+
+  length-sequence : length s ≡ size
+  unfolding sequenceIn
+  length-sequence = length-tabulate size (λ i. getD symbols (h * 144 + (size - suc i)) 0)
+
+  pub not-due : (σ : List ℕ) → n ≤ l + (N - size) → 0 ≡ dueAt p N l σ s n
+  unfolding dueAt
+  not-due σ early = rw (length-sequence, le-ltb (l + (N - size)) n early)
+
+  module _ (asked : l + (N - size) < n) where
+    -- the symbol k places before the one at round n
+    back : (k : ℕ) → k ≤ l → getD symbols (h * 144 + (N - n) + k) 0 ≡ symbol s (n + size - N - k)
+    unfolding sequenceIn
+    back k le =
+        let shorter = r .shorter in
+        let round = r .round in
+        sym (getD-tabulate size (λ i. getD symbols (h * 144 + (size - suc i)) 0) (n + size - N - k - 1) 0 (omega arith)
+        ∙ ap (λ (i : ℕ). getD symbols i 0) (let e : h * 144 + (size - suc (n + size - N - k - 1)) ≡ h * 144 + (N - n) + k = omega arith in e))
+
+    pub is-due : (σ : List ℕ) {d : ℕ} → d ≡ sumAt l σ symbols (h * 144 + (N - n)) % p → d ≡ dueAt p N l σ s n
+    unfolding dueAt discrepancy
+    is-due σ e =
+        rw (length-sequence, lt-ltb (l + (N - size)) n asked)
+        (e ∙ ap (λ (x : ℕ). x % p)
+        (total-ext (suc l) (λ k. getD σ k 0 * getD symbols (h * 144 + (N - n) + k) 0) (λ k. getD σ k 0 * symbol s (n + size - N - k))
+        (λ k b. ap (λ (x : ℕ). getD σ k 0 * x) (back k (omega arith)))))
+
+    pub summable : {f : Modulus} {taps : List ℕ} → f .p ≡ p → WorkedOut f → Ending (f .p) l taps → Summable f l taps symbols (h * 144 + (N - n))
+    summable same worked ending =
+        let shorter = r .shorter in
+        let round = r .round in
+        record {
+          modulus = worked;
+          ending = ending;
+          short = omega (arith, r .grown, r .longest);
+          inside = omega (arith, r .grown, r .longest, r .sequence);
+          below = λ i le.
+              let place : h * 144 + (N - n + i) ≡ h * 144 + (N - n) + i = omega arith in
+              rw (same, ← place) (r .below (N - n + i) (omega arith));
+        }

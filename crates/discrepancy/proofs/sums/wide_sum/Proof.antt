@@ -1,0 +1,116 @@
+-- `wide_sum` sums the products. The invariant: the halves are those of the products passed.
+use mathlib.Core.Path.{ap, _∙_}
+use mathlib.Core.List.{List}
+use Prim.Native.Nat.{ℕ, _+_, _-_, _*_, _%_, _<_}
+use native.Mathlib.Omega.{arith}
+use borrow.Author.Needs.{needs}
+use lib.ListN.{getD}
+use Rattle.field.proofs.ProductSums.{sum-quotient}
+use Rattle.lists.proofs.Halves.{Halved, halved-none, halved-more, half-fits}
+use Rattle.discrepancy.proofs.Products.{top-small, whole, whole-below}
+use Rattle.discrepancy.proofs.sums.wide_sum.Statement.{statement}
+use Rattle.discrepancy.proofs.sums.wide_sum.Tie as tie
+
+abbrev term : (taps symbols : List ℕ) (from k : ℕ) → ℕ
+term taps symbols from k = getD taps k 0 * getD symbols (from + k) 0
+
+abbrev Inv-loop : tie.InvT-loop
+Inv-loop f l taps symbols from low₀ high₀ end i₀ low high i = Halved end (term taps symbols from) i low high
+
+abbrev μ-loop : tie.MeasureT-loop
+μ-loop f l taps symbols from low₀ high₀ end i₀ low high i = end - i
+
+add-end : tie.Need-add-end Inv-loop μ-loop
+add-end c = record { fits = omega (arith, c .pre .short) }
+
+mul-end : tie.Need-mul-end Inv-loop μ-loop
+mul-end c = record { fits = omega (arith, c .pre .short) }
+
+loop-holds : tie.Need-loop-holds Inv-loop μ-loop
+loop-holds c = halved-none _ _
+
+mul-a : tie.Need-mul-a Inv-loop μ-loop
+mul-a c = record { fits = omega (arith, c .before .before .pre .short) }
+
+element-copy-out-a : tie.Need-element-copy-out-a Inv-loop μ-loop
+element-copy-out-a c = omega (arith, c .before .before .pre .short)
+
+add-b : tie.Need-add-b Inv-loop μ-loop
+add-b c = record { fits = omega (arith, c .before .before .before .pre .inside) }
+
+mul-b : tie.Need-mul-b Inv-loop μ-loop
+mul-b c = record { fits = omega (arith, c .before .before .before .pre .inside) }
+
+element-copy-out-b : tie.Need-element-copy-out-b Inv-loop μ-loop
+element-copy-out-b c = omega (arith, c .before .before .before .pre .inside)
+
+add-low : tie.Need-add-low Inv-loop μ-loop
+add-low c =
+    let at = c .before .before .before .before in
+    record { fits = half-fits {n = 136} (omega arith) (omega (arith, at .before .pre .short)) (at .loop .inv .lows) (omega (arith, c .bottom .ensures)) }
+
+add-high : tie.Need-add-high Inv-loop μ-loop
+add-high c =
+    let at = c .before .before .before .before .before in
+    let small : c .top .result < 65536 = rw (c .top .ensures) (top-small (at .before .pre) (at .loop .i)) in
+    record { fits = half-fits {n = 136} (omega arith) (omega (arith, at .before .pre .short)) (at .loop .inv .highs) small }
+
+loop-again : tie.Need-loop-again Inv-loop μ-loop
+loop-again c =
+    let at = c .before .before .before .before .before in
+    let top = c .top .ensures in
+    halved-more _ _ (at .loop .i) (at .loop .low) (at .loop .high) (at .loop .inv) (omega arith) (c .before .bottom .ensures) top
+    (rw top (top-small (at .before .pre) (at .loop .i)))
+
+mul-wide-remainder : tie.Need-mul-wide-remainder Inv-loop μ-loop
+mul-wide-remainder c = record { fits = omega arith }
+
+add-wide-remainder : tie.Need-add-wide-remainder Inv-loop μ-loop
+add-wide-remainder c = record { fits = omega arith }
+
+wide-remainder-requires : tie.Need-wide-remainder-requires Inv-loop μ-loop
+wide-remainder-requires c κs =
+    let at = c .before in
+    let pre = at .before .pre in
+    let taken = pre .modulus .taken in
+    record {
+      positive = omega (arith, taken .two-or-more);
+      modulus = taken .modulus;
+      quotient = sum-quotient _ (taken .modulus) (whole-below pre (at .loop .inv) (omega arith));
+      reciprocal = pre .modulus .wide;
+    }
+
+returns : tie.Need-returns Inv-loop μ-loop
+returns c =
+    let at = c .before .before in
+    c .wide-remainder .ensures .0 ∙ ap (λ (x : ℕ). x % at .before .args .f .p) (whole (at .before .pre) (at .loop .inv) (c .before .loop-test .left))
+
+pub wide-sum-spec : {M : Type 1} → statement M
+wide-sum-spec =
+    tie.close
+    (tie.spec
+    Inv-loop
+    μ-loop
+    add-end
+    mul-end
+    loop-holds
+    mul-a
+    element-copy-out-a
+    add-b
+    mul-b
+    element-copy-out-b
+    (λ c κs. search needs)
+    (λ c. search needs)
+    add-low
+    (λ c κs. search needs)
+    (λ c. search needs)
+    add-high
+    (λ c. search needs)
+    (λ c. search needs)
+    loop-again
+    (λ c. search needs)
+    (λ c. search needs)
+    mul-wide-remainder
+    add-wide-remainder
+    wide-remainder-requires
+    returns)

@@ -1,0 +1,2 @@
+pub mod Discrepancies
+pub mod Modulus

@@ -1,0 +1,5 @@
+pub mod Agreement
+pub mod Marking
+pub mod Running
+pub mod Settling
+pub mod Starting

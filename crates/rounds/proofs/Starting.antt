@@ -1,0 +1,76 @@
+-- The arrays before the first round hold the state that Algorithm 4 starts with.
+use mathlib.Core.Path.{_≡_, refl, sym, ap, _∙_}
+use mathlib.Core.List.{List, [], _∷_}
+use Prim.Native.Nat.{ℕ, zero, suc, _+_, _-_, _*_, _^_, _%_, _≤_, _<_}
+use native.Mathlib.Nat.{mod-eq-of-lt, mod-mod, pow-zero, pow-suc, mul-one}
+use native.Mathlib.Omega.{arith}
+use lib.ListN.{length, take, drop, set, replicate, length-take, length-drop, length-set, length-replicate, getD-replicate}
+use lib.Seq.{getD-set-other, take-suc}
+use Rattle.field.specs.Residue.{quotient}
+use Rattle.lists.proofs.Entries.{getD-part}
+use Rattle.lists.proofs.Joined.{replicate-each}
+use Rattle.register.specs.Algorithm4.{start, rounds}
+use Rattle.register_step.specs.Progress.{Progress, block, progress, stateOf}
+use Rattle.rounds.specs.Rounds.{Running, Reached, Started, sequencesIn}
+use Rattle.sequences.specs.declared.Order.{Order}
+use Rattle.register_step.proofs.Change.{saved-path}
+use Rattle.rounds.proofs.Running.{sequence-at, length-part}
+
+-- the taps of the register of length 0, and the saved registers that are 0
+abbrev one-tap : List ℕ
+one-tap = set (replicate 144 0) 0 1
+
+abbrev no-taps : List ℕ
+no-taps = replicate 1152 0
+
+zero-block : (h : ℕ) → h < 8 → take 1 (block h no-taps) ≡ 0 ∷ []
+zero-block h b =
+    take-suc (block h no-taps) 0 0 (omega (arith, length-take 144 (drop (h * 144) no-taps), length-drop (h * 144) no-taps, length-replicate {A = ℕ} 1152 0))
+    ∙ ap (λ (x : ℕ). x ∷ []) (getD-part (h * 144) 144 no-taps 0 0 (omega arith) ∙ getD-replicate 1152 (h * 144 + 0) 0 0 (omega arith))
+
+one-pow : (k : ℕ) → 1 ^ k ≡ 1
+one-pow zero = pow-zero 1
+one-pow (suc k) = pow-suc 1 k ∙ mul-one (1 ^ k) ∙ one-pow k
+
+over-one : {p : ℕ} → 2 ≤ p → quotient p (65536 % p) 1 ≡ 65536 % p
+over-one {p} h =
+    ap (λ (x : ℕ). (65536 % p * x) % p) (ap (λ (x : ℕ). x % p) (one-pow (p - 2)) ∙ mod-eq-of-lt h)
+    ∙ ap (λ (x : ℕ). x % p) (mul-one (65536 % p)) ∙ mod-mod 65536 p
+
+module _ {p N : ℕ} {o : Order} {k : ℕ} {blocks : List ℕ} (r : Running p N o k blocks) {places : List ℕ} (s : Started N o k places) {u : ℕ} (unit : u ≡ 65536 % p) where
+  abbrev pub before : Progress
+  before = progress 0 places (replicate 8 0) (replicate 8 1) (replicate 8 u)
+
+  saved-start : (h : ℕ) → h < k → stateOf before one-tap no-taps .saved h ≡ start N (sequencesIn o k blocks) .saved h
+  unfolding stateOf start
+  saved-start h b =
+      let small : h < 8 = omega (arith, r .count) in
+      let size = ap length (sequence-at o k blocks h b) ∙ length-part o k blocks h in
+      saved-path
+      (s .place h b ∙ ap (λ (n : ℕ). N - n) (sym size))
+      (getD-replicate {A = ℕ} 8 h 0 0 small)
+      (getD-replicate {A = ℕ} 8 h 1 0 small)
+      (ap (λ (n : ℕ). take (suc n) (block h no-taps)) (getD-replicate 8 h 0 0 small) ∙ zero-block h small)
+
+  pub reached-start : Reached p k (rounds p N (sequencesIn o k blocks) 0) before one-tap no-taps
+  unfolding stateOf start rounds
+  reached-start =
+      record {
+        state = record { size = refl; taps = refl; saved = saved-start };
+        ended =
+            record {
+              whole =
+                  record {
+                    places = s .width;
+                    sizes = length-replicate {A = ℕ} 8 0;
+                    discs = length-replicate {A = ℕ} 8 1;
+                    quotients = length-replicate {A = ℕ} 8 u;
+                  };
+              width = length-set {A = ℕ} (replicate 144 0) 0 1 ∙ length-replicate {A = ℕ} 144 0;
+              saved-width = length-replicate {A = ℕ} 1152 0;
+              zeros = λ i past. getD-set-other {A = ℕ} (replicate 144 0) 0 i 1 0 (λ e. omega (arith, e)) ∙ replicate-each (λ (x : ℕ). x ≡ 0) 0 refl 144 i;
+              shorter = λ h b. omega (arith, getD-replicate {A = ℕ} 8 h 0 0 b);
+              saved-zeros = λ h b i past small. getD-replicate {A = ℕ} 1152 (h * 144 + i) 0 0 (omega arith);
+              quotients = λ h b. getD-replicate 8 h u 0 b ∙ unit ∙ sym (ap (quotient p (65536 % p)) (getD-replicate {A = ℕ} 8 h 1 0 b) ∙ over-one (r .two-or-more));
+            };
+      }

@@ -1,0 +1,301 @@
+// The rounds of Algorithm 4: its start, each round, those that may change something, and the alone mark at the end.
+use discrepancy::Modulus;
+use discrepancy::due::due;
+use discrepancy::sums::residue;
+use register_step::step::change;
+use sequences::Order;
+use settled::test::is_settled;
+ghost use mathlib.Core.Path.{_≡_};
+ghost use Prim.Native.Nat.{_+_, _≤_, _<_, min};
+ghost use Rattle.register.specs.Algorithm4.{rounds as roundsOf};
+ghost use Rattle.discrepancy.specs.Modulus.{WorkedOut, Moduli};
+ghost use Rattle.register_step.specs.Progress.{progress};
+ghost use Rattle.rounds.specs.Rounds.{Running, Reached, Startable, Started, Markable, aloneMark, sequencesIn};
+
+// Before the first round the place of a sequence is its gap, N − N_h.
+pub fn start(longest: usize, order: Order, count: usize) -> [u16; 8]
+    requires { ⌜ Startable longest order count ⌝ }
+    ensures { λ r. ⌜ Started longest order count r ⌝ }
+{
+    let mut places = [0u16; 8];
+    let mut h = 0;
+    while h < count {
+        places[h] = longest as u16 - order.lengths[h];
+        h += 1;
+    }
+    places
+}
+
+// Round n + 1: a step for each sequence.
+fn round(
+    f: Modulus,
+    moduli: &[u16; 144],
+    longest: usize,
+    symbols: &[u16; 1152],
+    order: Order,
+    count: usize,
+    n: usize,
+    length: usize,
+    places: &mut [u16; 8],
+    sizes: &mut [u16; 8],
+    discs: &mut [u16; 8],
+    quotients: &mut [u16; 8],
+    taps: &mut [u16; 144],
+    saved: &mut [u16; 1152],
+) -> usize
+    requires { ⌜ WorkedOut f ⌝ }
+    requires { ⌜ Moduli (f .p) (now moduli) ⌝ }
+    requires { ⌜ Running (f .p) longest order count (now symbols) ⌝ }
+    requires { ⌜ n < longest ⌝ }
+    requires { ⌜ Reached (f .p) count (roundsOf (f .p) longest (sequencesIn order count (now symbols)) n)
+        (progress length (now places) (now sizes) (now discs) (now quotients)) (now taps) (now saved) ⌝ }
+    ensures { λ r. ⌜ Reached (f .p) count (roundsOf (f .p) longest (sequencesIn order count (now (symbols .entry))) (n + 1))
+        (progress r (now (places .exit)) (now (sizes .exit)) (now (discs .exit)) (now (quotients .exit))) (now (taps .exit)) (now (saved .exit)) ⌝ }
+{
+    let mut l = length;
+    let mut h = 0;
+    while h < count {
+        let sum = due(
+            f,
+            longest,
+            l,
+            taps,
+            symbols,
+            h,
+            order.lengths[h] as usize,
+            n + 1,
+        );
+        let d = residue(f, sum);
+        if d != 0 {
+            l = change(
+                f,
+                moduli,
+                n + 1,
+                h,
+                d,
+                sum,
+                l,
+                places,
+                sizes,
+                discs,
+                quotients,
+                taps,
+                saved,
+            );
+        }
+        h += 1;
+    }
+    l
+}
+
+// The rounds from + 1 .. to.
+fn advance(
+    f: Modulus,
+    moduli: &[u16; 144],
+    longest: usize,
+    symbols: &[u16; 1152],
+    order: Order,
+    count: usize,
+    from: usize,
+    to: usize,
+    length: usize,
+    places: &mut [u16; 8],
+    sizes: &mut [u16; 8],
+    discs: &mut [u16; 8],
+    quotients: &mut [u16; 8],
+    taps: &mut [u16; 144],
+    saved: &mut [u16; 1152],
+) -> usize
+    requires { ⌜ WorkedOut f ⌝ }
+    requires { ⌜ Moduli (f .p) (now moduli) ⌝ }
+    requires { ⌜ Running (f .p) longest order count (now symbols) ⌝ }
+    requires { ⌜ (from ≤ to) × (to ≤ longest) ⌝ }
+    requires { ⌜ Reached (f .p) count (roundsOf (f .p) longest (sequencesIn order count (now symbols)) from)
+        (progress length (now places) (now sizes) (now discs) (now quotients)) (now taps) (now saved) ⌝ }
+    ensures { λ r. ⌜ Reached (f .p) count (roundsOf (f .p) longest (sequencesIn order count (now (symbols .entry))) to)
+        (progress r (now (places .exit)) (now (sizes .exit)) (now (discs .exit)) (now (quotients .exit))) (now (taps .exit)) (now (saved .exit)) ⌝ }
+{
+    let mut l = length;
+    let mut n = from;
+    while n < to {
+        l = round(
+            f,
+            moduli,
+            longest,
+            symbols,
+            order,
+            count,
+            n,
+            l,
+            places,
+            sizes,
+            discs,
+            quotients,
+            taps,
+            saved,
+        );
+        n += 1;
+    }
+    l
+}
+
+// How many rounds are made before the next look whether the register is settled: 9, 17, or all.
+fn pause(n: usize, longest: usize) -> usize
+    requires { ⌜ (n < longest) × (17 ≤ longest) ⌝ }
+    ensures { λ r. ⌜ (n < r) × (r ≤ longest) ⌝ }
+{
+    if n < 9 {
+        return 9;
+    }
+    if n < 17 {
+        return 17;
+    }
+    longest
+}
+
+// All rounds, as long as they may change something. Where fewer than half as many taps as rounds were needed the register is likely settled, and is tested; the
+// rounds that are left are not made where it is.
+fn until_settled(
+    f: Modulus,
+    moduli: &[u16; 144],
+    longest: usize,
+    symbols: &[u16; 1152],
+    order: Order,
+    count: usize,
+    places: &mut [u16; 8],
+    sizes: &mut [u16; 8],
+    discs: &mut [u16; 8],
+    quotients: &mut [u16; 8],
+    taps: &mut [u16; 144],
+    saved: &mut [u16; 1152],
+) -> usize
+    requires { ⌜ WorkedOut f ⌝ }
+    requires { ⌜ Moduli (f .p) (now moduli) ⌝ }
+    requires { ⌜ Running (f .p) longest order count (now symbols) ⌝ }
+    requires { ⌜ (f .p ≡ 2 → ⊥) × (17 ≤ longest) ⌝ }
+    requires { ⌜ Reached (f .p) count (roundsOf (f .p) longest (sequencesIn order count (now symbols)) 0)
+        (progress 0 (now places) (now sizes) (now discs) (now quotients)) (now taps) (now saved) ⌝ }
+    ensures { λ r. ⌜ Reached (f .p) count (roundsOf (f .p) longest (sequencesIn order count (now (symbols .entry))) longest)
+        (progress r (now (places .exit)) (now (sizes .exit)) (now (discs .exit)) (now (quotients .exit))) (now (taps .exit)) (now (saved .exit)) ⌝ }
+{
+    let mut l = 0;
+    let mut n = 0;
+    while n < longest {
+        if 2 * l < n && is_settled(f, moduli, l, taps, symbols, order, count, longest - n) {
+            return l;
+        }
+        let to = pause(n, longest);
+        l = advance(
+            f,
+            moduli,
+            longest,
+            symbols,
+            order,
+            count,
+            n,
+            to,
+            l,
+            places,
+            sizes,
+            discs,
+            quotients,
+            taps,
+            saved,
+        );
+        n = to;
+    }
+    l
+}
+
+// All rounds, as long as they may change something. Where there are few it does not pay to look whether the register is settled, and modulo 2 the test does not
+// serve.
+pub fn rounds(
+    f: Modulus,
+    moduli: &[u16; 144],
+    longest: usize,
+    symbols: &[u16; 1152],
+    order: Order,
+    count: usize,
+    places: &mut [u16; 8],
+    sizes: &mut [u16; 8],
+    discs: &mut [u16; 8],
+    quotients: &mut [u16; 8],
+    taps: &mut [u16; 144],
+    saved: &mut [u16; 1152],
+) -> usize
+    requires { ⌜ WorkedOut f ⌝ }
+    requires { ⌜ Moduli (f .p) (now moduli) ⌝ }
+    requires { ⌜ Running (f .p) longest order count (now symbols) ⌝ }
+    requires { ⌜ Reached (f .p) count (roundsOf (f .p) longest (sequencesIn order count (now symbols)) 0)
+        (progress 0 (now places) (now sizes) (now discs) (now quotients)) (now taps) (now saved) ⌝ }
+    ensures { λ r. ⌜ Reached (f .p) count (roundsOf (f .p) longest (sequencesIn order count (now (symbols .entry))) longest)
+        (progress r (now (places .exit)) (now (sizes .exit)) (now (discs .exit)) (now (quotients .exit))) (now (taps .exit)) (now (saved .exit)) ⌝ }
+{
+    if longest < 24 || f.p == 2 {
+        return advance(
+            f,
+            moduli,
+            longest,
+            symbols,
+            order,
+            count,
+            0,
+            longest,
+            0,
+            places,
+            sizes,
+            discs,
+            quotients,
+            taps,
+            saved,
+        );
+    }
+    until_settled(
+        f,
+        moduli,
+        longest,
+        symbols,
+        order,
+        count,
+        places,
+        sizes,
+        discs,
+        quotients,
+        taps,
+        saved,
+    )
+}
+
+fn smaller(a: usize, b: usize) -> usize
+    ensures { λ r. ⌜ r ≡ min a b ⌝ }
+{
+    if a <= b {
+        return a;
+    }
+    b
+}
+
+// What n_h − l_h has past N − l and past N − N_h is free. N less the smaller of l and N_h is the larger of these two.
+pub fn alone(
+    longest: usize,
+    order: Order,
+    count: usize,
+    l: usize,
+    places: &[u16; 8],
+    sizes: &[u16; 8],
+) -> bool
+    requires { ⌜ Markable longest order count l (now places) (now sizes) ⌝ }
+    ensures { λ r. ⌜ r ≡ aloneMark longest order count l (now (places .entry)) (now (sizes .entry)) ⌝ }
+{
+    let mut h = 0;
+    while h < count {
+        let place = places[h] as usize;
+        let size = sizes[h] as usize;
+        let long = order.lengths[h] as usize;
+        if place + smaller(l, long) > size + longest {
+            return false;
+        }
+        h += 1;
+    }
+    true
+}
