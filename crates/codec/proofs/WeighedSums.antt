@@ -9,7 +9,8 @@ use Rattle.field257.specs.Powers.{powerOf3}
 use Rattle.frame.specs.Frame.{checkSum, checkSums, weight}
 use Rattle.lists.proofs.BlockSums.{total-rest}
 use Rattle.lists.proofs.Tabulated.{tabulate-ext}
-use Rattle.transform.specs.Stages.{Weights, weighedSum, weighedSums}
+use Rattle.factors.specs.Table.{Weights}
+use Rattle.transform.specs.Stages.{weighedSum, weighedSums}
 use Rattle.transform.proofs.StageSums.{total-same, same-times}
 use Rattle.transform.proofs.StagedSums.{power-product}
 

@@ -1,13 +1,13 @@
 // Check sums of a row and of a frame.
+use factors::table::weights;
 use field257::powers::powers;
 use field257::values::value_at;
 use frame::Shape;
-use transform::factors::weights;
 use transform::stages::staged_sums;
 ghost use mathlib.Core.Path.{_≡_};
 ghost use Prim.Native.Nat.{_≤_};
 ghost use lib.ListN.{length, replicate};
-ghost use Rattle.transform.specs.Stages.{Weights};
+ghost use Rattle.factors.specs.Table.{Weights};
 ghost use Rattle.codec.specs.Summable.{Summable};
 ghost use mathlib.Core.Bool.{true};
 ghost use Rattle.frame.specs.Frame.{WellFormed, checkSums, heldSums};

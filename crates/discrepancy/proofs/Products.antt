@@ -18,7 +18,7 @@ use Rattle.register.specs.Sequences.{symbol}
 use Rattle.discrepancy.specs.Discrepancies.{Ending, InReach, Loose, Narrow, Summable, sumAt, sequenceIn, dueAt}
 use Rattle.discrepancy.specs.Modulus.{WorkedOut}
 use Rattle.discrepancy.specs.declared.Modulus.{Modulus}
-use Rattle.lists.proofs.Halves.{Halved, total-first, past-last}
+use Rattle.lists.proofs.Halves.{Halved, total-first}
 
 -- ---- zeros follow the register
 
@@ -26,15 +26,15 @@ module _ (l : ℕ) (taps symbols : List ℕ) (from : ℕ) (zeros : (i : ℕ) →
   none-past : (k : ℕ) → suc l ≤ k → getD taps k 0 * getD symbols (from + k) 0 ≡ 0
   none-past k past = ap (λ (x : ℕ). x * getD symbols (from + k) 0) (zeros k (omega arith)) ∙ zero-mul (getD symbols (from + k) 0)
 
-  -- the products up to the next multiple of 8
-  rounded : total ((l / 8 + 1) * 8) (λ k. getD taps k 0 * getD symbols (from + k) 0) ≡ sumAt l taps symbols from
-  rounded = total-first (suc l) ((l / 8 + 1) * 8) _ (omega (arith, past-last l)) none-past
+  -- a few products more
+  and-more : (end : ℕ) → suc l ≤ end → total end (λ k. getD taps k 0 * getD symbols (from + k) 0) ≡ sumAt l taps symbols from
+  and-more end enough = total-first (suc l) end _ enough none-past
 
 -- ---- products that are small, once all are summed
 
-pub narrow-all : {l : ℕ} {taps symbols : List ℕ} {from k s : ℕ} → Narrow l taps symbols from →
-    Summed ((l / 8 + 1) * 8) 66049 (λ i. getD taps i 0 * getD symbols (from + i) 0) k s → (l / 8 + 1) * 8 ≤ k → s ≡ sumAt l taps symbols from
-narrow-all {l} {taps} {symbols} {from} narrow a done = summed-all _ _ _ _ _ a done ∙ rounded l taps symbols from (narrow .zeros)
+pub narrow-all : {l end : ℕ} {taps symbols : List ℕ} {from k s : ℕ} → Narrow l taps symbols from → suc l ≤ end →
+    Summed end 66049 (λ i. getD taps i 0 * getD symbols (from + i) 0) k s → end ≤ k → s ≡ sumAt l taps symbols from
+narrow-all {l} {end} {taps} {symbols} {from} narrow enough a done = summed-all _ _ _ _ _ a done ∙ and-more l taps symbols from (narrow .zeros) end enough
 
 -- ---- products of residues
 
@@ -75,11 +75,11 @@ module _ {f : Modulus} {l : ℕ} {taps symbols : List ℕ} {from : ℕ} (s : Sum
   top-small k = let m = s .modulus .taken .modulus in omega (arith, term-below k, mul-le-mul m m)
 
   -- all of the sum, once the loop has ended
-  module _ {k low high : ℕ} (h : Halved ((l / 8 + 1) * 8) term k low high) (done : (l / 8 + 1) * 8 ≤ k) where
+  module _ {end k low high : ℕ} (enough : suc l ≤ end) (h : Halved end term k low high) (done : end ≤ k) where
     pub whole : low + 65536 * high ≡ sumAt l taps symbols from
     whole =
-        h .so-far ∙ ap (λ (n : ℕ). total n term) (let e : k ≡ (l / 8 + 1) * 8 = omega (arith, h .within) in e)
-        ∙ rounded l taps symbols from (s .ending .zeros)
+        h .so-far ∙ ap (λ (n : ℕ). total n term) (let e : k ≡ end = omega (arith, h .within) in e)
+        ∙ and-more l taps symbols from (s .ending .zeros) end enough
 
     pub whole-below : low + 65536 * high ≤ 129 * (p * p)
     whole-below = rw whole all-below

@@ -13,7 +13,6 @@ use lib.Seq.{ext-getD, take-all, getD-take, getD-set-same, getD-set-other}
 use Rattle.field.specs.Coefficients.{reduced, shifted}
 use Rattle.field.specs.Residue.{minus, times, inverse, quotient}
 use Rattle.field.proofs.Coefficients.{shifted-below, shifted-above, length-reduced, getD-reduced}
-use Rattle.field.proofs.MontgomeryProducts.{product-taken}
 use Rattle.field.proofs.Remainders.{mod-mul-mod, mul-mod-mod}
 use Rattle.lists.proofs.Entries.{getD-take-suc}
 use Rattle.discrepancy.specs.Modulus.{Moduli}
@@ -40,7 +39,7 @@ module _ (p l : ℕ) (σ : List ℕ) (q e : ℕ) where
   tap-same : (τ ρ : List ℕ) (i : ℕ) → shifted e τ i ≡ shifted e ρ i → tap τ i ≡ tap ρ i
   tap-same τ ρ i h = ap (λ (x : ℕ). minus p (getD σ i 0) (times p q x)) h
 
-  tap-kept : (τ : List ℕ) (i : ℕ) → shifted e τ i ≡ 0 → getD σ i 0 < p → tap τ i ≡ getD σ i 0
+  pub tap-kept : (τ : List ℕ) (i : ℕ) → shifted e τ i ≡ 0 → getD σ i 0 < p → tap τ i ≡ getD σ i 0
   tap-kept τ i h less = ap (λ (x : ℕ). minus p (getD σ i 0) (times p q x)) h ∙ minus-zero p (getD σ i 0) q less
 
   pub reduced-none : length σ ≡ suc l → ((i : ℕ) → getD σ i 0 < p) → σ ≡ reduced p l σ q e []
@@ -141,11 +140,6 @@ module _ {p u z w : ℕ} (read : z ≡ p) (factor : w ≡ z - (p - u)) (small : 
   pub taken-by : (x y r : ℕ) → (65536 * r + y * w) % z ≡ (65536 * x) % z → (65536 * r + y * u) % p ≡ (65536 * x) % p
   taken-by x y r taken =
       ap₂ (λ (j k : ℕ). (65536 * r + y * j) % k) (sym factor-back) (sym read) ∙ taken ∙ ap (λ (k : ℕ). (65536 * x) % k) read
-
-  pub product-less : (v : ℕ) → (p * v) % 65536 ≡ 1 → (q y : ℕ) {x r : ℕ} → u ≡ (q * 65536) % p → x < p
-      → (65536 * r + y * w) % z ≡ (65536 * x) % z → r < z → r ≡ minus p x (times p q y)
-  product-less v inverse q y {x} {r} unit less taken below =
-      product-taken p v inverse q y unit (taken-by x y r taken) less (omega (arith, below, read))
 
 -- ---- by what is taken: d over c, of which 2^16 over c is told
 

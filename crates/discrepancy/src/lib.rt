@@ -1,6 +1,7 @@
 // What is worked out of the modulus once, and discrepancies on arrays. These are a little longer than a register, with zeros after it: loops go on to a multiple
 // of 8 entries, and none is left for the compiler to do one by one.
 pub mod due;
+pub mod padded;
 pub mod sums;
 pub mod worked_out;
 

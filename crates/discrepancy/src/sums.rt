@@ -1,5 +1,6 @@
 // The sum of the products of taps and symbols: a discrepancy, where the symbols stand backwards.
 use crate::Modulus;
+use crate::padded::padded;
 use field::montgomery::bottom;
 use field::montgomery::top;
 use field::narrow::product;
@@ -16,7 +17,7 @@ fn narrow_sum(l: usize, taps: &[u16; 144], symbols: &[u16; 1152], from: usize) -
     ensures { λ r. ⌜ r ≡ sumAt l (now (taps .entry)) (now (symbols .entry)) from ⌝ }
 {
     let mut sum: u32 = 0;
-    let end = (l / 8 + 1) * 8;
+    let end = padded(l + 1);
     let mut i = 0;
     while i < end {
         sum += product(taps[i], symbols[from + i]);
@@ -33,7 +34,7 @@ fn wide_sum(f: Modulus, l: usize, taps: &[u16; 144], symbols: &[u16; 1152], from
 {
     let mut low: u32 = 0;
     let mut high: u32 = 0;
-    let end = (l / 8 + 1) * 8;
+    let end = padded(l + 1);
     let mut i = 0;
     while i < end {
         let a = taps[i];

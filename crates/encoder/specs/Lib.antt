@@ -1,2 +1,1 @@
 pub mod Encodable
-pub mod GeneratorPolynomial

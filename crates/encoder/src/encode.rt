@@ -1,6 +1,6 @@
 // Frames encoded: their sizes and data cells tested, and their rows encoded one after the other.
-use crate::division::encode_row;
-use crate::generator::generator;
+use division::generator::generator;
+use division::rows::encode_row;
 use field257::powers::wide;
 use frame::Shape;
 use refusal::Checked;
@@ -10,7 +10,7 @@ ghost use mathlib.Core.Path.{_≡_};
 ghost use mathlib.Core.Bool.{true};
 ghost use Prim.Native.Nat.{_≤_};
 ghost use Rattle.encoder.specs.Encodable.{EncodableFrame};
-ghost use Rattle.encoder.specs.GeneratorPolynomial.{GeneratorPolynomial};
+ghost use Rattle.division.specs.GeneratorPolynomial.{GeneratorPolynomial};
 ghost use Rattle.frame.specs.Encode.{encoded, encodeTests};
 ghost use Rattle.frame.specs.Shape.{isShape};
 ghost use Rattle.refusal.specs.Order.{firstOf};

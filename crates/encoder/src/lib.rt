@@ -1,5 +1,2 @@
-// The encoder: the data of each row is divided by the generator polynomial of its checks, and the remainder fills the check
-// cells.
-pub mod division;
+// The encoder: the check cells of each row are filled by division.
 pub mod encode;
-pub mod generator;

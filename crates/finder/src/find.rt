@@ -2,8 +2,8 @@
 use crate::Found;
 use crate::backwards::all_backwards;
 use discrepancy::worked_out::worked_out;
+use reduction::copy::copy;
 use refusal::Checked;
-use register_step::copy::copy;
 use rounds::alone;
 use rounds::rounds;
 use rounds::start;

@@ -41,7 +41,3 @@ total-first m n f le none =
   where
     rest : (d : ℕ) → total d (λ k. f (m + k)) ≡ 0
     rest d = let b = total-bound d 0 (λ k. f (m + k)) (λ k _. let e = none (m + k) (omega arith) in omega arith) in omega arith
-
--- the first multiple of 8 above l
-pub past-last : (l : ℕ) → (l < (l / 8 + 1) * 8) × ((l / 8 + 1) * 8 ≤ l + 8)
-past-last l = (omega arith, omega arith)

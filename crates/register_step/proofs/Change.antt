@@ -17,9 +17,9 @@ use Rattle.lists.proofs.Entries.{getD-take-past}
 use Rattle.lists.specs.Parts.{replaced}
 use Rattle.register.proofs.Cases.{changed-cases, grown, stayed}
 use Rattle.register.specs.Algorithm4.{Saved, State, changed, withSaved}
-use Rattle.register_step.specs.Progress.{Progress, Whole, block, stateOf, Ended, Changeable, Stepped, savedAfter, saving}
-use Rattle.register_step.specs.Reductions.{Growable, Reducible, ZerosAfter}
-use Rattle.register_step.proofs.Blocks.{block-replaced, block-other, replaced-whole, replaced-entry, other-entry}
+use Rattle.register_step.specs.Progress.{Progress, Whole, stateOf, Ended, Changeable, Stepped, savedAfter, saving}
+use Rattle.reduction.specs.Reductions.{Growable, Reducible, ZerosAfter, block}
+use Rattle.reduction.proofs.Blocks.{block-replaced, block-other, replaced-whole, replaced-entry, other-entry}
 use Rattle.discrepancy.proofs.Reduction.{minus-zero, shifted-past}
 
 -- ---- the taps

@@ -10,7 +10,7 @@ use lib.ListN.{length, getD, set, take, drop}
 use Rattle.field.specs.Residue.{quotient}
 use Rattle.lists.specs.Parts.{replaced}
 use Rattle.register.specs.Algorithm4.{State}
-use Rattle.register_step.specs.Reductions.{ZerosAfter}
+use Rattle.reduction.specs.Reductions.{ZerosAfter, block}
 
 -- what is kept besides the taps
 pub record Progress : Type 0 where
@@ -23,10 +23,6 @@ pub record Progress : Type 0 where
 -- the same of a length and four arrays
 abbrev pub progress : (l : ℕ) (places sizes discs quotients : List ℕ) → Progress
 progress l places sizes discs quotients = record { length = l; places = places; sizes = sizes; discs = discs; quotients = quotients }
-
--- the part of the flat array that belongs to sequence h
-abbrev pub block : ℕ → List ℕ → List ℕ
-block h saved = take 144 (drop (h * 144) saved)
 
 -- the state of Algorithm 4 that the arrays hold
 unfoldable pub stateOf : Progress → (taps saved : List ℕ) → State

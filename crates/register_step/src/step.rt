@@ -1,8 +1,8 @@
 // The change of the state at a step (n, h) of Algorithm 4 by a discrepancy that is not 0.
-use crate::reduce::reduce;
-use crate::reduce::reduce_keeping;
 use discrepancy::Modulus;
 use field::residue::quotient;
+use reduction::reduce::reduce;
+use reduction::reduce::reduce_keeping;
 ghost use mathlib.Core.Path.{_≡_};
 ghost use Prim.Native.Nat.{_%_};
 ghost use Rattle.register.specs.Algorithm4.{changed};

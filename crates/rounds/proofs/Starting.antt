@@ -10,7 +10,8 @@ use Rattle.field.specs.Residue.{quotient}
 use Rattle.lists.proofs.Entries.{getD-part}
 use Rattle.lists.proofs.Joined.{replicate-each}
 use Rattle.register.specs.Algorithm4.{start, rounds}
-use Rattle.register_step.specs.Progress.{Progress, block, progress, stateOf}
+use Rattle.reduction.specs.Reductions.{block}
+use Rattle.register_step.specs.Progress.{Progress, progress, stateOf}
 use Rattle.rounds.specs.Rounds.{Running, Reached, Started, sequencesIn}
 use Rattle.sequences.specs.declared.Order.{Order}
 use Rattle.register_step.proofs.Change.{saved-path}

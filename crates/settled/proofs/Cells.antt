@@ -1,9 +1,9 @@
--- Products taken off the cells, cell after cell, and factor after factor.
-use mathlib.Core.Path.{_≡_, refl, sym, ap, _∙_}
+-- Products taken off the cells, tap after tap.
+use mathlib.Core.Path.{_≡_, refl, sym, ap, subst, _∙_}
 use mathlib.Core.List.{List}
 use Prim.Native.Nat.{ℕ, suc, _+_, _*_, _%_, _≤_, _<_}
 use native.Mathlib.Decide.{ℕ-discrete}
-use native.Mathlib.Nat.{mod-add-mod, zero-mod}
+use native.Mathlib.Nat.{mod-add-mod, zero-add, zero-mod}
 use native.Mathlib.Numerals.{add-one}
 use native.Mathlib.Omega.{arith}
 use lib.ListN.{length, getD, set, replicate, length-set, length-replicate}
@@ -11,36 +11,8 @@ use lib.Seq.{getD-set-same, getD-set-other}
 use Rattle.lists.specs.Total.{total}
 use Rattle.lists.proofs.Joined.{replicate-each}
 use Rattle.lists.proofs.Totals.{total-zero, total-suc}
-use Rattle.discrepancy.proofs.Reduction.{set-below}
-use Rattle.settled.specs.Ahead.{Ahead, Cells, Less}
-
--- the products of the first k cells are taken off, and the other cells are as they were
-pub record Partly (p u : ℕ) (symbols : List ℕ) (from : ℕ) (before now : List ℕ) (k : ℕ) : Type 0 where
-  pub less : Less p u symbols from k before now
-  pub rest : (j : ℕ) → k ≤ j → getD now j 0 ≡ getD before j 0
-
-module _ {p end from : ℕ} {before : List ℕ} (c : Cells p end from before) (u : ℕ) (symbols : List ℕ) where
-  pub partly-none : Partly p u symbols from before before 0
-  partly-none = record { less = record { width = c .width; residues = c .residues; each = λ k h. absurd (let no : ⊥ = omega arith in no) }; rest = λ j _. refl }
-
-  pub partly-more : {now : List ℕ} {k r : ℕ} → Partly p u symbols from before now k → k < end → r < p →
-      (65536 * r + getD symbols (from + k) 0 * u) % p ≡ (65536 * getD now k 0) % p → Partly p u symbols from before (set now k r) (k + 1)
-  partly-more {now} {k} {r} a inside small taken =
-      record {
-        less =
-            record {
-              width = length-set now k r ∙ a .less .width;
-              residues = set-below p now k r (a .less .residues) small;
-              each = λ j h. at j (omega arith) (ℕ-discrete j k);
-            };
-        rest = λ j h. getD-set-other now k j r 0 (λ same. let no : ⊥ = omega (arith, same) in no) ∙ a .rest j (omega arith);
-      }
-    where
-      at : (j : ℕ) → j ≤ k → Dec (j ≡ k) → (65536 * getD (set now k r) j 0 + getD symbols (from + j) 0 * u) % p ≡ (65536 * getD before j 0) % p
-      at j le (yes same) =
-          rw (same, getD-set-same now k r 0 (omega (arith, a .less .width, c .within)))
-          (taken ∙ ap (λ (x : ℕ). (65536 * x) % p) (a .rest k (omega arith)))
-      at j le (no other) = rw (getD-set-other now k j r 0 other) (a .less .each j (omega arith))
+use Rattle.reduction.specs.Taking.{Less}
+use Rattle.settled.specs.Ahead.{Ahead}
 
 -- the products of the first i taps are taken off, cell k having those with the symbols at k, k + 1, ..
 pub record TakenOff (p : ℕ) (taps symbols : List ℕ) (at end : ℕ) (cells : List ℕ) (i : ℕ) : Type 0 where
@@ -60,7 +32,7 @@ module _ {p : ℕ} (taps symbols : List ℕ) (at end : ℕ) where
       zero-at : (k : ℕ) → getD {A = ℕ} (replicate 144 0) k 0 ≡ 0
       zero-at k = replicate-each (λ (x : ℕ). x ≡ 0) 0 refl 144 k
 
-  pub taken-off-more : {before after : List ℕ} {i : ℕ} → TakenOff p taps symbols at end before i → Less p (getD taps i 0) symbols (at + i) end before after →
+  pub taken-off-more : {before after : List ℕ} {i : ℕ} → TakenOff p taps symbols at end before i → Less p (getD taps i 0) symbols (at + i) 0 end before after →
       TakenOff p taps symbols at end after (i + 1)
   taken-off-more {before} {after} {i} s less =
       record {
@@ -75,7 +47,8 @@ module _ {p : ℕ} (taps symbols : List ℕ) (at end : ℕ) where
             ∙ ap (λ (x : ℕ). (65536 * a + (total i f + getD taps i 0 * getD symbols x 0)) % p) place
             ∙ ap (λ (x : ℕ). x % p) (let e : 65536 * a + (total i f + getD taps i 0 * y) ≡ 65536 * a + y * getD taps i 0 + total i f = omega arith in e)
             ∙ sym (mod-add-mod (65536 * a + y * getD taps i 0) p (total i f))
-            ∙ ap (λ (x : ℕ). (x + total i f) % p) (less .each k h)
+            ∙ ap (λ (x : ℕ). (x + total i f) % p)
+            (subst (λ (j : ℕ). (65536 * getD after j 0 + y * getD taps i 0) % p ≡ (65536 * getD before j 0) % p) (zero-add k) (less .each k h))
             ∙ mod-add-mod (65536 * getD before k 0) p (total i f)
             ∙ s .each k h;
       }

@@ -7,19 +7,6 @@ use Rattle.discrepancy.specs.Discrepancies.{sumAt}
 use Rattle.discrepancy.specs.Modulus.{WorkedOut, Moduli}
 use Rattle.discrepancy.specs.declared.Modulus.{Modulus}
 
--- cells that are residues, of which those below `end` have a symbol each, from `from` on
-pub record Cells (p end from : ℕ) (cells : List ℕ) : Type 0 where
-  pub width : length cells ≡ 144
-  pub residues : (k : ℕ) → getD cells k 0 < p
-  pub within : end ≤ 144
-  pub inside : from + end ≤ 1152
-
--- the cells once the products of u and their symbols, over 2^16, are taken off
-pub record Less (p u : ℕ) (symbols : List ℕ) (from end : ℕ) (before after : List ℕ) : Type 0 where
-  pub width : length after ≡ 144
-  pub residues : (k : ℕ) → getD after k 0 < p
-  pub each : (k : ℕ) → k < end → (65536 * getD after k 0 + getD symbols (from + k) 0 * u) % p ≡ (65536 * getD before k 0) % p
-
 -- the taps 0 .. l and the last `count` symbols of sequence h, with the l symbols before them no more than 128, modulo an odd p
 pub record Foreseeable (f : Modulus) (moduli : List ℕ) (l : ℕ) (taps : List ℕ) (h count : ℕ) : Type 0 where
   pub modulus : WorkedOut f

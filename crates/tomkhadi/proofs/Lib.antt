@@ -1,4 +1,2 @@
-pub mod Filling
-pub mod Putting
 pub mod Running
 pub mod Turning

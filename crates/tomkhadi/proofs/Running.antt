@@ -14,8 +14,8 @@ use Rattle.lines.specs.Runs.{Step, Turns, cameIn, handedIn}
 use Rattle.lines.proofs.Runs.{turns-on, handed-on, runs}
 use Rattle.tomkhadi.specs.Ran.{Ran}
 use Rattle.tomkhadi.specs.Turned.{Turned}
-use Rattle.tomkhadi.specs.Window.{unused, isOver}
-use Rattle.tomkhadi.specs.declared.input.Window.{Window}
+use Rattle.window.specs.Window.{unused, isOver}
+use Rattle.window.specs.declared.input.Window.{Window}
 
 -- the turns made so far, each of which handed something over, and how many more the counter has
 pub record Running (buffer : List ℕ) (w : Window) (turns : ℕ) : Type 0 where

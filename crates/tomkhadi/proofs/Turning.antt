@@ -13,13 +13,13 @@ use borrow.Author.Tests.{ltb-false, eq-eqb}
 use Rattle.record.specs.Record.{claimedBy}
 use Rattle.lines.specs.Lines.{restOf, textOf, nextSize}
 use Rattle.lines.proofs.Due.{some-due}
-use Rattle.tomkhadi.specs.Lined.{Lined}
+use Rattle.window.specs.Lined.{Lined}
 use Rattle.tomkhadi.specs.Turned.{Turned}
-use Rattle.tomkhadi.specs.Window.{unused, Filled, isOver}
-use Rattle.tomkhadi.specs.declared.input.Window.{Window}
-use Rattle.tomkhadi.specs.declared.output.Put.{Put}
-use Rattle.tomkhadi.proofs.Filling.{some-lacking}
-use Rattle.tomkhadi.proofs.Putting.{whole-next, last-next}
+use Rattle.window.specs.Window.{unused, Filled, isOver}
+use Rattle.window.specs.declared.input.Window.{Window}
+use Rattle.window.specs.declared.output.Put.{Put}
+use Rattle.window.proofs.Filling.{some-lacking}
+use Rattle.window.proofs.Putting.{whole-next, last-next}
 
 module _ (before : List ℕ) (w : Window) (after : List ℕ) (full : Window) (f : Filled before w after full) (out : List ℕ) (put : Put)
     (l : Lined after full out put) (room : 1024 ≤ length out) where

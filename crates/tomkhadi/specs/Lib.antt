@@ -1,4 +1,2 @@
-pub mod Lined
 pub mod Ran
 pub mod Turned
-pub mod Window

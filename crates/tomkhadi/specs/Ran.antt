@@ -8,8 +8,8 @@ use Prim.Native.Nat.{ℕ, _-_, _^_, _≤_}
 use lib.ListN.{length}
 use Rattle.lines.specs.Lines.{linesOf}
 use Rattle.lines.specs.Runs.{Step, Turns, cameIn, handedIn}
-use Rattle.tomkhadi.specs.Window.{unused, isOver}
-use Rattle.tomkhadi.specs.declared.input.Window.{Window}
+use Rattle.window.specs.Window.{unused, isOver}
+use Rattle.window.specs.declared.input.Window.{Window}
 
 -- all turns of the counter are made, and each handed over a byte or more
 abbrev pub UsedUp : List Step → Type 0

@@ -8,8 +8,8 @@ use Prim.Native.Nat.{ℕ, _+_, _≤_, _<_}
 use lib.ListN.{length, take}
 use Rattle.lines.specs.Lines.{textOf}
 use Rattle.lines.specs.Runs.{Turn}
-use Rattle.tomkhadi.specs.Window.{unused, Inside, isOver}
-use Rattle.tomkhadi.specs.declared.input.Window.{Window}
+use Rattle.window.specs.Window.{unused, Inside, isOver}
+use Rattle.window.specs.declared.input.Window.{Window}
 
 pub record Turned (before : List ℕ) (w : Window) (after out : List ℕ) (r : Window) : Type 0 where
   pub inside : Inside r after

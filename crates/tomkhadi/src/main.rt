@@ -1,14 +1,11 @@
 // The program: reads records from standard input and writes a line for each.
-mod input;
-mod output;
-
-use input::Window;
-use input::filled;
-use output::put_lines;
+use window::input::Window;
+use window::input::filled;
+use window::output::put_lines;
 ghost use mathlib.Core.Path.{_≡_};
 ghost use Rattle.tomkhadi.specs.Ran.{Ran};
 ghost use Rattle.tomkhadi.specs.Turned.{Turned};
-ghost use Rattle.tomkhadi.specs.Window.{Ready, Roomy, isOver};
+ghost use Rattle.window.specs.Window.{Ready, Roomy, isOver};
 
 // Reads until the next line is due, and writes the lines that are due. So whoever sends a record and waits gets its line.
 fn turn(buffer: &mut [u8], w: Window, scratch: &mut [u16], out: &mut [u8]) -> Window

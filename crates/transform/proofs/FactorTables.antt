@@ -1,4 +1,4 @@
--- The table of factors and its parts, and what of a row and of the table tells the values of the weighed row.
+-- The parts of a table of factors, and what of a row and of the table tells the values of the weighed row.
 use mathlib.Core.Path.{_≡_, ap, ap₂, _∙_}
 use mathlib.Core.List.{List}
 use Prim.Native.Nat.{ℕ, _+_, _*_, _/_, _%_, _^_, _≤_, _<_}
@@ -6,36 +6,9 @@ use native.Mathlib.Omega.{arith}
 use borrow.Rule.Slice.PartMut.{midOf, mid-len}
 use lib.ListN.{length, getD, drop, length-drop}
 use lib.Seq.{length-take-le}
-use Rattle.field257.specs.Powers.{powerOf3}
 use Rattle.lists.proofs.Entries.{getD-part}
-use Rattle.lists.proofs.Filling.{Filled, filled-entry, filled-rest}
-use Rattle.lists.proofs.Tabulated.{getD-tabulate, length-tabulate}
 use Rattle.lists.proofs.Totals.{total-ext}
-use Rattle.transform.specs.Stages.{Factors, Staging, Weights, factorOf, factorTable, weighedSum}
-
-pub length-factors : length factorTable ≡ 1024
-unfolding factorTable
-length-factors = length-tabulate 1024 (λ k. factorOf (4 ^ (k / 256)) (k % 256))
-
--- the table with the powers of 3^b written over its first part
-pub weights-all : (b i : ℕ) (t : List ℕ) → Filled (λ k. powerOf3 (b * k)) factorTable i t → i ≡ 256 → Weights b t
-unfolding factorTable
-weights-all b i t a e = record {
-  staging = record {
-    size = a .size ∙ length-factors;
-    small = λ k h. let q = columns k h in let l : powerOf3 (b * k) ≤ 256 = omega arith in omega arith;
-    later = λ s k one four h.
-        filled-rest _ _ i t a (256 * s + k) (omega arith) (let l = length-factors in omega arith)
-        ∙ getD-tabulate 1024 (λ k. factorOf (4 ^ (k / 256)) (k % 256)) (256 * s + k) 0 (omega arith)
-        ∙ ap₂ (λ (u v : ℕ). factorOf (4 ^ u) v) (let q : (256 * s + k) / 256 ≡ s = omega arith in q) (let q : (256 * s + k) % 256 ≡ k = omega arith in q);
-  };
-  columns = columns;
-}
-  where
-    columns : (k : ℕ) → k < 256 → getD t k 0 ≡ powerOf3 (b * k)
-    columns k h = filled-entry _ _ i t a k (omega arith)
-
--- ---- the parts
+use Rattle.transform.specs.Stages.{Factors, Staging, factorOf, weighedSum}
 
 factor-small : (n k : ℕ) → factorOf n k ≤ 257
 unfolding factorOf

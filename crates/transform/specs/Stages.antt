@@ -31,20 +31,11 @@ pub record Factors (t : List ℕ) : Type 0 where
 unfoldable pub factorOf : (n k : ℕ) → ℕ
 factorOf n k = powerOf3 (k / 64 * reversal (k % n))
 
--- for 1, 4, 16 and 64 classes
-unfoldable pub factorTable : List ℕ
-factorTable = tabulate 1024 (λ k. factorOf (4 ^ (k / 256)) (k % 256))
-
 -- factors of any columns, then those before the later stages
 pub record Staging (t : List ℕ) : Type 0 where
   pub size : length t ≡ 1024
   pub small : (k : ℕ) → k < 256 → getD t k 0 ≤ 257
   pub later : (s k : ℕ) → 1 ≤ s → s < 4 → k < 256 → getD t (256 * s + k) 0 ≡ factorOf (4 ^ s) k
-
--- the same, where the columns are multiplied by the powers of 3^b
-pub record Weights (b : ℕ) (t : List ℕ) : Type 0 where
-  pub staging : Staging t
-  pub columns : (k : ℕ) → k < 256 → getD t k 0 ≡ powerOf3 (b * k)
 
 -- the value at 3^k of a row x of up to 256 columns with each symbol times its factor
 unfoldable pub weighedSum : (t x : List ℕ) (k : ℕ) → ℕ

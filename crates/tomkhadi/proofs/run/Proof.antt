@@ -3,7 +3,7 @@ use mathlib.Core.Path.{_≡_, sym, _∙_}
 use native.Mathlib.Omega.{arith}
 use borrow.Author.Needs.{needs}
 use lib.ListN.{length}
-use Rattle.tomkhadi.specs.Window.{Inside}
+use Rattle.window.specs.Window.{Inside}
 use Rattle.tomkhadi.proofs.Running.{Running, running-none, running-on, over, used-up}
 use Rattle.tomkhadi.proofs.run.Statement.{statement}
 use Rattle.tomkhadi.proofs.run.Tie as tie

@@ -18,44 +18,46 @@ Inv-loop l taps symbols from sum₀ end i₀ sum i = Summed end 66049 (term taps
 abbrev μ-loop : tie.MeasureT-loop
 μ-loop l taps symbols from sum₀ end i₀ sum i = end - i
 
-add-end : tie.Need-add-end Inv-loop μ-loop
-add-end c = record { fits = omega (arith, c .pre .short) }
+add-padded : tie.Need-add-padded Inv-loop μ-loop
+add-padded c = record { fits = omega (arith, c .pre .short) }
 
-mul-end : tie.Need-mul-end Inv-loop μ-loop
-mul-end c = record { fits = omega (arith, c .pre .short) }
+padded-requires : tie.Need-padded-requires Inv-loop μ-loop
+padded-requires c κs = omega (arith, c .pre .short)
 
 loop-holds : tie.Need-loop-holds Inv-loop μ-loop
 loop-holds c = summed-none _ _ _
 
 mul-product : tie.Need-mul-product Inv-loop μ-loop
-mul-product c = record { fits = omega (arith, c .before .before .pre .short) }
+mul-product c = let at = c .before .before in record { fits = omega (arith, at .before .pre .short, at .padded .ensures .1) }
 
 element-copy-out-product : tie.Need-element-copy-out-product Inv-loop μ-loop
-element-copy-out-product c = omega (arith, c .before .before .pre .short)
+element-copy-out-product c = let at = c .before .before in omega (arith, at .before .pre .short, at .padded .ensures .1)
 
 add-product : tie.Need-add-product Inv-loop μ-loop
-add-product c = record { fits = omega (arith, c .before .before .before .pre .inside) }
+add-product c = let at = c .before .before .before in record { fits = omega (arith, at .before .pre .inside, at .padded .ensures .1) }
 
 mul-product-2 : tie.Need-mul-product-2 Inv-loop μ-loop
-mul-product-2 c = record { fits = omega (arith, c .before .before .before .pre .inside) }
+mul-product-2 c = let at = c .before .before .before in record { fits = omega (arith, at .before .pre .inside, at .padded .ensures .1) }
 
 element-copy-out-product-2 : tie.Need-element-copy-out-product-2 Inv-loop μ-loop
-element-copy-out-product-2 c = omega (arith, c .before .before .before .pre .inside)
+element-copy-out-product-2 c = let at = c .before .before .before in omega (arith, at .before .pre .inside, at .padded .ensures .1)
 
 -- the product is small
 small : (c : tie.After-product Inv-loop μ-loop) → c .product .result ≤ 66049
-small c = let at = c .before .before .before .before in rw (c .product .ensures) (at .before .pre .products (at .loop .i))
+small c = let at = c .before .before .before .before in rw (c .product .ensures) (at .before .before .pre .products (at .loop .i))
 
 add-sum : tie.Need-add-sum Inv-loop μ-loop
 add-sum c =
     let at = c .before .before .before .before in
-    record { fits = omega (arith, small c, at .loop .inv .bounded, at .before .pre .short) }
+    record { fits = omega (arith, small c, at .loop .inv .bounded, at .before .before .pre .short, at .before .padded .ensures .1) }
 
 loop-again : tie.Need-loop-again Inv-loop μ-loop
 loop-again c = summed-more _ _ _ _ _ (c .before .before .before .before .loop .inv) _ (omega arith) (c .product .ensures) (small c)
 
 returns : tie.Need-returns Inv-loop μ-loop
-returns c = narrow-all (c .before .before .pre) (c .before .loop .inv) (omega arith)
+returns c =
+    let at = c .before in
+    narrow-all (at .before .before .pre) (omega (arith, at .before .padded .ensures .0)) (at .loop .inv) (omega arith)
 
 pub narrow-sum-spec : {M : Type 1} → statement M
 narrow-sum-spec =
@@ -63,8 +65,8 @@ narrow-sum-spec =
     (tie.spec
     Inv-loop
     μ-loop
-    add-end
-    mul-end
+    add-padded
+    padded-requires
     loop-holds
     mul-product
     element-copy-out-product

@@ -20,47 +20,47 @@ Inv-loop f l taps symbols from low₀ high₀ end i₀ low high i = Halved end (
 abbrev μ-loop : tie.MeasureT-loop
 μ-loop f l taps symbols from low₀ high₀ end i₀ low high i = end - i
 
-add-end : tie.Need-add-end Inv-loop μ-loop
-add-end c = record { fits = omega (arith, c .pre .short) }
+add-padded : tie.Need-add-padded Inv-loop μ-loop
+add-padded c = record { fits = omega (arith, c .pre .short) }
 
-mul-end : tie.Need-mul-end Inv-loop μ-loop
-mul-end c = record { fits = omega (arith, c .pre .short) }
+padded-requires : tie.Need-padded-requires Inv-loop μ-loop
+padded-requires c κs = omega (arith, c .pre .short)
 
 loop-holds : tie.Need-loop-holds Inv-loop μ-loop
 loop-holds c = halved-none _ _
 
 mul-a : tie.Need-mul-a Inv-loop μ-loop
-mul-a c = record { fits = omega (arith, c .before .before .pre .short) }
+mul-a c = let at = c .before .before in record { fits = omega (arith, at .before .pre .short, at .padded .ensures .1) }
 
 element-copy-out-a : tie.Need-element-copy-out-a Inv-loop μ-loop
-element-copy-out-a c = omega (arith, c .before .before .pre .short)
+element-copy-out-a c = let at = c .before .before in omega (arith, at .before .pre .short, at .padded .ensures .1)
 
 add-b : tie.Need-add-b Inv-loop μ-loop
-add-b c = record { fits = omega (arith, c .before .before .before .pre .inside) }
+add-b c = let at = c .before .before .before in record { fits = omega (arith, at .before .pre .inside, at .padded .ensures .1) }
 
 mul-b : tie.Need-mul-b Inv-loop μ-loop
-mul-b c = record { fits = omega (arith, c .before .before .before .pre .inside) }
+mul-b c = let at = c .before .before .before in record { fits = omega (arith, at .before .pre .inside, at .padded .ensures .1) }
 
 element-copy-out-b : tie.Need-element-copy-out-b Inv-loop μ-loop
-element-copy-out-b c = omega (arith, c .before .before .before .pre .inside)
+element-copy-out-b c = let at = c .before .before .before in omega (arith, at .before .pre .inside, at .padded .ensures .1)
 
 add-low : tie.Need-add-low Inv-loop μ-loop
 add-low c =
     let at = c .before .before .before .before in
-    record { fits = half-fits {n = 136} (omega arith) (omega (arith, at .before .pre .short)) (at .loop .inv .lows) (omega (arith, c .bottom .ensures)) }
+    record { fits = half-fits {n = 136} (omega arith) (omega (arith, at .before .before .pre .short, at .before .padded .ensures .1)) (at .loop .inv .lows) (omega (arith, c .bottom .ensures)) }
 
 add-high : tie.Need-add-high Inv-loop μ-loop
 add-high c =
     let at = c .before .before .before .before .before in
-    let small : c .top .result < 65536 = rw (c .top .ensures) (top-small (at .before .pre) (at .loop .i)) in
-    record { fits = half-fits {n = 136} (omega arith) (omega (arith, at .before .pre .short)) (at .loop .inv .highs) small }
+    let small : c .top .result < 65536 = rw (c .top .ensures) (top-small (at .before .before .pre) (at .loop .i)) in
+    record { fits = half-fits {n = 136} (omega arith) (omega (arith, at .before .before .pre .short, at .before .padded .ensures .1)) (at .loop .inv .highs) small }
 
 loop-again : tie.Need-loop-again Inv-loop μ-loop
 loop-again c =
     let at = c .before .before .before .before .before in
     let top = c .top .ensures in
     halved-more _ _ (at .loop .i) (at .loop .low) (at .loop .high) (at .loop .inv) (omega arith) (c .before .bottom .ensures) top
-    (rw top (top-small (at .before .pre) (at .loop .i)))
+    (rw top (top-small (at .before .before .pre) (at .loop .i)))
 
 mul-wide-remainder : tie.Need-mul-wide-remainder Inv-loop μ-loop
 mul-wide-remainder c = record { fits = omega arith }
@@ -71,19 +71,19 @@ add-wide-remainder c = record { fits = omega arith }
 wide-remainder-requires : tie.Need-wide-remainder-requires Inv-loop μ-loop
 wide-remainder-requires c κs =
     let at = c .before in
-    let pre = at .before .pre in
+    let pre = at .before .before .pre in
     let taken = pre .modulus .taken in
     record {
       positive = omega (arith, taken .two-or-more);
       modulus = taken .modulus;
-      quotient = sum-quotient _ (taken .modulus) (whole-below pre (at .loop .inv) (omega arith));
+      quotient = sum-quotient _ (taken .modulus) (whole-below pre (omega (arith, at .before .padded .ensures .0)) (at .loop .inv) (omega arith));
       reciprocal = pre .modulus .wide;
     }
 
 returns : tie.Need-returns Inv-loop μ-loop
 returns c =
     let at = c .before .before in
-    c .wide-remainder .ensures .0 ∙ ap (λ (x : ℕ). x % at .before .args .f .p) (whole (at .before .pre) (at .loop .inv) (c .before .loop-test .left))
+    c .wide-remainder .ensures .0 ∙ ap (λ (x : ℕ). x % at .before .before .args .f .p) (whole (at .before .before .pre) (omega (arith, at .before .padded .ensures .0)) (at .loop .inv) (c .before .loop-test .left))
 
 pub wide-sum-spec : {M : Type 1} → statement M
 wide-sum-spec =
@@ -91,8 +91,8 @@ wide-sum-spec =
     (tie.spec
     Inv-loop
     μ-loop
-    add-end
-    mul-end
+    add-padded
+    padded-requires
     loop-holds
     mul-a
     element-copy-out-a

@@ -8,7 +8,7 @@ use Rattle.frame.specs.Encode.{encoded}
 use Rattle.frame.specs.Shape.{checksOf}
 use Rattle.frame.proofs.Encoding.{firstColumns}
 use Rattle.frame.proofs.Shapes.{shape-ranges}
-use Rattle.encoder.specs.GeneratorPolynomial.{GeneratorPolynomial}
+use Rattle.division.specs.GeneratorPolynomial.{GeneratorPolynomial}
 use Rattle.frame.proofs.RowData.{row-small}
 use Rattle.frame.proofs.RowsChanged.{changed-none, changed-all, length-part}
 use Rattle.frame.specs.Completion.{completed}

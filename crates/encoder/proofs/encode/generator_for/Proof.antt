@@ -2,7 +2,7 @@
 use mathlib.Core.Path.{sym, subst}
 use Prim.Native.Nat.{ℕ}
 use borrow.Author.Needs.{needs}
-use Rattle.encoder.specs.GeneratorPolynomial.{GeneratorPolynomial}
+use Rattle.division.specs.GeneratorPolynomial.{GeneratorPolynomial}
 use Rattle.encoder.proofs.encode.generator_for.Statement.{statement}
 use Rattle.encoder.proofs.encode.generator_for.Tie as tie
 

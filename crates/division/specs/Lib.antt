@@ -1,0 +1,2 @@
+pub mod Dividends
+pub mod GeneratorPolynomial
