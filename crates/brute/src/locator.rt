@@ -1,10 +1,10 @@
 // The second locator, which asks elimination: whether a column is named is whether its equation follows from those of the taps.
 use crate::shortest::shortest;
-use plain::frames::power;
-use plain::frames::size;
 use plain::values::get;
 use plain::values::put;
 use plain::values::times;
+use plain_frames::frames::power;
+use plain_frames::frames::size;
 ghost use Prim.Native.Nat.{ℕ, _%_, _^_, _<_};
 ghost use lib.ListN.{length, getD};
 ghost use Rattle.brute.specs.Locating.{Located, MarkedRoots, Named};

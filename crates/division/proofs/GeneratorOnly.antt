@@ -1,7 +1,7 @@
 -- The contract of the generator polynomial leaves one list of each length: two that meet it have the same leading coefficient and the same m check sums, so
 -- that their difference, a row that is 0 outside m columns, is 0.
 use mathlib.Core.Path.{_≡_, sym, ap, ap₂, _∙_}
-use mathlib.Core.Bool.{true, false, false≢true}
+use mathlib.Core.Bool.{false, false≢true}
 use mathlib.Core.List.{List}
 use Prim.Native.Nat.{ℕ, suc, _≤_, _<_}
 use native.Mathlib.Decide.{decLt, ℕ-discrete}

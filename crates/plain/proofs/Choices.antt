@@ -2,12 +2,11 @@
 use mathlib.Core.Path.{_≡_, sym, ap, _∙_}
 use mathlib.Core.Bool.{Bool, cond}
 use mathlib.Core.List.{List, []}
-use Prim.Native.Nat.{ℕ, _+_, _*_, _-_, _≤_, _<_}
+use Prim.Native.Nat.{ℕ, _+_, _-_, _≤_, _<_}
 use native.Mathlib.Decide.{decLe}
 use native.Mathlib.Omega.{arith}
-use borrow.Author.Tests.{le-leb, lt-leb, lt-ltb, le-ltb}
+use borrow.Author.Tests.{le-leb, lt-leb}
 use lib.ListN.{length, getD, take, drop, length-take, length-drop}
-use Rattle.plain.specs.Frames.{row}
 use Rattle.plain.specs.Plain.{before, capped, part}
 
 pub capped-small : (x : ℕ) → x ≤ 18446744073709551615 → capped x ≡ x
@@ -76,9 +75,3 @@ part-capped a x n fits = pick (decLe x 18446744073709551615) (decLe n 0)
     pick (no h) (yes m) =
         let z : n ≡ 0 = omega arith in
         ap (λ (k : ℕ). part a (capped x) k) z ∙ part-empty a (capped x) ∙ sym (ap (λ (k : ℕ). part a x k) z ∙ part-empty a x)
-
-pub row-in : (frame : List ℕ) (columns h : ℕ) → h < 8 → row frame columns h ≡ part frame (h * columns) columns
-row-in frame columns h l = ap (λ (b : Bool). cond b (part frame (h * columns) columns) []) (lt-ltb h 8 l)
-
-pub row-out : (frame : List ℕ) (columns h : ℕ) → 8 ≤ h → row frame columns h ≡ []
-row-out frame columns h l = ap (λ (b : Bool). cond b (part frame (h * columns) columns) []) (le-ltb h 8 l)

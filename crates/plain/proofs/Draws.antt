@@ -5,7 +5,6 @@ use native.Mathlib.Numerals.{add-one}
 use native.Mathlib.Omega.{arith}
 use Rattle.plain.proofs.Remainders.{rem-lt}
 use Rattle.plain.specs.Drawn.{advanced, drawn, drawnFrom, later}
-use Rattle.plain.specs.Frames.{Nonzero}
 
 pub later-zero : (s : ℕ) → s ≡ later 0 s
 unfolding later
@@ -23,6 +22,3 @@ drawn-more n s least p h e = e ∙ ap (λ (x : ℕ). drawnFrom x least p) (ap ad
 
 pub drawn-below : (s n : ℕ) {r : ℕ} → 0 < n → r ≡ drawn s n → r < n
 drawn-below s n some e = omega (arith, rem-lt (s / 65536) n some)
-
-pub drawn-nonzero : (s : ℕ) {r : ℕ} → r ≡ drawnFrom s 1 256 → Nonzero r
-drawn-nonzero s e = omega (arith, rem-lt (s / 65536) 256 (omega arith))

@@ -1,14 +1,9 @@
-pub mod CheckSums
 pub mod Choices
-pub mod Choosing
 pub mod Congruences
 pub mod Digits
 pub mod Draws
-pub mod Errors
-pub mod Mixing
 pub mod Powers
 pub mod Remainders
-pub mod Striking
 pub mod Sums
 pub mod Terms
 pub mod Tests

@@ -24,7 +24,7 @@ pub fn put(a: &mut [u16], i: usize, v: u16)
 }
 
 // Puts v at place `at` + i, however large the sum.
-pub(crate) fn put_at(a: &mut [u16], at: usize, i: usize, v: u16)
+pub fn put_at(a: &mut [u16], at: usize, i: usize, v: u16)
     ensures { λ r. ⌜ now (a .exit) ≡ set (now (a .entry)) (at + i) v ⌝ }
 {
     if at < a.len() {
@@ -64,7 +64,7 @@ pub fn minus(a: usize, b: usize) -> usize
 }
 
 // The sum of two numbers, cut off at the largest.
-pub(crate) fn plus(a: usize, b: usize) -> usize
+pub fn plus(a: usize, b: usize) -> usize
     ensures { λ r. ⌜ r ≡ capped (a + b) ⌝ }
 {
     if a <= usize::MAX - b {

@@ -10,8 +10,7 @@ use lib.Seq.{ext-getD, getD-take, length-take-le}
 use Rattle.lists.proofs.Entries.{getD-part, getD-take-past}
 use Rattle.lists.specs.Parts.{replaced}
 use Rattle.lists.proofs.Parts.{length-replaced, part-replaced, replaced-before, replaced-in, replaced-after}
-use Rattle.reduction.specs.Reductions.{block}
-use Rattle.reduction.specs.Reductions.{ZerosAfter}
+use Rattle.reduction.specs.Reductions.{ZerosAfter, block}
 
 -- entry i of the m + 1 taps that are saved for h, or 0 past them
 pub saved-at : (saved : List ℕ) (h m i : ℕ) → ZerosAfter saved h m → i < 144 → getD saved (h * 144 + i) 0 ≡ getD (take (suc m) (block h saved)) i 0

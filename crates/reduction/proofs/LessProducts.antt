@@ -1,18 +1,18 @@
 -- Products taken off cells, cell after cell; and the taps that this leaves: those of `reduced`.
-use mathlib.Core.Path.{_≡_, refl, sym, ap, ap₂, _∙_}
+use mathlib.Core.Path.{_≡_, refl, sym, ap, _∙_}
 use mathlib.Core.List.{List}
 use Prim.Native.Nat.{ℕ, suc, _+_, _-_, _*_, _%_, _≤_, _<_}
 use native.Mathlib.Decide.{decLt, ℕ-discrete}
+use native.Mathlib.Nat.{add-sub-cancel-left}
 use native.Mathlib.Omega.{arith}
-use lib.ListN.{length, getD, set, take, length-set, length-take}
+use lib.ListN.{getD, set, take, length-set, length-take}
 use lib.Seq.{ext-getD, getD-set-same, getD-set-other}
 use Rattle.field.specs.Coefficients.{reduced, shifted}
 use Rattle.field.specs.Residue.{minus, times}
 use Rattle.field.proofs.Coefficients.{shifted-below, shifted-above, length-reduced, getD-reduced}
 use Rattle.field.proofs.MontgomeryProducts.{product-taken}
 use Rattle.discrepancy.proofs.Reduction.{set-below, shifted-past, tap-kept}
-use Rattle.reduction.specs.Reductions.{block}
-use Rattle.reduction.specs.Reductions.{Reducible}
+use Rattle.reduction.specs.Reductions.{Reducible, block}
 use Rattle.reduction.specs.Taking.{Cells, Less}
 use Rattle.reduction.proofs.Blocks.{saved-at}
 
@@ -38,7 +38,8 @@ module _ {p e from count : ℕ} {before : List ℕ} (c : Cells p e from count be
         last = λ k h. getD-set-other now (e + i) k r 0 (λ same. let no : ⊥ = omega (arith, same) in no) ∙ a .last k (omega arith);
       }
     where
-      at : (j : ℕ) → j ≤ i → Dec (j ≡ i) → (65536 * getD (set now (e + i) r) (e + j) 0 + getD numbers (from + j) 0 * u) % p ≡ (65536 * getD before (e + j) 0) % p
+      at : (j : ℕ) → j ≤ i → Dec (j ≡ i) →
+          (65536 * getD (set now (e + i) r) (e + j) 0 + getD numbers (from + j) 0 * u) % p ≡ (65536 * getD before (e + j) 0) % p
       at j le (yes same) =
           rw (same, getD-set-same now (e + i) r 0 (omega (arith, a .width, c .within)))
           (taken ∙ ap (λ (x : ℕ). (65536 * x) % p) (a .last (e + i) (omega arith)))
@@ -55,7 +56,8 @@ module _ (p v : ℕ) (inverse : (p * v) % 65536 ≡ 1) {u e m h count : ℕ} {sa
   entry i inside =
       product-taken p v inverse q (getD saved (h * 144 + i) 0) unit (less .each i inside) (r .residues (e + i)) (less .residues (e + i))
       ∙ ap (λ (y : ℕ). minus p (getD before (e + i) 0) (times p q y))
-      (saved-at saved h m i (r .zeros) (omega arith) ∙ sym (shifted-above e τ (e + i) (omega arith) ∙ ap (λ (j : ℕ). getD τ j 0) (let at : e + i - e ≡ i = omega arith in at)))
+      (saved-at saved h m i (r .zeros) (omega arith)
+      ∙ sym (shifted-above e τ (e + i) (omega arith) ∙ ap (λ (j : ℕ). getD τ j 0) (add-sub-cancel-left e i)))
 
   kept : (k : ℕ) → shifted e τ k ≡ 0 → getD after k 0 ≡ getD before k 0 → getD after k 0 ≡ minus p (getD before k 0) (times p q (shifted e τ k))
   kept k none same = same ∙ sym (tap-kept p 143 before q e τ k none (r .residues k))

@@ -9,14 +9,13 @@ use field::reciprocal::remainder;
 use field::reciprocal::wide_remainder;
 ghost use mathlib.Core.Path.{_≡_};
 ghost use Prim.Native.Nat.{ℕ, suc, _*_, _%_, _<_};
-ghost use lib.ListN.{length, take};
+ghost use lib.ListN.{take};
 ghost use Rattle.field.specs.Coefficients.{reduced};
 ghost use Rattle.field.specs.Residue.{quotient};
 ghost use Rattle.lists.specs.Parts.{replaced};
 ghost use Rattle.discrepancy.specs.Discrepancies.{Loose};
 ghost use Rattle.discrepancy.specs.Modulus.{WorkedOut};
-ghost use Rattle.reduction.specs.Reductions.{block};
-ghost use Rattle.reduction.specs.Reductions.{Reducible, Divided, Keepable, Growable};
+ghost use Rattle.reduction.specs.Reductions.{Reducible, Divided, Keepable, Growable, block};
 
 // All taps less q·x^e·τ, τ being the m + 1 taps saved for sequence h, modulo 2.
 fn reduce_two(taps: &mut [u16; 144], q: u32, e: usize, m: usize, saved: &[u16; 1152], h: usize)

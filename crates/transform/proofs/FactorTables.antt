@@ -1,10 +1,10 @@
 -- The parts of a table of factors, and what of a row and of the table tells the values of the weighed row.
 use mathlib.Core.Path.{_≡_, ap, ap₂, _∙_}
 use mathlib.Core.List.{List}
-use Prim.Native.Nat.{ℕ, _+_, _*_, _/_, _%_, _^_, _≤_, _<_}
+use Prim.Native.Nat.{ℕ, _+_, _*_, _%_, _^_, _≤_, _<_}
 use native.Mathlib.Omega.{arith}
 use borrow.Rule.Slice.PartMut.{midOf, mid-len}
-use lib.ListN.{length, getD, drop, length-drop}
+use lib.ListN.{getD, drop, length-drop}
 use lib.Seq.{length-take-le}
 use Rattle.lists.proofs.Entries.{getD-part}
 use Rattle.lists.proofs.Totals.{total-ext}

@@ -6,7 +6,6 @@ use crate::model::EMPTY;
 use crate::model::Model;
 use crate::model::size;
 use crate::tallies::LISTS;
-use plain::damage::damage;
 use plain::random::draw;
 use plain::random::draw_exponent;
 use plain::random::draw_from;
@@ -19,6 +18,7 @@ use plain::values::minus;
 use plain::values::part;
 use plain::values::put;
 use plain::values::remainder;
+use plain_frames::damage::damage;
 
 enum Call {
     Shape,

@@ -1,9 +1,6 @@
 // Calls on a job in each of its states at the edges (SPECIFICATION.md, "Examples"): what is just taken and what is just refused, which of two reasons comes
 // first, and the state that is left. Frames have n symbols, the first k of which are v, and the others 0.
 use crate::tallies::EDGES;
-use plain::answers::of_checked;
-use plain::answers::of_reply;
-use plain::compare::same;
 use plain::tally::count;
 use plain::tally::print_list;
 use plain::values::first;
@@ -11,6 +8,9 @@ use plain::values::minus;
 use plain::values::part;
 use plain::values::put;
 use plain::values::set;
+use plain_frames::answers::of_checked;
+use plain_frames::answers::of_reply;
+use plain_frames::compare::same;
 use whole_job::Job;
 
 // What shape answers for rows of `checks` checks, but for the last row.

@@ -1,12 +1,12 @@
 // A simple model of a job: what each call must answer, and the state that it leaves. It shares no code with the library.
 use brute::locator::locate;
-use plain::frames::check_sums;
-use plain::frames::row;
 use plain::values::copy;
 use plain::values::get;
 use plain::values::minus;
 use plain::values::part;
 use plain::values::product;
+use plain_frames::frames::check_sums;
+use plain_frames::frames::row;
 
 pub(crate) const EMPTY: u16 = 0;
 
@@ -221,7 +221,7 @@ fn sums_differ(model: Model, frame: &[u16]) -> bool {
     let mut sums = [0u16; 512];
     let lent = part(&checks, 0, model.rows as usize);
     check_sums(model.exponent, model.columns, lent, frame, &mut sums);
-    !plain::compare::same(&held, &sums, 0)
+    !plain_frames::compare::same(&held, &sums, 0)
 }
 
 fn repair_reason(model: Model, frame: &[u16]) -> u32 {

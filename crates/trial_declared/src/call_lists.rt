@@ -14,7 +14,6 @@ use crate::tallies::LISTS;
 use crate::tallies::MENDED;
 use crate::tallies::RENEWED;
 use crate::tallies::tally;
-use plain::damage::damage;
 use plain::random::draw;
 use plain::random::draw_from;
 use plain::tally::count;
@@ -24,6 +23,7 @@ use plain::values::minus;
 use plain::values::part;
 use plain::values::put;
 use plain::values::remainder;
+use plain_frames::damage::damage;
 
 // A new shape with a frame that is encoded, a locate, or a repair.
 enum Call {

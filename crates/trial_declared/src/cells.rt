@@ -1,10 +1,10 @@
 // Declared cells, as they are lent to locate: which can be declared, which columns of a row are lost by them, and how they are drawn.
-use plain::cells::mark;
 use plain::random::draw;
 use plain::random::draw_from;
 use plain::values::get;
 use plain::values::put;
 use plain::values::remainder;
+use plain_frames::cells::mark;
 
 // Whether the cell of column i in row h is declared.
 pub(crate) fn is_declared(words: &[u64; 32], h: usize, i: u16) -> bool {

@@ -1,8 +1,8 @@
 // What is printed of calls that disagree.
 use crate::model::Model;
-use plain::cells::mark;
 use plain::tally::print_frame;
 use plain::values::part;
+use plain_frames::cells::mark;
 
 // The marks of the declared cells.
 fn show_cells(words: &[u64; 32]) {

@@ -3,16 +3,16 @@
 // column i in row h has mark 256·h + i.
 use crate::cells::declare;
 use crate::tallies::EDGES;
-use plain::answers::columns_of;
-use plain::answers::of_checked;
-use plain::answers::of_reply;
-use plain::compare::same;
 use plain::tally::count;
 use plain::tally::print_list;
 use plain::values::first;
 use plain::values::get;
 use plain::values::part;
 use plain::values::set;
+use plain_frames::answers::columns_of;
+use plain_frames::answers::of_checked;
+use plain_frames::answers::of_reply;
+use plain_frames::compare::same;
 use whole_job::Answered;
 use whole_job::Job;
 

@@ -16,9 +16,6 @@ use crate::tallies::FOUND;
 use crate::tallies::IN_REACH;
 use crate::tallies::PAST_REACH;
 use crate::tallies::tally;
-use plain::compare::same;
-use plain::damage::damage;
-use plain::frames::check_sums;
 use plain::random::draw;
 use plain::tally::count;
 use plain::values::copy;
@@ -26,6 +23,9 @@ use plain::values::first;
 use plain::values::get;
 use plain::values::minus;
 use plain::values::part;
+use plain_frames::compare::same;
+use plain_frames::damage::damage;
+use plain_frames::frames::check_sums;
 
 fn smaller(a: usize, b: usize) -> usize {
     if a < b {

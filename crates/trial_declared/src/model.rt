@@ -3,12 +3,12 @@ use crate::cells::declarable;
 use crate::search::all_completable;
 use crate::search::named_by;
 use brute::locator::Expected;
-use plain::cells::clear;
-use plain::frames::check_sums;
 use plain::values::copy;
 use plain::values::get;
 use plain::values::part;
 use plain::values::product;
+use plain_frames::cells::clear;
+use plain_frames::frames::check_sums;
 
 pub(crate) const EMPTY: u16 = 0;
 
@@ -203,7 +203,7 @@ fn sums_differ(model: Model, frame: &[u16]) -> bool {
     let lent = part(&checks, 0, model.rows as usize);
     let from = summed_from(model.planted, model.exponent);
     check_sums(from, model.columns, lent, frame, &mut sums);
-    !plain::compare::same(&held, &sums, 0)
+    !plain_frames::compare::same(&held, &sums, 0)
 }
 
 fn repair_reason(model: Model, frame: &[u16]) -> u32 {

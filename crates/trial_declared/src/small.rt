@@ -4,12 +4,12 @@ use crate::cells::is_declared;
 use crate::search::all_completable;
 use brute::locator::Expected;
 use plain::counting::advance;
-use plain::frames::power;
-use plain::frames::row;
-use plain::frames::size;
 use plain::values::get;
 use plain::values::part;
 use plain::values::times;
+use plain_frames::frames::power;
+use plain_frames::frames::row;
+use plain_frames::frames::size;
 
 // These columns are at most c, and with the declared cells they explain the check sums.
 fn explain(

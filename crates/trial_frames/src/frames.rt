@@ -5,10 +5,6 @@ use crate::every_frame::find_base;
 use crate::tallies::ABOVE_HALF;
 use crate::tallies::AT_HALF;
 use crate::tallies::BELOW_HALF;
-use plain::answers::of_checked;
-use plain::compare::same_data;
-use plain::damage::damage;
-use plain::frames::legal;
 use plain::random::draw;
 use plain::random::draw_exponent;
 use plain::random::draw_from;
@@ -20,6 +16,10 @@ use plain::values::first;
 use plain::values::get;
 use plain::values::part;
 use plain::values::product;
+use plain_frames::answers::of_checked;
+use plain_frames::compare::same_data;
+use plain_frames::damage::damage;
+use plain_frames::frames::legal;
 use whole_job::Job;
 
 // How large random frames are: of full size, of any size from 65 columns on, of at most seven columns, or of three columns with two checks

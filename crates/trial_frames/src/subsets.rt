@@ -1,13 +1,13 @@
 // How far the nearest legal frame is, for frames of few columns: all sets of columns are tried, and elimination tells whether errors in
 // them alone give the check sums.
 use plain::counting::advance;
-use plain::frames::power;
-use plain::frames::size;
 use plain::sequences::sequence;
 use plain::values::get;
 use plain::values::part;
 use plain::values::put;
 use plain::values::times;
+use plain_frames::frames::power;
+use plain_frames::frames::size;
 
 // The equation of a check sum in which column i has the weight step^i: the errors of the marked columns, times their weights, add up to it.
 fn pose(table: &mut [u16], marks: &[u16], sum: u16, step: u16) {

@@ -44,16 +44,19 @@ mul-b c = let at = c .before .before .before in record { fits = omega (arith, at
 element-copy-out-b : tie.Need-element-copy-out-b Inv-loop μ-loop
 element-copy-out-b c = let at = c .before .before .before in omega (arith, at .before .pre .inside, at .padded .ensures .1)
 
+near : (c : tie.In-loop Inv-loop μ-loop) → c .before .loop .i < 136
+near c = let start = c .before .before in omega (arith, start .before .pre .short, start .padded .ensures .1)
+
 add-low : tie.Need-add-low Inv-loop μ-loop
 add-low c =
     let at = c .before .before .before .before in
-    record { fits = half-fits {n = 136} (omega arith) (omega (arith, at .before .before .pre .short, at .before .padded .ensures .1)) (at .loop .inv .lows) (omega (arith, c .bottom .ensures)) }
+    record { fits = half-fits {n = 136} (omega arith) (near (c .before .before .before)) (at .loop .inv .lows) (omega (arith, c .bottom .ensures)) }
 
 add-high : tie.Need-add-high Inv-loop μ-loop
 add-high c =
     let at = c .before .before .before .before .before in
     let small : c .top .result < 65536 = rw (c .top .ensures) (top-small (at .before .before .pre) (at .loop .i)) in
-    record { fits = half-fits {n = 136} (omega arith) (omega (arith, at .before .before .pre .short, at .before .padded .ensures .1)) (at .loop .inv .highs) small }
+    record { fits = half-fits {n = 136} (omega arith) (near (c .before .before .before .before)) (at .loop .inv .highs) small }
 
 loop-again : tie.Need-loop-again Inv-loop μ-loop
 loop-again c =
@@ -83,7 +86,8 @@ wide-remainder-requires c κs =
 returns : tie.Need-returns Inv-loop μ-loop
 returns c =
     let at = c .before .before in
-    c .wide-remainder .ensures .0 ∙ ap (λ (x : ℕ). x % at .before .before .args .f .p) (whole (at .before .before .pre) (omega (arith, at .before .padded .ensures .0)) (at .loop .inv) (c .before .loop-test .left))
+    c .wide-remainder .ensures .0 ∙ ap (λ (x : ℕ). x % at .before .before .args .f .p)
+    (whole (at .before .before .pre) (omega (arith, at .before .padded .ensures .0)) (at .loop .inv) (c .before .loop-test .left))
 
 pub wide-sum-spec : {M : Type 1} → statement M
 wide-sum-spec =

@@ -8,8 +8,7 @@ use lib.ListN.{take}
 use Rattle.field.specs.Coefficients.{reduced}
 use Rattle.field.specs.Residue.{quotient}
 use Rattle.field.proofs.Remainders.{mod-mul-mod}
-use Rattle.reduction.specs.Reductions.{block}
-use Rattle.reduction.specs.Reductions.{Reducible}
+use Rattle.reduction.specs.Reductions.{Reducible, block}
 use Rattle.discrepancy.proofs.Reduction.{quotient-unit, quotient-two}
 use Rattle.reduction.proofs.LessProducts.{less-reduced}
 use Rattle.reduction.proofs.reduce.reduce.Statement.{statement}

@@ -12,9 +12,6 @@ add-padded c = record { fits = omega (arith, c .before .before .before .before .
 padded-requires : tie.Need-padded-requires
 padded-requires c κs = omega (arith, c .before .before .before .before .before .before .pre .1 .1 .short)
 
-keep-requires : tie.Need-keep-requires
-keep-requires c κs = search needs
-
 returns : tie.Need-returns
 returns c =
     let at = c .before .before .before .before .before .before .before .before in
@@ -23,10 +20,10 @@ returns c =
     let padded = c .before .padded in (
       c .before .before .before .before .reduce .ensures,
       c .keep .ensures
-          ∙ front-replaced (at .args .h) (at .args .taps .now) (at .args .saved .now) (r .width) (r .saved-width) (r .sequence) (padded .result) (at .args .l) (at .args .m)
-          (omega (arith, padded .ensures .1, g .short)) (omega (arith, padded .ensures .0)) (g .longer) (g .zeros) (r .zeros),
+          ∙ front-replaced (at .args .h) (at .args .taps .now) (at .args .saved .now) (r .width) (r .saved-width) (r .sequence)
+          (padded .result) (at .args .l) (at .args .m) (omega (arith, padded .ensures .1, g .short)) (omega (arith, padded .ensures .0)) (g .longer) (g .zeros) (r .zeros),
     )
 
 pub reduce-keeping-spec : {M : Type 1} → statement M
 reduce-keeping-spec =
-    tie.close (tie.spec (λ c κs. search needs) (λ c. search needs) add-padded padded-requires keep-requires returns)
+    tie.close (tie.spec (λ c κs. search needs) (λ c. search needs) add-padded padded-requires (λ c κs. search needs) returns)

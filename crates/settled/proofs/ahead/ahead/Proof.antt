@@ -47,7 +47,12 @@ take-off-requires c κs =
     let few = at .before .padded .ensures .1 in
     let sums = at .loop .inv .1 in (
       record { modulus = pre .modulus; not-two = pre .not-two; lent = pre .lent; factor = tap-less c },
-      record { width = sums .width; residues = sums .residues; within = omega (arith, pre .within, few); inside = omega (arith, pre .sequence, pre .within, few) },
+      record {
+        width = sums .width;
+        residues = sums .residues;
+        within = omega (arith, pre .within, few);
+        inside = omega (arith, pre .sequence, pre .within, few);
+      },
     )
 
 add-i : tie.Need-add-i Inv-loop μ-loop
