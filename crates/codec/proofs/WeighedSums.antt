@@ -11,7 +11,7 @@ use Rattle.lists.proofs.BlockSums.{total-rest}
 use Rattle.lists.proofs.Tabulated.{tabulate-ext}
 use Rattle.factors.specs.Table.{Weights}
 use Rattle.transform.specs.Stages.{weighedSum, weighedSums}
-use Rattle.transform.proofs.StageSums.{total-same, same-times}
+use Rattle.butterflies.proofs.StageSums.{total-same, same-times}
 use Rattle.transform.proofs.StagedSums.{power-product}
 
 weighed-sum : (b : ℕ) (t x : List ℕ) → Weights b t → length x ≤ 256 → (k : ℕ) → weighedSum t x k ≡ checkSum b (length x) x (suc k)

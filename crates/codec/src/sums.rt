@@ -1,8 +1,8 @@
 // Check sums of a row and of a frame.
 use factors::table::weights;
 use field257::powers::powers;
-use field257::values::value_at;
 use frame::Shape;
+use polynomials::values::value_at;
 use transform::stages::staged_sums;
 ghost use mathlib.Core.Path.{_≡_};
 ghost use Prim.Native.Nat.{_≤_};

@@ -1,8 +1,8 @@
 // The generator polynomial of m checks from the exponent b on: the product of z - 3^e over e = b .. b + m - 1. It is held with its sign
 // changed, so that dividing by it adds and never subtracts.
-use field257::factor::multiply;
 use field257::powers::power_of_3;
 use field257::powers::wide;
+use polynomials::factor::multiply;
 ghost use Prim.Native.Nat.{_≤_};
 ghost use Rattle.division.specs.GeneratorPolynomial.{GeneratorPolynomial};
 

@@ -2,7 +2,7 @@
 // and a multiple of the generator polynomial has check sums 0. So what is left of the data after division by it has the
 // data's check sums, and stands in the check cells with its sign changed.
 use field257::powers::wide;
-use field257::values::times;
+use polynomials::values::times;
 ghost use mathlib.Core.Path.{_≡_};
 ghost use mathlib.Core.Bool.{cond};
 ghost use Prim.Native.Nat.{ℕ, suc, _+_, _-_, _*_, _%_, _≤_, _<_};

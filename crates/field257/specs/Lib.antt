@@ -1,4 +1,3 @@
-pub mod Evaluable
 pub mod Inverses
 pub mod LocatorPolynomial
 pub mod Montgomery

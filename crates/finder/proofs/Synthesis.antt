@@ -25,7 +25,8 @@ use Rattle.sequences.specs.Places.{sequenceAt, sequencesAt, Sortable, Stands}
 use Rattle.discrepancy.specs.Discrepancies.{sequenceIn}
 use Rattle.discrepancy.specs.Modulus.{Taken}
 use Rattle.register_step.specs.Progress.{Progress, stateOf}
-use Rattle.rounds.specs.Rounds.{Agree, Markable, Reached, Running, Startable, aloneMark, sequencesIn}
+use Rattle.ends.specs.Ends.{Markable, Startable, aloneMark}
+use Rattle.rounds.specs.Rounds.{Agree, Reached, Running, sequencesIn}
 use Rattle.finder.specs.Backwards.{Backwards, Reversible}
 use Rattle.finder.specs.declared.Found.{Found}
 use Rattle.finder.specs.declared.Found.the-variants.{Register}

@@ -2,11 +2,11 @@
 use crate::Found;
 use crate::backwards::all_backwards;
 use discrepancy::worked_out::worked_out;
+use ends::alone;
+use ends::start;
 use reduction::copy::copy;
 use refusal::Checked;
-use rounds::alone;
 use rounds::rounds;
-use rounds::start;
 use sequences::check::check;
 use sequences::check::longest;
 use sequences::sort::by_length;

@@ -1,6 +1,6 @@
 // One step of every lane.
 use field257::montgomery::product;
-use field257::values::times;
+use polynomials::values::times;
 ghost use Rattle.lanes.specs.Lanes.{Steppable, Stepped};
 
 // Lane i has the locator x[i] with its companion z[i], the last coefficient q[i] of its quotient, what Horner's rule has of the quotient, v[i], and what was

@@ -1,7 +1,7 @@
 // What is left of the check sums of one row.
 use columns::Columns;
 use columns::size;
-use field257::locator::locator_polynomial;
+use polynomials::locator::locator_polynomial;
 use weights::read::read_off;
 ghost use mathlib.Core.Path.{_≡_};
 ghost use Rattle.decoding.specs.Remaining.{remaining};

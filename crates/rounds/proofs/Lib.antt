@@ -1,5 +1,4 @@
 pub mod Agreement
-pub mod Marking
 pub mod Running
 pub mod Settling
 pub mod Starting

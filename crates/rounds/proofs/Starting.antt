@@ -12,7 +12,8 @@ use Rattle.lists.proofs.Joined.{replicate-each}
 use Rattle.register.specs.Algorithm4.{start, rounds}
 use Rattle.reduction.specs.Reductions.{block}
 use Rattle.register_step.specs.Progress.{Progress, progress, stateOf}
-use Rattle.rounds.specs.Rounds.{Running, Reached, Started, sequencesIn}
+use Rattle.ends.specs.Ends.{Started}
+use Rattle.rounds.specs.Rounds.{Running, Reached, sequencesIn}
 use Rattle.sequences.specs.declared.Order.{Order}
 use Rattle.register_step.proofs.Change.{saved-path}
 use Rattle.rounds.proofs.Running.{sequence-at, length-part}

@@ -1,4 +1,4 @@
-// The rounds of Algorithm 4: its start, each round, those that may change something, and the alone mark at the end.
+// The rounds of Algorithm 4: each round, and those that may change something.
 use discrepancy::Modulus;
 use discrepancy::due::due;
 use discrepancy::sums::residue;
@@ -6,25 +6,11 @@ use register_step::step::change;
 use sequences::Order;
 use settled::test::is_settled;
 ghost use mathlib.Core.Path.{_≡_};
-ghost use Prim.Native.Nat.{_+_, _≤_, _<_, min};
+ghost use Prim.Native.Nat.{_+_, _≤_, _<_};
 ghost use Rattle.register.specs.Algorithm4.{rounds as roundsOf};
 ghost use Rattle.discrepancy.specs.Modulus.{WorkedOut, Moduli};
 ghost use Rattle.register_step.specs.Progress.{progress};
-ghost use Rattle.rounds.specs.Rounds.{Running, Reached, Startable, Started, Markable, aloneMark, sequencesIn};
-
-// Before the first round the place of a sequence is its gap, N − N_h.
-pub fn start(longest: usize, order: Order, count: usize) -> [u16; 8]
-    requires { ⌜ Startable longest order count ⌝ }
-    ensures { λ r. ⌜ Started longest order count r ⌝ }
-{
-    let mut places = [0u16; 8];
-    let mut h = 0;
-    while h < count {
-        places[h] = longest as u16 - order.lengths[h];
-        h += 1;
-    }
-    places
-}
+ghost use Rattle.rounds.specs.Rounds.{Running, Reached, sequencesIn};
 
 // Round n + 1: a step for each sequence.
 fn round(
@@ -264,38 +250,4 @@ pub fn rounds(
         taps,
         saved,
     )
-}
-
-fn smaller(a: usize, b: usize) -> usize
-    ensures { λ r. ⌜ r ≡ min a b ⌝ }
-{
-    if a <= b {
-        return a;
-    }
-    b
-}
-
-// What n_h − l_h has past N − l and past N − N_h is free. N less the smaller of l and N_h is the larger of these two.
-pub fn alone(
-    longest: usize,
-    order: Order,
-    count: usize,
-    l: usize,
-    places: &[u16; 8],
-    sizes: &[u16; 8],
-) -> bool
-    requires { ⌜ Markable longest order count l (now places) (now sizes) ⌝ }
-    ensures { λ r. ⌜ r ≡ aloneMark longest order count l (now (places .entry)) (now (sizes .entry)) ⌝ }
-{
-    let mut h = 0;
-    while h < count {
-        let place = places[h] as usize;
-        let size = sizes[h] as usize;
-        let long = order.lengths[h] as usize;
-        if place + smaller(l, long) > size + longest {
-            return false;
-        }
-        h += 1;
-    }
-    true
 }

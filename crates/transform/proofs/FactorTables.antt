@@ -8,7 +8,8 @@ use lib.ListN.{getD, drop, length-drop}
 use lib.Seq.{length-take-le}
 use Rattle.lists.proofs.Entries.{getD-part}
 use Rattle.lists.proofs.Totals.{total-ext}
-use Rattle.transform.specs.Stages.{Factors, Staging, factorOf, weighedSum}
+use Rattle.butterflies.specs.Butterflies.{Factors}
+use Rattle.transform.specs.Stages.{Staging, factorOf, weighedSum}
 
 factor-small : (n k : ℕ) → factorOf n k ≤ 257
 unfolding factorOf

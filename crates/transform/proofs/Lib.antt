@@ -1,5 +1,3 @@
-pub mod ButterflyLaws
 pub mod FactorTables
 pub mod Reversals
-pub mod StageSums
 pub mod StagedSums

@@ -14,9 +14,10 @@ use Rattle.lists.specs.Tabulate.{tabulate}
 use Rattle.lists.specs.Total.{total}
 use Rattle.lists.proofs.Tabulated.{getD-tabulate}
 use Rattle.lists.proofs.Totals.{total-ext}
-use Rattle.transform.specs.Stages.{Butterflies, butterfly, reversal, factorOf, weighedSum}
+use Rattle.butterflies.specs.Butterflies.{Butterflies, butterfly}
+use Rattle.transform.specs.Stages.{reversal, factorOf, weighedSum}
 use Rattle.transform.proofs.Reversals.{reversal-twice, reversal-two, reversal-one}
-use Rattle.transform.proofs.StageSums.{total-same, same-times, lane, class-of, stage-sum}
+use Rattle.butterflies.proofs.StageSums.{total-same, same-times, lane, class-of, stage-sum}
 
 -- ---- the factors
 

@@ -13,20 +13,6 @@ use Rattle.field257.specs.Powers.{powerOf3}
 abbrev pub reversal : ℕ → ℕ
 reversal c = c / 16 + 4 * (c / 4 % 4) + 16 * (c % 4)
 
--- the columns l, 64 + l, 128 + l and 192 + l, each times its factor in t, as coefficients of a polynomial: its value at 3^(64 m), not reduced
-unfoldable pub butterfly : (t x : List ℕ) (l m : ℕ) → ℕ
-butterfly t x l m = total 4 (λ j. getD x (64 * j + l) 0 * (getD t (64 * j + l) 0 * powerOf3 (64 * j * m)))
-
--- a stage has a butterfly for each four columns
-pub record Butterflies (t x y : List ℕ) : Type 0 where
-  pub size : length y ≡ 256
-  pub entries : (l m : ℕ) → l < 64 → m < 4 → getD y (4 * l + m) 0 % 257 ≡ butterfly t x l m % 257
-
--- factors by which columns may be multiplied
-pub record Factors (t : List ℕ) : Type 0 where
-  pub size : length t ≡ 256
-  pub small : (k : ℕ) → k < 256 → getD t k 0 ≤ 257
-
 -- the factor of entry k before a stage that reads n classes: the difference that the digits so far make
 unfoldable pub factorOf : (n k : ℕ) → ℕ
 factorOf n k = powerOf3 (k / 64 * reversal (k % n))

@@ -6,7 +6,7 @@ use field::residue::product;
 use field257::inverses::inverse;
 use field257::powers::entry;
 use field257::powers::wide;
-use field257::values::value_at;
+use polynomials::values::value_at;
 ghost use mathlib.Core.Path.{_≡_};
 ghost use Prim.Native.Nat.{ℕ, suc, _≤_, _<_};
 ghost use lib.ListN.{length, getD};

@@ -1,5 +1,5 @@
 // A symbol read off check sums.
-use field257::values::times;
+use polynomials::values::times;
 ghost use mathlib.Core.Path.{_≡_};
 ghost use Rattle.weights.specs.Weighable.{Readable};
 ghost use Rattle.weights.specs.Weights.{symbolRead};

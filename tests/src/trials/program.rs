@@ -1,7 +1,7 @@
 //! The program on streams of records: good ones, bad ones, random bytes, streams cut short, and many
 //! records. It answers a line for each, whether the bytes come from a pipe, all at once or a few at a
 //! time, or from a file, whose reads fill all the room that they are lent. It does not keep a line back
-//! while it waits for the next record, and goes on after a million of them that come one by one.
+//! while it waits for the next record, and goes on after 100,000 of them that come one by one.
 
 use std::fs::{self, File};
 use std::io::{BufRead, BufReader, Read, Write};
@@ -217,5 +217,5 @@ pub fn run(judge: &mut Judge) {
     slowly(judge, &mut random, &stream[..stream.len().min(20_000)]);
     let records: Vec<Vec<u8>> = (0..20).map(|_| some_frame(&mut random)).collect();
     in_turn(judge, &records);
-    many_turns(judge, 1_000_001);
+    many_turns(judge, 100_001);
 }

@@ -1,0 +1,2 @@
+pub mod ButterflyLaws
+pub mod StageSums
