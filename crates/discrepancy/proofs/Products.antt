@@ -22,19 +22,20 @@ use Rattle.lists.proofs.Halves.{Halved, total-first}
 
 -- ---- zeros follow the register
 
-module _ (l : ℕ) (taps symbols : List ℕ) (from : ℕ) (zeros : (i : ℕ) → l < i → getD taps i 0 ≡ 0) where
-  none-past : (k : ℕ) → suc l ≤ k → getD taps k 0 * getD symbols (from + k) 0 ≡ 0
-  none-past k past = ap (λ (x : ℕ). x * getD symbols (from + k) 0) (zeros k (omega arith)) ∙ zero-mul (getD symbols (from + k) 0)
+module _ (l : ℕ) (taps symbols : List ℕ) (from : ℕ) (zeros : (i : ℕ) → l < i → i < l + 8 → getD taps i 0 ≡ 0) where
+  none-past : (k : ℕ) → suc l ≤ k → k < l + 8 → getD taps k 0 * getD symbols (from + k) 0 ≡ 0
+  none-past k past near = ap (λ (x : ℕ). x * getD symbols (from + k) 0) (zeros k (omega arith) near) ∙ zero-mul (getD symbols (from + k) 0)
 
   -- a few products more
-  and-more : (end : ℕ) → suc l ≤ end → total end (λ k. getD taps k 0 * getD symbols (from + k) 0) ≡ sumAt l taps symbols from
-  and-more end enough = total-first (suc l) end _ enough none-past
+  and-more : (end : ℕ) → suc l ≤ end → end ≤ l + 8 → total end (λ k. getD taps k 0 * getD symbols (from + k) 0) ≡ sumAt l taps symbols from
+  and-more end enough few = total-first (suc l) end _ enough (λ k past inside. none-past k past (omega arith))
 
 -- ---- products that are small, once all are summed
 
-pub narrow-all : {l end : ℕ} {taps symbols : List ℕ} {from k s : ℕ} → Narrow l taps symbols from → suc l ≤ end →
+pub narrow-all : {l end : ℕ} {taps symbols : List ℕ} {from k s : ℕ} → Narrow l taps symbols from → suc l ≤ end → end ≤ l + 8 →
     Summed end 66049 (λ i. getD taps i 0 * getD symbols (from + i) 0) k s → end ≤ k → s ≡ sumAt l taps symbols from
-narrow-all {l} {end} {taps} {symbols} {from} narrow enough a done = summed-all _ _ _ _ _ a done ∙ and-more l taps symbols from (narrow .zeros) end enough
+narrow-all {l} {end} {taps} {symbols} {from} narrow enough few a done =
+    summed-all _ _ _ _ _ a done ∙ and-more l taps symbols from (narrow .zeros) end enough few
 
 -- ---- products of residues
 
@@ -45,17 +46,17 @@ module _ {f : Modulus} {l : ℕ} {taps symbols : List ℕ} {from : ℕ} (s : Sum
   abbrev p : ℕ
   p = f .p
 
-  term-below : (k : ℕ) → term k ≤ p * p
-  term-below k = pick (decLe k l)
+  term-below : (k : ℕ) → k < l + 8 → term k ≤ p * p
+  term-below k near = pick (decLe k l)
     where
       pick : Dec (k ≤ l) → term k ≤ p * p
       pick (yes within) =
           mul-le-mul (let e : getD taps k 0 ≤ p = omega (arith, s .ending .residues k within) in e)
           (let e : getD symbols (from + k) 0 ≤ p = omega (arith, s .below k within) in e)
-      pick (no past) = omega (arith, none-past l taps symbols from (s .ending .zeros) k (omega arith))
+      pick (no past) = omega (arith, none-past l taps symbols from (s .ending .zeros) k (omega arith) near)
 
   all-below : sumAt l taps symbols from ≤ 129 * (p * p)
-  all-below = sum-below p (let e : suc l ≤ 129 = omega (arith, s .short) in e) (total-bound (suc l) (p * p) term (λ k _. term-below k))
+  all-below = sum-below p (let e : suc l ≤ 129 = omega (arith, s .short) in e) (total-bound (suc l) (p * p) term (λ k within. term-below k (omega arith)))
 
   -- modulo a small p: the products are small, and their sum stands for its residue
   module _ (small : p ≤ 257) where
@@ -65,21 +66,21 @@ module _ {f : Modulus} {l : ℕ} {taps symbols : List ℕ} {from : ℕ} (s : Sum
           short = s .short;
           inside = s .inside;
           zeros = s .ending .zeros;
-          products = λ k. omega (arith, term-below k, mul-le-mul small small);
+          products = λ k near. omega (arith, term-below k near, mul-le-mul small small);
         }
 
     pub narrow-loose : {r : ℕ} → r ≡ sumAt l taps symbols from → Loose p r
     narrow-loose e = record { small = λ _. rw e all-below; large = λ more. absurd (let no : ⊥ = omega arith in no) }
 
-  pub top-small : (k : ℕ) → term k / 65536 < 65536
-  top-small k = let m = s .modulus .taken .modulus in omega (arith, term-below k, mul-le-mul m m)
+  pub top-small : (k : ℕ) → k < l + 8 → term k / 65536 < 65536
+  top-small k near = let m = s .modulus .taken .modulus in omega (arith, term-below k near, mul-le-mul m m)
 
   -- all of the sum, once the loop has ended
-  module _ {end k low high : ℕ} (enough : suc l ≤ end) (h : Halved end term k low high) (done : end ≤ k) where
+  module _ {end k low high : ℕ} (enough : suc l ≤ end) (few : end ≤ l + 8) (h : Halved end term k low high) (done : end ≤ k) where
     pub whole : low + 65536 * high ≡ sumAt l taps symbols from
     whole =
         h .so-far ∙ ap (λ (n : ℕ). total n term) (let e : k ≡ end = omega (arith, h .within) in e)
-        ∙ and-more l taps symbols from (s .ending .zeros) end enough
+        ∙ and-more l taps symbols from (s .ending .zeros) end enough few
 
     pub whole-below : low + 65536 * high ≤ 129 * (p * p)
     whole-below = rw whole all-below
@@ -95,7 +96,7 @@ module _ {p N l h size n : ℕ} {symbols : List ℕ} (r : InReach p N l h size n
   abbrev s : List ℕ
   s = sequenceIn symbols h size
 
-  length-sequence : length s ≡ size
+  pub length-sequence : length s ≡ size
   unfolding sequenceIn
   length-sequence = length-tabulate size (λ i. getD symbols (h * 144 + (size - suc i)) 0)
 
@@ -123,14 +124,10 @@ module _ {p N l h size n : ℕ} {symbols : List ℕ} (r : InReach p N l h size n
 
     pub summable : {f : Modulus} {taps : List ℕ} → f .p ≡ p → WorkedOut f → Ending (f .p) l taps → Summable f l taps symbols (h * 144 + (N - n))
     summable same worked ending =
-        let shorter = r .shorter in
-        let round = r .round in
         record {
           modulus = worked;
           ending = ending;
           short = omega (arith, r .grown, r .longest);
           inside = omega (arith, r .grown, r .longest, r .sequence);
-          below = λ i le.
-              let place : h * 144 + (N - n + i) ≡ h * 144 + (N - n) + i = omega arith in
-              rw (same, ← place) (r .below (N - n + i) (omega arith));
+          below = λ i le. rw same (r .below asked i le);
         }

@@ -6,10 +6,9 @@ use Prim.Native.Nat.{ℕ, _+_, _-_, _≤_, _<_, max, min}
 use native.Mathlib.Omega.{arith}
 use borrow.Author.Tests.{le-leb, lt-leb}
 use lib.ListN.{getD}
-use Rattle.sequences.specs.declared.Order.{Order}
 use Rattle.ends.specs.Ends.{markTest}
 
-module _ (N : ℕ) (o : Order) (l : ℕ) (places sizes : List ℕ) where
+module _ (N : ℕ) (lengths : List ℕ) (l : ℕ) (places sizes : List ℕ) where
   abbrev place : ℕ → ℕ
   place h = getD places h 0
 
@@ -17,11 +16,11 @@ module _ (N : ℕ) (o : Order) (l : ℕ) (places sizes : List ℕ) where
   size h = getD sizes h 0
 
   abbrev long : ℕ → ℕ
-  long h = getD (o .lengths) h 0
+  long h = getD lengths h 0
 
   module _ (h m : ℕ) (le : l ≤ N) (fits : long h ≤ N) (least : m ≡ min l (long h)) where
-    pub mark-passes : place h + m ≤ size h + N → markTest N o l places sizes h ≡ true
+    pub mark-passes : place h + m ≤ size h + N → markTest N lengths l places sizes h ≡ true
     mark-passes small = le-leb (place h) (size h + max (N - l) (N - long h)) (omega arith)
 
-    pub mark-fails : size h + N < place h + m → markTest N o l places sizes h ≡ false
+    pub mark-fails : size h + N < place h + m → markTest N lengths l places sizes h ≡ false
     mark-fails large = lt-leb (place h) (size h + max (N - l) (N - long h)) (omega arith)

@@ -6,32 +6,31 @@ use Prim.Native.Nat.{ℕ, _+_, _-_, _≤_, _<_, max}
 use lib.Dec.{leb}
 use lib.ListN.{length, getD}
 use Rattle.lists.specs.Tabulate.{every}
-use Rattle.sequences.specs.declared.Order.{Order}
 
 -- the places of k sequences can be set: none is longer than N
-pub record Startable (N : ℕ) (o : Order) (k : ℕ) : Type 0 where
+pub record Startable (N : ℕ) (lengths : List ℕ) (k : ℕ) : Type 0 where
   pub longest : N ≤ 128
   pub count : k ≤ 8
-  pub shorter : (h : ℕ) → h < k → getD (o .lengths) h 0 ≤ N
+  pub shorter : (h : ℕ) → h < k → getD lengths h 0 ≤ N
 
 -- the places before the first round, once those of k sequences are set
-pub record Started (N : ℕ) (o : Order) (k : ℕ) (places : List ℕ) : Type 0 where
+pub record Started (N : ℕ) (lengths : List ℕ) (k : ℕ) (places : List ℕ) : Type 0 where
   pub width : length places ≡ 8
-  pub place : (h : ℕ) → h < k → getD places h 0 ≡ N - getD (o .lengths) h 0
+  pub place : (h : ℕ) → h < k → getD places h 0 ≡ N - getD lengths h 0
 
 -- the alone mark can be read off: neither the register, of length l, nor a sequence is longer than N, and no number fails to fit
-pub record Markable (N : ℕ) (o : Order) (k l : ℕ) (places sizes : List ℕ) : Type 0 where
+pub record Markable (N : ℕ) (lengths : List ℕ) (k l : ℕ) (places sizes : List ℕ) : Type 0 where
   pub longest : N ≤ 128
   pub count : k ≤ 8
   pub size : l ≤ N
-  pub shorter : (h : ℕ) → h < k → getD (o .lengths) h 0 ≤ N
+  pub shorter : (h : ℕ) → h < k → getD lengths h 0 ≤ N
   pub places-small : (h : ℕ) → h < k → getD places h 0 ≤ 128
   pub sizes-small : (h : ℕ) → h < k → getD sizes h 0 ≤ 128
 
 -- whether nothing of sequence h is free after all N rounds
-abbrev pub markTest : (N : ℕ) → Order → (l : ℕ) (places sizes : List ℕ) (h : ℕ) → Bool
-markTest N o l places sizes h = leb (getD places h 0) (getD sizes h 0 + max (N - l) (N - getD (o .lengths) h 0))
+abbrev pub markTest : (N : ℕ) (lengths : List ℕ) (l : ℕ) (places sizes : List ℕ) (h : ℕ) → Bool
+markTest N lengths l places sizes h = leb (getD places h 0) (getD sizes h 0 + max (N - l) (N - getD lengths h 0))
 
 -- the alone mark, read off the arrays
-unfoldable pub aloneMark : (N : ℕ) → Order → (k l : ℕ) (places sizes : List ℕ) → Bool
-aloneMark N o k l places sizes = every k (markTest N o l places sizes)
+unfoldable pub aloneMark : (N : ℕ) (lengths : List ℕ) (k l : ℕ) (places sizes : List ℕ) → Bool
+aloneMark N lengths k l places sizes = every k (markTest N lengths l places sizes)

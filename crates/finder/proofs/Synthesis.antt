@@ -24,7 +24,7 @@ use Rattle.finder.specs.Finder.{register, refused, answer, tapsLeft, Fin
 use Rattle.sequences.specs.Places.{sequenceAt, sequencesAt, Sortable, Stands}
 use Rattle.discrepancy.specs.Discrepancies.{sequenceIn}
 use Rattle.discrepancy.specs.Modulus.{Taken}
-use Rattle.register_step.specs.Progress.{Progress, stateOf}
+use Rattle.register_step.specs.Parts.{Parts, stateOf}
 use Rattle.ends.specs.Ends.{Markable, Startable, aloneMark}
 use Rattle.rounds.specs.Rounds.{Agree, Reached, Running, sequencesIn}
 use Rattle.finder.specs.Backwards.{Backwards, Reversible}
@@ -37,18 +37,18 @@ use Rattle.register.proofs.Largest.{largest-bound}
 use Rattle.rounds.proofs.Running.{found-within, length-part, length-sequences, sequence-at}
 
 -- the mark read off the arrays is that of the state that they hold
-mark-is : (N : ℕ) (o : Order) (k : ℕ) (blocks : List ℕ) (g : Progress) (taps saved : List ℕ) (st : State) →
-    Agree k (stateOf g taps saved) st → aloneMark N o k (g .length) (g .places) (g .sizes) ≡ isAlone N (sequencesIn o k blocks) N st
+mark-is : (N : ℕ) (lengths : List ℕ) (k : ℕ) (blocks : List ℕ) (x : Parts) (st : State) →
+    Agree k (stateOf x) st → aloneMark N lengths k (x .length) (x .places) (x .sizes) ≡ isAlone N (sequencesIn lengths k blocks) N st
 unfolding aloneMark isAlone stateOf
-mark-is N o k blocks g taps saved st agree =
-    rw (length-sequences o k blocks)
+mark-is N lengths k blocks x st agree =
+    rw (length-sequences lengths k blocks)
     (every-ext k _ _ (λ h b.
     ap₂ (λ (v : Saved) (m : ℕ). leb (v .place) (v .size + m)) (agree .saved h b)
-    (ap₂ (λ (l n : ℕ). max (N - l) (N - n)) (agree .size) (sym (ap length (sequence-at o k blocks h b) ∙ length-part o k blocks h)))))
+    (ap₂ (λ (l n : ℕ). max (N - l) (N - n)) (agree .size) (sym (ap length (sequence-at lengths k blocks h b) ∙ length-part lengths k blocks h)))))
 
 -- what stands backwards in the blocks are the sequences
 sequences-are : (o : Order) (k : ℕ) (symbols blocks : List ℕ) → ((h : ℕ) → h < k → getD (o .starts) h 0 + getD (o .lengths) h 0 ≤ length symbols) →
-    Backwards o k symbols blocks → sequencesIn o k blocks ≡ sequencesAt o k symbols
+    Backwards o k symbols blocks → sequencesIn (o .lengths) k blocks ≡ sequencesAt o k symbols
 unfolding sequenceIn
 sequences-are o k symbols blocks within back = tabulate-ext k _ _ (λ h b. each h b)
   where
@@ -92,7 +92,7 @@ module _ {p : ℕ} {lengths symbols : List ℕ} {room : ℕ} (fine : Accepted p 
         let many = sym (ap length (stands .sequences)) ∙ length-tabulate k (sequenceAt o symbols) in
         omega (arith, longest-bounds (ordered ss) h (omega arith), longest-ordered ss, is-longest)
 
-    pub startable : Startable N o k
+    pub startable : Startable N (o .lengths) k
     startable = record { longest = omega (arith, largest-bound 128 lengths (fine .short)); count = fine .count; shorter = shorter }
 
     pub reversible : Reversible o k symbols
@@ -100,7 +100,7 @@ module _ {p : ℕ} {lengths symbols : List ℕ} {room : ℕ} (fine : Accepted p 
         record { count = fine .count; short = λ h b. omega (arith, shorter h b, startable .longest); within = stands .within }
 
     module _ {blocks : List ℕ} (back : Backwards o k symbols blocks) where
-      pub running : Running p N o k blocks
+      pub running : Running p N (o .lengths) k blocks
       running =
           record {
             two-or-more = fine .prime .two-or-more;
@@ -110,39 +110,39 @@ module _ {p : ℕ} {lengths symbols : List ℕ} {room : ℕ} (fine : Accepted p 
             residues = λ h b i less. rw (back .entries h b i less) (fine .below _ (omega (arith, stands .within h b)));
           }
 
-      module _ {g : Progress} {taps saved : List ℕ} (reached : Reached p k (rounds p N (sequencesIn o k blocks) N) g taps saved) where
-        sequences : sequencesIn o k blocks ≡ ordered ss
+      module _ {x : Parts} (reached : Reached p k (rounds p N (sequencesIn (o .lengths) k blocks) N) x) where
+        sequences : sequencesIn (o .lengths) k blocks ≡ ordered ss
         sequences = sequences-are o k symbols blocks (stands .within) back ∙ stands .sequences
 
-        is-found : rounds p N (sequencesIn o k blocks) N ≡ found p ss (longest ss)
+        is-found : rounds p N (sequencesIn (o .lengths) k blocks) N ≡ found p ss (longest ss)
         unfolding found
         is-found = ap₂ (λ (m : ℕ) (l : List (List ℕ)). rounds p m l m) (sym is-longest) sequences
 
-        bounded : Bounded p N (sequencesIn o k blocks) N (rounds p N (sequencesIn o k blocks) N)
-        bounded = bounded-rounds p N (sequencesIn o k blocks) (running .two-or-more) N
+        bounded : Bounded p N (sequencesIn (o .lengths) k blocks) N (rounds p N (sequencesIn (o .lengths) k blocks) N)
+        bounded = bounded-rounds p N (sequencesIn (o .lengths) k blocks) (running .two-or-more) N
 
-        pub size-within : g .length ≤ N
+        pub size-within : x .length ≤ N
         size-within = found-within running N reached
 
-        pub taps-room : g .length + 1 ≤ length taps
-        taps-room = let width = reached .ended .width in omega (arith, size-within, running .longest)
+        pub taps-room : x .length + 1 ≤ length (x .taps)
+        taps-room = let width = reached .ended .whole .taps in omega (arith, size-within, running .longest)
 
-        pub buffer-room : g .length + 1 ≤ room
+        pub buffer-room : x .length + 1 ≤ room
         buffer-room = omega (arith, size-within, fine .enough)
 
         -- what is saved for a sequence lies within the rounds
-        saved-within : (h : ℕ) → h < k → (getD (g .places) h 0 ≤ 128) × (getD (g .sizes) h 0 ≤ 128)
+        saved-within : (h : ℕ) → h < k → (getD (x .places) h 0 ≤ 128) × (getD (x .sizes) h 0 ≤ 128)
         unfolding stateOf
         saved-within h b =
-            let st = rounds p N (sequencesIn o k blocks) N in
+            let st = rounds p N (sequencesIn (o .lengths) k blocks) N in
             let v = reached .state .saved h b in
-            let place : getD (g .places) h 0 ≡ st .saved h .place = ap (λ (w : Saved). w .place) v in
-            let size : getD (g .sizes) h 0 ≡ st .saved h .size = ap (λ (w : Saved). w .size) v in
+            let place : getD (x .places) h 0 ≡ st .saved h .place = ap (λ (w : Saved). w .place) v in
+            let size : getD (x .sizes) h 0 ≡ st .saved h .size = ap (λ (w : Saved). w .size) v in
             let most = bounded .place h in
             let least = bounded .saved-size h in
             (omega (arith, running .longest), omega (arith, running .longest))
 
-        pub markable : Markable N o k (g .length) (g .places) (g .sizes)
+        pub markable : Markable N (o .lengths) k (x .length) (x .places) (x .sizes)
         markable =
             record {
               longest = running .longest;
@@ -153,30 +153,30 @@ module _ {p : ℕ} {lengths symbols : List ℕ} {room : ℕ} (fine : Accepted p 
               sizes-small = λ h b. saved-within h b .1;
             }
 
-        found-size : g .length ≡ found p ss (longest ss) .size
+        found-size : x .length ≡ found p ss (longest ss) .size
         unfolding stateOf
         found-size = reached .state .size ∙ ap (λ (st : State). st .size) is-found
 
-        found-taps : take (suc (g .length)) taps ≡ found p ss (longest ss) .taps
+        found-taps : take (suc (x .length)) (x .taps) ≡ found p ss (longest ss) .taps
         unfolding stateOf
         found-taps = reached .state .taps ∙ ap (λ (st : State). st .taps) is-found
 
-        found-mark : aloneMark N o k (g .length) (g .places) (g .sizes) ≡ foundAlone p ss (longest ss)
+        found-mark : aloneMark N (o .lengths) k (x .length) (x .places) (x .sizes) ≡ foundAlone p ss (longest ss)
         unfolding foundAlone
         found-mark =
-            mark-is N o k blocks g taps saved (rounds p N (sequencesIn o k blocks) N) (reached .state)
-            ∙ ap₂ (λ (m : ℕ) (l : List (List ℕ)). isAlone m l m (rounds p N (sequencesIn o k blocks) N)) (sym is-longest) sequences
+            mark-is N (o .lengths) k blocks x (rounds p N (sequencesIn (o .lengths) k blocks) N) (reached .state)
+            ∙ ap₂ (λ (m : ℕ) (l : List (List ℕ)). isAlone m l m (rounds p N (sequencesIn (o .lengths) k blocks) N)) (sym is-longest) sequences
             ∙ ap (isAlone (longest ss) (ordered ss) (longest ss)) is-found
 
         -- w taps are copied to the buffer
         pub finds : {buffer : List ℕ} → outcome (tests p lengths symbols (length buffer)) ≡ passed → {mark : Bool} (w : ℕ) {copied : List ℕ} →
-            mark ≡ aloneMark N o k (g .length) (g .places) (g .sizes) → w ≡ suc (g .length) → copied ≡ take w taps →
-            Finds p lengths symbols buffer (copied ++ drop w buffer) (Register (g .length) mark)
+            mark ≡ aloneMark N (o .lengths) k (x .length) (x .places) (x .sizes) → w ≡ suc (x .length) → copied ≡ take w (x .taps) →
+            Finds p lengths symbols buffer (copied ++ drop w buffer) (Register (x .length) mark)
         unfolding answer tapsLeft
         finds {buffer} ok w {copied} marked width all =
             let ts = tests p lengths symbols (length buffer) in
-            let whole : copied ≡ found p ss (longest ss) .taps = all ∙ ap (λ (n : ℕ). take n taps) width ∙ found-taps in
-            let long : length copied ≡ w = ap length all ∙ length-take-le w taps (omega (arith, taps-room)) in
+            let whole : copied ≡ found p ss (longest ss) .taps = all ∙ ap (λ (n : ℕ). take n (x .taps)) width ∙ found-taps in
+            let long : length copied ≡ w = ap length all ∙ length-take-le w (x .taps) (omega (arith, taps-room)) in
             record {
               answers = ap₂ register found-size (marked ∙ found-mark) ∙ sym (given-passed refused _ ts ok);
               leaves =

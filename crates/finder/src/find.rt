@@ -28,7 +28,8 @@ fn shortest(p: u32, lengths: &[u16], symbols: &[u16], taps: &mut [u16]) -> Found
     let most = longest(lengths);
     let order = by_length(lengths, symbols);
     let backwards = all_backwards(order, count, symbols);
-    let mut places = start(most, order, count);
+    let sorted = order.lengths;
+    let mut places = start(most, &sorted, count);
     let mut sizes = [0u16; 8];
     let mut discs = [1u16; 8];
     let mut quotients = [f.unit as u16; 8];
@@ -40,7 +41,7 @@ fn shortest(p: u32, lengths: &[u16], symbols: &[u16], taps: &mut [u16]) -> Found
         &moduli,
         most,
         &backwards,
-        order,
+        &sorted,
         count,
         &mut places,
         &mut sizes,
@@ -53,7 +54,7 @@ fn shortest(p: u32, lengths: &[u16], symbols: &[u16], taps: &mut [u16]) -> Found
     copy(&mut taps[0..e], &sigma[0..e]);
     Found::Register {
         length: l,
-        alone: alone(most, order, count, l, &places, &sizes),
+        alone: alone(most, &sorted, count, l, &places, &sizes),
     }
 }
 

@@ -34,10 +34,12 @@ pub half-fits : {n k s x : ℕ} → n ≤ 136 → k < n → s ≤ k * 65535 → 
 half-fits few less le small = omega arith
 
 -- the terms past the first m are 0
-pub total-first : (m n : ℕ) (f : ℕ → ℕ) → m ≤ n → ((k : ℕ) → m ≤ k → f k ≡ 0) → total n f ≡ total m f
+pub total-first : (m n : ℕ) (f : ℕ → ℕ) → m ≤ n → ((k : ℕ) → m ≤ k → k < n → f k ≡ 0) → total n f ≡ total m f
 total-first m n f le none =
     ap (λ (x : ℕ). total x f) (let e : n ≡ m + (n - m) = omega arith in e) ∙ total-split m (n - m) f
-    ∙ ap (λ (x : ℕ). total m f + x) (rest (n - m)) ∙ (let e : total m f + 0 ≡ total m f = omega arith in e)
+    ∙ ap (λ (x : ℕ). total m f + x) rest ∙ (let e : total m f + 0 ≡ total m f = omega arith in e)
   where
-    rest : (d : ℕ) → total d (λ k. f (m + k)) ≡ 0
-    rest d = let b = total-bound d 0 (λ k. f (m + k)) (λ k _. let e = none (m + k) (omega arith) in omega arith) in omega arith
+    rest : total (n - m) (λ k. f (m + k)) ≡ 0
+    rest =
+        let b = total-bound (n - m) 0 (λ k. f (m + k)) (λ k inside. let e = none (m + k) (omega arith) (omega arith) in omega arith) in
+        omega arith

@@ -13,11 +13,11 @@ use Rattle.lists.proofs.Parts.{length-replaced, part-replaced, replaced-before,
 use Rattle.reduction.specs.Reductions.{ZerosAfter, block}
 
 -- entry i of the m + 1 taps that are saved for h, or 0 past them
-pub saved-at : (saved : List ℕ) (h m i : ℕ) → ZerosAfter saved h m → i < 144 → getD saved (h * 144 + i) 0 ≡ getD (take (suc m) (block h saved)) i 0
-saved-at saved h m i zeros inside = pick (decLt m i)
+pub saved-at : (saved : List ℕ) (h m i : ℕ) → ZerosAfter saved h m → i < m + 8 → i < 144 → getD saved (h * 144 + i) 0 ≡ getD (take (suc m) (block h saved)) i 0
+saved-at saved h m i zeros near inside = pick (decLt m i)
   where
     pick : Dec (m < i) → getD saved (h * 144 + i) 0 ≡ getD (take (suc m) (block h saved)) i 0
-    pick (yes past) = zeros i past inside ∙ sym (getD-take-past (suc m) (block h saved) i 0 past)
+    pick (yes past) = zeros i past near ∙ sym (getD-take-past (suc m) (block h saved) i 0 past)
     pick (no within) = sym (getD-take (suc m) (block h saved) i 0 (omega arith) ∙ getD-part (h * 144) 144 saved i 0 inside)
 
 -- ---- a block replaced
@@ -54,42 +54,3 @@ module _ (h : ℕ) (y saved : List ℕ) (len : length y ≡ 144) (whole : length
     where
       length-block : (l : List ℕ) → length (block g l) ≡ min 144 (length l - g * 144)
       length-block l = length-take 144 (drop (g * 144) l) ∙ ap (λ (n : ℕ). min 144 n) (length-drop (g * 144) l)
-
-  -- the first entries are enough where nothing but zeros follows them, in y and in the block before
-  pub front-replaced : (end l m : ℕ) → end ≤ 144 → l < end → m ≤ l → ((i : ℕ) → l < i → getD y i 0 ≡ 0) → ZerosAfter saved h m
-      → replaced (h * 144) end saved (take end y) ≡ replaced (h * 144) 144 saved y
-  front-replaced end l m within past longer zeros ended =
-      ext-getD 0 (replaced (h * 144) end saved (take end y)) (replaced (h * 144) 144 saved y)
-      (length-replaced (h * 144) end saved (take end y) room front ∙ sym (length-replaced (h * 144) 144 saved y fits len))
-      (λ k _. before k (decLt k (h * 144)))
-    where
-      room : h * 144 + end ≤ length saved
-      room = omega (arith, fits)
-
-      front : length (take end y) ≡ end
-      front = length-take-le end y (omega (arith, len))
-
-      Same : ℕ → Type 0
-      Same k = getD (replaced (h * 144) end saved (take end y)) k 0 ≡ getD (replaced (h * 144) 144 saved y) k 0
-
-      inside : (i : ℕ) → i < 144 → Dec (i < end) → Same (h * 144 + i)
-      inside i small (yes first) =
-          replaced-in (h * 144) end saved (take end y) room front 0 i first ∙ getD-take end y i 0 first
-          ∙ sym (replaced-in (h * 144) 144 saved y fits len 0 i small)
-      inside i small (no rest) =
-          replaced-after (h * 144) end saved (take end y) room front 0 (h * 144 + i) (omega arith) ∙ ended i (omega arith) small
-          ∙ sym (replaced-in (h * 144) 144 saved y fits len 0 i small ∙ zeros i (omega arith))
-
-      after : (k : ℕ) → h * 144 ≤ k → Dec (k < h * 144 + 144) → Same k
-      after k from (yes near) =
-          let i : ℕ = k - h * 144 in
-          let at : h * 144 + i ≡ k = omega arith in
-          subst Same at (inside i (omega arith) (decLt i end))
-      after k from (no far) =
-          replaced-after (h * 144) end saved (take end y) room front 0 k (omega arith)
-          ∙ sym (replaced-after (h * 144) 144 saved y fits len 0 k (omega arith))
-
-      before : (k : ℕ) → Dec (k < h * 144) → Same k
-      before k (yes less) =
-          replaced-before (h * 144) end saved (take end y) room front 0 k less ∙ sym (replaced-before (h * 144) 144 saved y fits len 0 k less)
-      before k (no from) = after k (omega arith) (decLt k (h * 144 + 144))

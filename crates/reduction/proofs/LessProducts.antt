@@ -48,7 +48,7 @@ module _ {p e from count : ℕ} {before : List ℕ} (c : Cells p e from count be
 
 -- the numbers being the m + 1 taps saved for h with the zeros after them, and u being q·2^16: q·x^e·τ is taken off
 module _ (p v : ℕ) (inverse : (p * v) % 65536 ≡ 1) {u e m h count : ℕ} {saved before after : List ℕ} (r : Reducible p before e m saved h)
-    (less : Less p u saved (h * 144) e count before after) (all : m < count) (within : count ≤ 144) (q : ℕ) (unit : u ≡ (q * 65536) % p) where
+    (less : Less p u saved (h * 144) e count before after) (all : m < count) (few : count ≤ m + 8) (within : count ≤ 144) (q : ℕ) (unit : u ≡ (q * 65536) % p) where
   abbrev τ : List ℕ
   τ = take (suc m) (block h saved)
 
@@ -56,7 +56,7 @@ module _ (p v : ℕ) (inverse : (p * v) % 65536 ≡ 1) {u e m h count : ℕ} {sa
   entry i inside =
       product-taken p v inverse q (getD saved (h * 144 + i) 0) unit (less .each i inside) (r .residues (e + i)) (less .residues (e + i))
       ∙ ap (λ (y : ℕ). minus p (getD before (e + i) 0) (times p q y))
-      (saved-at saved h m i (r .zeros) (omega arith)
+      (saved-at saved h m i (r .zeros) (omega arith) (omega arith)
       ∙ sym (shifted-above e τ (e + i) (omega arith) ∙ ap (λ (j : ℕ). getD τ j 0) (add-sub-cancel-left e i)))
 
   kept : (k : ℕ) → shifted e τ k ≡ 0 → getD after k 0 ≡ getD before k 0 → getD after k 0 ≡ minus p (getD before k 0) (times p q (shifted e τ k))

@@ -11,9 +11,9 @@ use Rattle.discrepancy.specs.declared.Modulus.{Modulus}
 abbrev pub block : ℕ → List ℕ → List ℕ
 block h saved = take 144 (drop (h * 144) saved)
 
--- zeros follow entry m of block h
+-- zeros follow entry m of block h, as far as a loop over a multiple of 8 entries can go
 abbrev pub ZerosAfter : (saved : List ℕ) (h m : ℕ) → Type 0
-ZerosAfter saved h m = (i : ℕ) → m < i → i < 144 → getD saved (h * 144 + i) 0 ≡ 0
+ZerosAfter saved h m = (i : ℕ) → m < i → i < m + 8 → getD saved (h * 144 + i) 0 ≡ 0
 
 -- the taps, residues modulo p, can be reduced by the m + 1 taps saved for h, moved by e
 pub record Reducible (p : ℕ) (taps : List ℕ) (e m : ℕ) (saved : List ℕ) (h : ℕ) : Type 0 where
@@ -31,15 +31,8 @@ pub record Divided (f : Modulus) (moduli : List ℕ) (sum over : ℕ) : Type 0 w
   pub loose : Loose (f .p) sum
   pub residue : over < f .p
 
--- so many of the taps fit into block h
-pub record Keepable (saved : List ℕ) (h : ℕ) (taps : List ℕ) (end : ℕ) : Type 0 where
+-- the taps fit into block h
+pub record Keepable (saved : List ℕ) (h : ℕ) (taps : List ℕ) : Type 0 where
   pub saved-width : length saved ≡ 1152
   pub sequence : h < 8
-  pub within : end ≤ 144
-  pub enough : end ≤ length taps
-
--- the register, of length l and with zeros after it, is to be saved in the place of one that is no longer, of length m
-pub record Growable (l : ℕ) (taps : List ℕ) (m : ℕ) : Type 0 where
-  pub short : l ≤ 128
-  pub longer : m ≤ l
-  pub zeros : (i : ℕ) → l < i → getD taps i 0 ≡ 0
+  pub width : length taps ≡ 144

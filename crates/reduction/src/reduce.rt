@@ -15,7 +15,7 @@ ghost use Rattle.field.specs.Residue.{quotient};
 ghost use Rattle.lists.specs.Parts.{replaced};
 ghost use Rattle.discrepancy.specs.Discrepancies.{Loose};
 ghost use Rattle.discrepancy.specs.Modulus.{WorkedOut};
-ghost use Rattle.reduction.specs.Reductions.{Reducible, Divided, Keepable, Growable, block};
+ghost use Rattle.reduction.specs.Reductions.{Reducible, Divided, Keepable, block};
 
 // All taps less q·x^e·τ, τ being the m + 1 taps saved for sequence h, modulo 2.
 fn reduce_two(taps: &mut [u16; 144], q: u32, e: usize, m: usize, saved: &[u16; 1152], h: usize)
@@ -71,22 +71,21 @@ pub fn reduce(
     take_off(f, moduli, taps, e, u, saved, h * 144, padded(m + 1));
 }
 
-// The first entries of the taps become those of the block of sequence h.
-fn keep(saved: &mut [u16], h: usize, taps: &[u16], end: usize)
-    requires { ⌜ Keepable (now saved) h (now taps) end ⌝ }
-    ensures { λ _. ⌜ now (saved .exit) ≡ replaced (h * 144) end (now (saved .entry)) (take end (now (taps .entry))) ⌝ }
+// The taps become the block of sequence h.
+fn keep(saved: &mut [u16], h: usize, taps: &[u16])
+    requires { ⌜ Keepable (now saved) h (now taps) ⌝ }
+    ensures { λ _. ⌜ now (saved .exit) ≡ replaced (h * 144) 144 (now (saved .entry)) (now (taps .entry)) ⌝ }
 {
     let a = h * 144;
-    let e = a + end;
-    copy(&mut saved[a..e], &taps[0..end])
+    let e = a + 144;
+    copy(&mut saved[a..e], taps)
 }
 
-// The same reduction where the register, of length l, grows: its taps before it become what is saved for sequence h. They are copied first, since the
-// reduction still reads the block that they go to.
+// The same reduction where the register grows: its taps before it become what is saved for sequence h. They are copied first, since the reduction still
+// reads the block that they go to.
 pub fn reduce_keeping(
     f: Modulus,
     moduli: &[u16; 144],
-    l: usize,
     taps: &mut [u16; 144],
     sum: u32,
     over: u16,
@@ -97,12 +96,11 @@ pub fn reduce_keeping(
 )
     requires { ⌜ Divided f (now moduli) sum over ⌝ }
     requires { ⌜ Reducible (f .p) (now taps) e m (now saved) h ⌝ }
-    requires { ⌜ Growable l (now taps) m ⌝ }
     ensures { λ _. ⌜ ((c : ℕ) → over ≡ quotient (f .p) (65536 % f .p) c →
         now (taps .exit) ≡ reduced (f .p) 143 (now (taps .entry)) (quotient (f .p) (sum % f .p) c) e (take (suc m) (block h (now (saved .entry))))) ⌝ }
     ensures { λ _. ⌜ now (saved .exit) ≡ replaced (h * 144) 144 (now (saved .entry)) (now (taps .entry)) ⌝ }
 {
     let old = *taps;
     reduce(f, moduli, taps, sum, over, e, m, saved, h);
-    keep(saved, h, &old, padded(l + 1));
+    keep(saved, h, &old);
 }

@@ -1,6 +1,6 @@
--- A change of the register in the arrays is the change that Algorithm 4 makes: the taps are reduced at the whole width of their array, which is the
+-- A change of the parts is the change that Algorithm 4 makes of the state they hold: the taps are reduced at the whole width of their array, which is the
 -- same as at the new length since the entries past the register are 0, and one block of the saved registers is replaced.
-use mathlib.Core.Path.{_≡_, refl, sym, ap, ap₂, _∙_}
+use mathlib.Core.Path.{_≡_, refl, sym, ap, ap₂, subst, _∙_}
 use mathlib.Core.Logic.{_≢_}
 use mathlib.Core.List.{List, []}
 use Prim.Native.Nat.{ℕ, suc, _+_, _-_, _*_, _%_, _^_, _≤_, _<_}
@@ -17,8 +17,8 @@ use Rattle.lists.proofs.Entries.{getD-take-past}
 use Rattle.lists.specs.Parts.{replaced}
 use Rattle.register.proofs.Cases.{changed-cases, grown, stayed}
 use Rattle.register.specs.Algorithm4.{Saved, State, changed, withSaved}
-use Rattle.register_step.specs.Progress.{Progress, Whole, stateOf, Ended, Changeable, Stepped, savedAfter, saving}
-use Rattle.reduction.specs.Reductions.{Growable, Reducible, ZerosAfter, block}
+use Rattle.register_step.specs.Parts.{Parts, parts, Whole, stateOf, reducedTaps, stayedParts, grownParts, changedParts, Ended, Changeable, Stepped}
+use Rattle.reduction.specs.Reductions.{Reducible, block}
 use Rattle.reduction.proofs.Blocks.{block-replaced, block-other, replaced-whole, replaced-entry, other-entry}
 use Rattle.discrepancy.proofs.Reduction.{minus-zero, shifted-past}
 
@@ -26,7 +26,7 @@ use Rattle.discrepancy.proofs.Reduction.{minus-zero, shifted-past}
 
 module _ (p l : ℕ) (σ : List ℕ) (zeros : (i : ℕ) → l < i → getD σ i 0 ≡ 0) (q e : ℕ) (τ : List ℕ) where
   -- the register's own taps are those of the array, also past the register
-  own-taps : (i : ℕ) → getD (take (suc l) σ) i 0 ≡ getD σ i 0
+  pub own-taps : (i : ℕ) → getD (take (suc l) σ) i 0 ≡ getD σ i 0
   own-taps i = pick (decLt i (suc l))
     where
       pick : Dec (i < suc l) → getD (take (suc l) σ) i 0 ≡ getD σ i 0
@@ -62,16 +62,68 @@ module _ (p l : ℕ) (σ : List ℕ) (zeros : (i : ℕ) → l < i → getD σ i 
           ∙ minus-zero p 0 q pos
       pick (no outside) = getD-reduced-past p w σ q e τ i (omega arith)
 
+-- ---- the cases
+
+module _ (p n h d : ℕ) (x : Parts) {taps : List ℕ} (less : taps ≡ reducedTaps p n h d x) where
+  pub changed-stays : n + getD (x .sizes) h 0 ≤ getD (x .places) h 0 + x .length →
+      parts (x .length) (x .places) (x .sizes) (x .discs) (x .quotients) taps (x .saved) ≡ changedParts p n h d x
+  unfolding changedParts
+  changed-stays short =
+      rw (le-ltb (getD (x .places) h 0 + x .length) (n + getD (x .sizes) h 0) short)
+      (ap (λ (t : List ℕ). parts (x .length) (x .places) (x .sizes) (x .discs) (x .quotients) t (x .saved)) less)
+
+  pub changed-grows : {q : ℕ} {saved : List ℕ} → q ≡ quotient p (65536 % p) d → saved ≡ replaced (h * 144) 144 (x .saved) (x .taps) →
+      getD (x .places) h 0 + x .length < n + getD (x .sizes) h 0 →
+      parts (n + getD (x .sizes) h 0 - getD (x .places) h 0) (set (x .places) h n) (set (x .sizes) h (x .length)) (set (x .discs) h d)
+      (set (x .quotients) h q) taps saved
+      ≡ changedParts p n h d x
+  unfolding changedParts
+  changed-grows over kept long =
+      rw (lt-ltb (getD (x .places) h 0 + x .length) (n + getD (x .sizes) h 0) long)
+      (λ i.
+      parts (n + getD (x .sizes) h 0 - getD (x .places) h 0) (set (x .places) h n) (set (x .sizes) h (x .length)) (set (x .discs) h d)
+      (set (x .quotients) h (over i)) (less i) (kept i))
+
+-- ---- what the code asks
+
+module _ {p n h d : ℕ} {x : Parts} (positive : 0 < p) (c : Changeable p n h d x) where
+  pub reducible : Reducible p (x .taps) (n - getD (x .places) h 0) (getD (x .sizes) h 0) (x .saved) h
+  reducible =
+      let r = c .readable in
+      record {
+        reach = omega (arith, r .saved-size, c .place, c .round);
+        sequence = r .sequence;
+        width = r .width;
+        saved-width = r .saved-width;
+        residues = r .residues;
+        zeros = r .saved-zeros;
+      }
+
+  pub over-less : getD (x .quotients) h 0 < p
+  over-less = rw (c .readable .quotient) (mod-lt (65536 % p * (getD (x .discs) h 0 ^ (p - 2) % p)) positive)
+
+  -- the taps by a number that stands for d
+  pub by-sum : (sum : ℕ) {now : List ℕ} → sum % p ≡ d →
+      now ≡ reduced p 143 (x .taps) (quotient p (sum % p) (getD (x .discs) h 0)) (n - getD (x .places) h 0)
+      (take (suc (getD (x .sizes) h 0)) (block h (x .saved))) →
+      now ≡ reducedTaps p n h d x
+  by-sum sum stands eq =
+      eq
+      ∙ ap
+      (λ (y : ℕ).
+      reduced p 143 (x .taps) (quotient p y (getD (x .discs) h 0)) (n - getD (x .places) h 0) (take (suc (getD (x .sizes) h 0)) (block h (x .saved))))
+      stands
+
 -- ---- the state
 
 -- what is kept for a sequence, read off the arrays
-abbrev pub savedOf : (g : Progress) (saved : List ℕ) (h : ℕ) → Saved
-savedOf g saved h =
+abbrev pub savedOf : (x : Parts) (h : ℕ) → Saved
+savedOf x h =
     record {
-      place = getD (g .places) h 0;
-      size = getD (g .sizes) h 0;
-      disc = getD (g .discs) h 0;
-      taps = take (suc (getD (g .sizes) h 0)) (block h saved);
+      place = getD (x .places) h 0;
+      size = getD (x .sizes) h 0;
+      disc = getD (x .discs) h 0;
+      taps = take (suc (getD (x .sizes) h 0)) (block h (x .saved));
     }
 
 pub saved-path : {v w : Saved} → v .place ≡ w .place → v .size ≡ w .size → v .disc ≡ w .disc → v .taps ≡ w .taps → v ≡ w
@@ -85,183 +137,147 @@ saved-beside : (saved : ℕ → Saved) (h : ℕ) (v : Saved) (k : ℕ) → k ≢
 unfolding withSaved
 saved-beside saved h v k ne = rw (ne-eqb k h ne)
 
-module _ {p n h d : ℕ} {g : Progress} {taps saved : List ℕ}
-    (positive : 0 < p) (c : Changeable p n h d (stateOf g taps saved)) (z : Ended p g taps saved) where
+module _ {p n h d : ℕ} {x : Parts} (positive : 0 < p) (c : Changeable p n h d x) (z : Ended p x) where
   abbrev place : ℕ
-  place = getD (g .places) h 0
+  place = getD (x .places) h 0
 
   abbrev size : ℕ
-  size = getD (g .sizes) h 0
+  size = getD (x .sizes) h 0
 
-  abbrev disc : ℕ
-  disc = getD (g .discs) h 0
+  abbrev now : List ℕ
+  now = reducedTaps p n h d x
 
-  -- the taps after the change, at the width of the array
-  abbrev pub changedArray : List ℕ
-  changedArray = reduced p 143 taps (quotient p d disc) (n - place) (take (suc size) (block h saved))
+  bounds : (place ≤ n) × (size ≤ place) × (n ≤ 128) × (x .length ≤ n) × (h < 8)
+  bounds = (c .place, c .readable .saved-size, c .round, c .size, c .readable .sequence)
 
-  -- the same by a number that stands for d
-  pub by-sum : (sum : ℕ) {now : List ℕ} → sum % p ≡ d →
-      now ≡ reduced p 143 taps (quotient p (sum % p) disc) (n - place) (take (suc size) (block h saved)) → now ≡ changedArray
-  by-sum sum stands eq = eq ∙ ap (λ (x : ℕ). reduced p 143 taps (quotient p x disc) (n - place) (take (suc size) (block h saved))) stands
+  width : length now ≡ 144
+  width = length-reduced p 143 (x .taps) (quotient p d (getD (x .discs) h 0)) (n - place) (take (suc size) (block h (x .saved)))
 
-  bounds : (place ≤ n) × (size ≤ place) × (n ≤ 128) × (g .length ≤ n) × (h < 8)
+  -- the taps of a new length m, and the zeros past it
+  narrowed : (m : ℕ) → m ≤ 143 →
+      take (suc m) now ≡ reduced p m (take (suc (x .length)) (x .taps)) (quotient p d (getD (x .discs) h 0)) (n - place) (take (suc size) (block h (x .saved)))
+  narrowed m le =
+      reduced-narrow p (x .length) (x .taps) (z .zeros) (quotient p d (getD (x .discs) h 0)) (n - place) (take (suc size) (block h (x .saved))) 143 m le
+
+  zeros-past : (m : ℕ) → x .length ≤ m → n - place + size ≤ m → (i : ℕ) → m < i → getD now i 0 ≡ 0
+  zeros-past m le reach i past =
+      reduced-zeros p (x .length) (x .taps) (z .zeros) (quotient p d (getD (x .discs) h 0)) (n - place) (take (suc size) (block h (x .saved))) 143 m positive le
+      (omega (arith, length-take (suc size) (block h (x .saved)))) i past
+
+  same-length : stateOf (stayedParts p n h d x) ≡ stayed p n h d (stateOf x)
   unfolding stateOf
-  bounds = (c .place, c .saved-size, c .round, c .size, c .sequence)
+  same-length = ap {B = State} (λ (l : List ℕ). record { size = x .length; taps = l; saved = savedOf x }) (narrowed (x .length) (omega (arith, bounds)))
 
-  pub reducible : Reducible p taps (n - place) size saved h
+  stays : n + size ≤ place + x .length → Stepped p (changed p n h d (stateOf x)) (stayedParts p n h d x)
   unfolding stateOf
-  reducible =
+  stays short =
       record {
-        reach = omega (arith, bounds);
-        sequence = c .sequence;
-        width = z .width;
-        saved-width = z .saved-width;
-        residues = λ i. rw (← own-taps p (g .length) taps (z .zeros) 0 0 [] i) (c .residues i);
-        zeros = z .saved-zeros h (c .sequence);
+        state =
+            changed-cases p n h d (stateOf x) (λ s. stateOf (stayedParts p n h d x) ≡ s)
+            (λ more. absurd (let no : ⊥ = omega arith in no)) (λ _. same-length);
+        ended =
+            record {
+              whole =
+                  record {
+                    places = z .whole .places;
+                    sizes = z .whole .sizes;
+                    discs = z .whole .discs;
+                    quotients = z .whole .quotients;
+                    taps = width;
+                    saved = z .whole .saved;
+                  };
+              zeros = zeros-past (x .length) (omega arith) (omega (arith, bounds));
+              saved-zeros = z .saved-zeros;
+              quotients = z .quotients;
+            };
       }
 
-  pub growable : Growable (g .length) taps size
-  growable = record { short = omega (arith, bounds); longer = z .shorter h (c .sequence); zeros = z .zeros }
+  abbrev grown-parts : Parts
+  grown-parts = grownParts p n h d x
 
-  pub over-less : getD (g .quotients) h 0 < p
-  over-less = rw (z .quotients h (c .sequence)) (mod-lt (65536 % p * (disc ^ (p - 2) % p)) positive)
+  new : Saved
+  new = record { place = n; size = x .length; disc = d; taps = take (suc (x .length)) (x .taps) }
 
-  pub saved-stays : n + size ≤ place + g .length → saved ≡ savedAfter n h g taps saved
-  unfolding savedAfter
-  saved-stays short = rw (le-ltb (place + g .length) (n + size) short)
+  saved-there : savedOf grown-parts h ≡ new
+  unfolding new
+  saved-there =
+      saved-path
+      (getD-set-same (x .places) h n 0 (omega (arith, bounds, z .whole .places)))
+      (getD-set-same (x .sizes) h (x .length) 0 (omega (arith, bounds, z .whole .sizes)))
+      (getD-set-same (x .discs) h d 0 (omega (arith, bounds, z .whole .discs)))
+      (ap₂ (λ (m : ℕ) (l : List ℕ). take (suc m) l) (getD-set-same (x .sizes) h (x .length) 0 (omega (arith, bounds, z .whole .sizes)))
+      (block-replaced h (x .taps) (x .saved) (z .whole .taps) (z .whole .saved) (c .readable .sequence)))
 
-  pub saved-grows : {kept : List ℕ} → kept ≡ replaced (h * 144) 144 saved taps → place + g .length < n + size → kept ≡ savedAfter n h g taps saved
-  unfolding savedAfter
-  saved-grows put-in long = rw (lt-ltb (place + g .length) (n + size) long) put-in
+  saved-elsewhere : (k : ℕ) → k ≢ h → savedOf grown-parts k ≡ savedOf x k
+  saved-elsewhere k ne =
+      saved-path
+      (getD-set-other (x .places) h k n 0 ne)
+      (getD-set-other (x .sizes) h k (x .length) 0 ne)
+      (getD-set-other (x .discs) h k d 0 ne)
+      (ap₂ (λ (m : ℕ) (l : List ℕ). take (suc m) l) (getD-set-other (x .sizes) h k (x .length) 0 ne)
+      (block-other h (x .taps) (x .saved) (z .whole .taps) (z .whole .saved) (c .readable .sequence) k ne))
 
-  module _ {now : List ℕ} (eq : now ≡ changedArray) where
-    width : length now ≡ 144
-    width = ap length eq ∙ length-reduced p 143 taps (quotient p d disc) (n - place) (take (suc size) (block h saved))
+  is-saved : (k : ℕ) → savedOf grown-parts k ≡ withSaved (savedOf x) h new k
+  is-saved k = pick (ℕ-discrete k h)
+    where
+      pick : Dec (k ≡ h) → savedOf grown-parts k ≡ withSaved (savedOf x) h new k
+      pick (yes same) = rw same (saved-there ∙ sym (saved-at (savedOf x) h new))
+      pick (no ne) = saved-elsewhere k ne ∙ sym (saved-beside (savedOf x) h new k ne)
 
-    -- the taps of a new length m, and the zeros past it
-    narrowed : (m : ℕ) → m ≤ 143 → take (suc m) now ≡ reduced p m (take (suc (g .length)) taps) (quotient p d disc) (n - place) (take (suc size) (block h saved))
-    narrowed m le =
-        ap (λ (l : List ℕ). take (suc m) l) eq
-        ∙ reduced-narrow p (g .length) taps (z .zeros) (quotient p d disc) (n - place) (take (suc size) (block h saved)) 143 m le
+  new-length : stateOf grown-parts ≡ grown p n h d (stateOf x)
+  unfolding stateOf new
+  new-length = λ j. record { size = n + size - place; taps = narrowed (n + size - place) (omega (arith, bounds)) j; saved = λ k. is-saved k j }
 
-    zeros-past : (m : ℕ) → g .length ≤ m → n - place + size ≤ m → (i : ℕ) → m < i → getD now i 0 ≡ 0
-    zeros-past m le reach i past =
-        ap (λ (l : List ℕ). getD l i 0) eq
-        ∙ reduced-zeros p (g .length) taps (z .zeros) (quotient p d disc) (n - place) (take (suc size) (block h saved)) 143 m positive le
-        (omega (arith, length-take (suc size) (block h saved))) i past
+  quotients-kept : (k : ℕ) → k < 8 → getD (grown-parts .quotients) k 0 ≡ quotient p (65536 % p) (getD (grown-parts .discs) k 0)
+  quotients-kept k b = pick (ℕ-discrete k h)
+    where
+      pick : Dec (k ≡ h) → getD (grown-parts .quotients) k 0 ≡ quotient p (65536 % p) (getD (grown-parts .discs) k 0)
+      pick (yes same) =
+          rw (same, getD-set-same (x .discs) h d 0 (omega (arith, bounds, z .whole .discs)))
+          (getD-set-same (x .quotients) h (quotient p (65536 % p) d) 0 (omega (arith, bounds, z .whole .quotients)))
+      pick (no ne) =
+          rw (getD-set-other (x .discs) h k d 0 ne) (getD-set-other (x .quotients) h k (quotient p (65536 % p) d) 0 ne ∙ z .quotients k b)
 
-    same-length : stateOf g now saved ≡ stayed p n h d (stateOf g taps saved)
-    unfolding stateOf
-    same-length =
-        ap {B = State} (λ (l : List ℕ). record { size = g .length; taps = l; saved = savedOf g saved }) (narrowed (g .length) (omega (arith, bounds)))
+  zeros-kept : (k : ℕ) → k < 8 → (i : ℕ) → getD (grown-parts .sizes) k 0 < i → i < 144 → getD (grown-parts .saved) (k * 144 + i) 0 ≡ 0
+  zeros-kept k b i past small = pick (ℕ-discrete k h)
+    where
+      pick : Dec (k ≡ h) → getD (grown-parts .saved) (k * 144 + i) 0 ≡ 0
+      pick (yes same) =
+          let size-is : getD (grown-parts .sizes) k 0 ≡ x .length =
+          rw same (getD-set-same (x .sizes) h (x .length) 0 (omega (arith, bounds, z .whole .sizes)))
+          in
+          rw same
+          (replaced-entry h (x .taps) (x .saved) (z .whole .taps) (z .whole .saved) (c .readable .sequence) i small ∙ z .zeros i (omega (arith, size-is)))
+      pick (no ne) =
+          other-entry h (x .taps) (x .saved) (z .whole .taps) (z .whole .saved) (c .readable .sequence) k ne i small
+          ∙ z .saved-zeros k b i (omega (arith, getD-set-other (x .sizes) h k (x .length) 0 ne)) small
 
-    pub stays : n + size ≤ place + g .length → Stepped p (changed p n h d (stateOf g taps saved)) g now saved
-    unfolding stateOf
-    stays short =
-        record {
-          state =
-              changed-cases p n h d (stateOf g taps saved) (λ s. stateOf g now saved ≡ s)
-              (λ more. absurd (let no : ⊥ = omega arith in no)) (λ _. same-length);
-          ended =
-              record {
-                whole = z .whole;
-                width = width;
-                saved-width = z .saved-width;
-                zeros = zeros-past (g .length) (omega arith) (omega (arith, bounds));
-                shorter = z .shorter;
-                saved-zeros = z .saved-zeros;
-                quotients = z .quotients;
-              };
-        }
+  grows : place + x .length < n + size → Stepped p (changed p n h d (stateOf x)) grown-parts
+  unfolding stateOf
+  grows long =
+      record {
+        state =
+            changed-cases p n h d (stateOf x) (λ s. stateOf grown-parts ≡ s) (λ _. new-length) (λ short. absurd (let no : ⊥ = omega arith in no));
+        ended =
+            record {
+              whole =
+                  record {
+                    places = length-set (x .places) h n ∙ z .whole .places;
+                    sizes = length-set (x .sizes) h (x .length) ∙ z .whole .sizes;
+                    discs = length-set (x .discs) h d ∙ z .whole .discs;
+                    quotients = length-set (x .quotients) h (quotient p (65536 % p) d) ∙ z .whole .quotients;
+                    taps = width;
+                    saved = replaced-whole h (x .taps) (x .saved) (z .whole .taps) (z .whole .saved) (c .readable .sequence);
+                  };
+              zeros = zeros-past (n + size - place) (omega (arith, bounds)) (omega (arith, bounds));
+              saved-zeros = zeros-kept;
+              quotients = quotients-kept;
+            };
+      }
 
-    module _ {q : ℕ} (is-quotient : q ≡ quotient p (65536 % p) d) {kept : List ℕ} (put-in : kept ≡ replaced (h * 144) 144 saved taps) where
-      new : Saved
-      new = record { place = n; size = g .length; disc = d; taps = take (suc (g .length)) taps }
-
-      whole-kept : Whole (saving n h d q g)
-      whole-kept =
-          record {
-            places = length-set (g .places) h n ∙ z .whole .places;
-            sizes = length-set (g .sizes) h (g .length) ∙ z .whole .sizes;
-            discs = length-set (g .discs) h d ∙ z .whole .discs;
-            quotients = length-set (g .quotients) h q ∙ z .whole .quotients;
-          }
-
-      saved-there : savedOf (saving n h d q g) kept h ≡ new
-      unfolding new
-      saved-there =
-          saved-path
-          (getD-set-same (g .places) h n 0 (omega (arith, bounds, z .whole .places)))
-          (getD-set-same (g .sizes) h (g .length) 0 (omega (arith, bounds, z .whole .sizes)))
-          (getD-set-same (g .discs) h d 0 (omega (arith, bounds, z .whole .discs)))
-          (ap₂ (λ (m : ℕ) (l : List ℕ). take (suc m) l) (getD-set-same (g .sizes) h (g .length) 0 (omega (arith, bounds, z .whole .sizes)))
-          (ap (block h) put-in ∙ block-replaced h taps saved (z .width) (z .saved-width) (c .sequence)))
-
-      saved-elsewhere : (k : ℕ) → k ≢ h → savedOf (saving n h d q g) kept k ≡ savedOf g saved k
-      saved-elsewhere k ne =
-          saved-path
-          (getD-set-other (g .places) h k n 0 ne)
-          (getD-set-other (g .sizes) h k (g .length) 0 ne)
-          (getD-set-other (g .discs) h k d 0 ne)
-          (ap₂ (λ (m : ℕ) (l : List ℕ). take (suc m) l) (getD-set-other (g .sizes) h k (g .length) 0 ne)
-          (ap (block k) put-in ∙ block-other h taps saved (z .width) (z .saved-width) (c .sequence) k ne))
-
-      is-saved : (k : ℕ) → savedOf (saving n h d q g) kept k ≡ withSaved (savedOf g saved) h new k
-      is-saved k = pick (ℕ-discrete k h)
-        where
-          pick : Dec (k ≡ h) → savedOf (saving n h d q g) kept k ≡ withSaved (savedOf g saved) h new k
-          pick (yes same) = rw same (saved-there ∙ sym (saved-at (savedOf g saved) h new))
-          pick (no ne) = saved-elsewhere k ne ∙ sym (saved-beside (savedOf g saved) h new k ne)
-
-      new-length : stateOf (saving n h d q g) now kept ≡ grown p n h d (stateOf g taps saved)
-      unfolding stateOf new
-      new-length = λ j. record { size = n + size - place; taps = narrowed (n + size - place) (omega (arith, bounds)) j; saved = λ k. is-saved k j }
-
-      quotients-kept : (k : ℕ) → k < 8 → getD (set (g .quotients) h q) k 0 ≡ quotient p (65536 % p) (getD (set (g .discs) h d) k 0)
-      quotients-kept k b = pick (ℕ-discrete k h)
-        where
-          pick : Dec (k ≡ h) → getD (set (g .quotients) h q) k 0 ≡ quotient p (65536 % p) (getD (set (g .discs) h d) k 0)
-          pick (yes same) =
-              rw (same, getD-set-same (g .discs) h d 0 (omega (arith, bounds, z .whole .discs)))
-              (getD-set-same (g .quotients) h q 0 (omega (arith, bounds, z .whole .quotients)) ∙ is-quotient)
-          pick (no ne) = rw (getD-set-other (g .discs) h k d 0 ne) (getD-set-other (g .quotients) h k q 0 ne ∙ z .quotients k b)
-
-      shorter-kept : g .length ≤ n + size - place → (k : ℕ) → k < 8 → getD (set (g .sizes) h (g .length)) k 0 ≤ n + size - place
-      shorter-kept more k b = pick (ℕ-discrete k h)
-        where
-          pick : Dec (k ≡ h) → getD (set (g .sizes) h (g .length)) k 0 ≤ n + size - place
-          pick (yes same) = rw (same, getD-set-same (g .sizes) h (g .length) 0 (omega (arith, bounds, z .whole .sizes))) more
-          pick (no ne) = rw (getD-set-other (g .sizes) h k (g .length) 0 ne) (omega (arith, z .shorter k b))
-
-      zeros-kept : (k : ℕ) → k < 8 → ZerosAfter kept k (getD (set (g .sizes) h (g .length)) k 0)
-      zeros-kept k b i past small = ap (λ (l : List ℕ). getD l (k * 144 + i) 0) put-in ∙ pick (ℕ-discrete k h)
-        where
-          pick : Dec (k ≡ h) → getD (replaced (h * 144) 144 saved taps) (k * 144 + i) 0 ≡ 0
-          pick (yes same) =
-              let size-is : getD (set (g .sizes) h (g .length)) k 0 ≡ g .length =
-              rw same (getD-set-same (g .sizes) h (g .length) 0 (omega (arith, bounds, z .whole .sizes)))
-              in
-              rw same (replaced-entry h taps saved (z .width) (z .saved-width) (c .sequence) i small ∙ z .zeros i (omega (arith, size-is)))
-          pick (no ne) =
-              other-entry h taps saved (z .width) (z .saved-width) (c .sequence) k ne i small
-              ∙ z .saved-zeros k b i (omega (arith, getD-set-other (g .sizes) h k (g .length) 0 ne)) small
-
-      pub grows : place + g .length < n + size → Stepped p (changed p n h d (stateOf g taps saved)) (saving n h d q g) now kept
-      unfolding stateOf
-      grows long =
-          record {
-            state =
-                changed-cases p n h d (stateOf g taps saved) (λ s. stateOf (saving n h d q g) now kept ≡ s)
-                (λ _. new-length) (λ short. absurd (let no : ⊥ = omega arith in no));
-            ended =
-                record {
-                  whole = whole-kept;
-                  width = width;
-                  saved-width = ap length put-in ∙ replaced-whole h taps saved (z .width) (z .saved-width) (c .sequence);
-                  zeros = zeros-past (n + size - place) (omega (arith, bounds)) (omega (arith, bounds));
-                  shorter = shorter-kept (omega (arith, bounds));
-                  saved-zeros = zeros-kept;
-                  quotients = quotients-kept;
-                };
-          }
+  pub change-made : Stepped p (changed p n h d (stateOf x)) (changedParts p n h d x)
+  change-made = pick (decLt (place + x .length) (n + size))
+    where
+      pick : Dec (place + x .length < n + size) → Stepped p (changed p n h d (stateOf x)) (changedParts p n h d x)
+      pick (yes long) = subst (λ (y : Parts). Stepped p (changed p n h d (stateOf x)) y) (changed-grows p n h d x refl refl refl long) (grows long)
+      pick (no short) = subst (λ (y : Parts). Stepped p (changed p n h d (stateOf x)) y) (changed-stays p n h d x refl (omega arith)) (stays (omega arith))

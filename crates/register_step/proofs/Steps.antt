@@ -1,22 +1,24 @@
--- A step on the arrays is a step of Algorithm 4: it rests where nothing is due, as nothing is asked for or the discrepancy is 0, and else it is the
--- change by what is due.
-use mathlib.Core.Path.{_≡_, refl, sym, ap, _∙_}
+-- A step on the parts is a step of Algorithm 4 on the state that they hold: it rests where nothing is due, as nothing is asked for or the discrepancy is 0, and
+-- else it is the change by what is due.
+use mathlib.Core.Path.{_≡_, refl, sym, ap, subst, _∙_}
 use mathlib.Core.Logic.{_≢_, _⊎_, inl, inr, ⊎-elim}
-use mathlib.Core.List.{List}
+use mathlib.Core.List.{List, []}
 use Prim.Native.Nat.{ℕ, suc, _+_, _-_, _*_, _%_, _≤_, _<_}
-use native.Mathlib.Decide.{decLt}
+use native.Mathlib.Decide.{decLt, ℕ-discrete}
 use native.Mathlib.Omega.{arith}
-use borrow.Author.Tests.{lt-ltb, le-ltb}
+use borrow.Author.Tests.{eq-eqb, ne-eqb, lt-ltb, le-ltb}
 use lib.ListN.{length, getD, take}
 use lib.Seq.{getD-take}
 use Rattle.lists.proofs.Totals.{total-ext}
 use Rattle.register.proofs.Bounds.{discrepancy-less}
 use Rattle.register.proofs.Cases.{step-cases}
-use Rattle.register.specs.Algorithm4.{State, step, changed}
+use Rattle.register.specs.Algorithm4.{State, step}
 use Rattle.register.specs.Register.{discrepancy}
 use Rattle.register.specs.Sequences.{symbol}
-use Rattle.discrepancy.specs.Discrepancies.{Ending, dueAt}
-use Rattle.register_step.specs.Progress.{Progress, progress, stateOf, Ended, Ready, Changeable, Stepped}
+use Rattle.discrepancy.proofs.Products.{length-sequence}
+use Rattle.discrepancy.specs.Discrepancies.{Ending, dueAt, sequenceIn}
+use Rattle.register_step.specs.Parts.{Parts, stateOf, changedParts, stepParts, Readable, Changeable, Steppable, Ended, Ready, Stepped}
+use Rattle.register_step.proofs.Change.{own-taps, change-made}
 
 -- a discrepancy looks at the register's own taps only
 discrepancy-own : (p l : ℕ) (σ s : List ℕ) (j : ℕ) → discrepancy p l σ s j ≡ discrepancy p l (take (suc l) σ) s j
@@ -26,75 +28,112 @@ discrepancy-own p l σ s j =
     (total-ext (suc l) (λ i. getD σ i 0 * symbol s (j - i)) (λ i. getD (take (suc l) σ) i 0 * symbol s (j - i))
     (λ i h. ap (λ (x : ℕ). x * symbol s (j - i)) (sym (getD-take (suc l) σ i 0 h))))
 
-module _ {p N : ℕ} {s : List ℕ} {n h : ℕ} {g : Progress} {taps saved : List ℕ}
-    (positive : 0 < p) (ready : Ready p N s n h (stateOf g taps saved)) (z : Ended p g taps saved) where
-  abbrev st : State
-  st = stateOf g taps saved
+-- ---- the cases
 
-  -- what is asked of the taps where a discrepancy is due
-  pub ending : Ending p (g .length) taps
-  unfolding stateOf
-  ending =
+module _ (p N : ℕ) (s : List ℕ) (n h : ℕ) (x : Parts) {d : ℕ} (due : d ≡ dueAt p N (x .length) (x .taps) s n) where
+  pub step-rests : d ≡ 0 → x ≡ stepParts p N s n h x
+  unfolding stepParts
+  step-rests none = rw (eq-eqb (dueAt p N (x .length) (x .taps) s n) 0 (sym due ∙ none))
+
+  pub step-changes : d ≢ 0 → changedParts p n h d x ≡ stepParts p N s n h x
+  unfolding stepParts
+  step-changes some = rw (← due, ne-eqb d 0 some)
+
+-- ---- what the code asks
+
+module _ {p h : ℕ} {x : Parts} (r : Readable p h x) where
+  pub ending : Ending p (x .length) (x .taps)
+  ending = record { width = r .width; residues = λ i _. r .residues i; zeros = r .zeros }
+
+-- what is not 0 was asked for
+asked : (p N l : ℕ) (σ s : List ℕ) (n : ℕ) {d : ℕ} → d ≡ dueAt p N l σ s n → d ≢ 0 → l + (N - length s) < n
+unfolding dueAt
+asked p N l σ s n due some = pick (decLt (l + (N - length s)) n)
+  where
+    pick : Dec (l + (N - length s) < n) → l + (N - length s) < n
+    pick (yes late) = late
+    pick (no early) = absurd (some (due ∙ rw (le-ltb (l + (N - length s)) n (omega arith))))
+
+module _ {p N h long n : ℕ} {symbols : List ℕ} {x : Parts} (a : Steppable p N h long n symbols x) {d : ℕ} where
+  pub changeable : d < p → d ≡ dueAt p N (x .length) (x .taps) (sequenceIn symbols h long) n → d ≢ 0 → Changeable p n h d x
+  changeable less due some =
+      let reach = a .reach in
+      let late = asked p N (x .length) (x .taps) (sequenceIn symbols h long) n due some in
       record {
-        width = z .width;
-        residues = λ i le. rw (← getD-take (suc (g .length)) taps i 0 (omega arith)) (ready .residues i);
-        zeros = z .zeros;
+        readable = a .readable;
+        round = omega (arith, reach .round, reach .longest);
+        discrepancy = less;
+        size = reach .grown;
+        place = omega (arith, a .place, length-sequence reach);
       }
 
-  module _ {d : ℕ} (due : d ≡ dueAt p N (g .length) taps s n) where
-    abbrev asked : Type 0
-    asked = g .length + (N - length s) < n
+-- ---- arrays that hold a state
 
-    -- the cases of `dueAt`
-    cases : ((asked → ⊥) × (d ≡ 0)) ⊎ (asked × (d ≡ discrepancy p (st .size) (st .taps) s (n + length s - N)))
-    unfolding dueAt stateOf
-    cases = pick (decLt (g .length + (N - length s)) n)
-      where
-        pick : Dec asked → ((asked → ⊥) × (d ≡ 0)) ⊎ (asked × (d ≡ discrepancy p (st .size) (st .taps) s (n + length s - N)))
-        pick (yes late) = inr (late, due ∙ rw (lt-ltb (g .length + (N - length s)) n late) (discrepancy-own p (g .length) taps s (n + length s - N)))
-        pick (no early) = inl (early, due ∙ rw (le-ltb (g .length + (N - length s)) n (omega arith)))
+module _ {p N : ℕ} {s : List ℕ} {n h : ℕ} {x : Parts} (positive : 0 < p) (ready : Ready p N s n h (stateOf x)) (z : Ended p x) where
+  pub readable : Readable p h x
+  unfolding stateOf
+  readable =
+      record {
+        sequence = ready .sequence;
+        width = z .whole .taps;
+        saved-width = z .whole .saved;
+        residues = λ i. rw (← own-taps p (x .length) (x .taps) (z .zeros) 0 0 [] i) (ready .residues i);
+        zeros = λ i past _. z .zeros i past;
+        saved-size = ready .saved-size;
+        saved-zeros = λ i past near.
+            z .saved-zeros h (ready .sequence) i past (omega (arith, ready .saved-size, ready .place, ready .round, ready .longest));
+        quotient = z .quotients h (ready .sequence);
+      }
 
-    -- the state is the same, and so are the arrays
-    pub resting : d ≡ 0 → Stepped p (step p N s n h st) g taps saved
-    unfolding stateOf
-    resting none =
-        record {
-          state = step-cases p N s n h st (λ t. st ≡ t) (λ _. refl) (λ _ _. refl)
-              (λ late some. absurd (⊎-elim (λ early. early .0 late) (λ is. some (sym (is .1) ∙ none)) cases));
-          ended = z;
-        }
+  abbrev st : State
+  st = stateOf x
 
-    module _ (some : d ≢ 0) where
-      is-discrepancy : asked × (d ≡ discrepancy p (st .size) (st .taps) s (n + length s - N))
-      is-discrepancy = ⊎-elim (λ early. absurd (some (early .1))) (λ is. is) cases
+  abbrev d : ℕ
+  d = dueAt p N (x .length) (x .taps) s n
 
-      pub changeable : Changeable p n h d st
-      unfolding stateOf
-      changeable =
-          let late = is-discrepancy .0 in
-          let place : getD (g .places) h 0 ≤ n = omega (arith, ready .place) in
-          record {
-            round = omega (arith, ready .round, ready .longest);
-            sequence = ready .sequence;
-            discrepancy = rw (is-discrepancy .1) (discrepancy-less p (st .size) (st .taps) s (n + length s - N) positive);
-            size = ready .size;
-            place = place;
-            saved-size = ready .saved-size;
-            residues = ready .residues;
-          }
+  abbrev at : ℕ
+  at = n + length s - N
 
-      pub changing : {g′ : Progress} {taps′ saved′ : List ℕ} →
-          Stepped p (changed p n h d st) g′ taps′ saved′ → Stepped p (step p N s n h st) g′ taps′ saved′
-      unfolding stateOf
-      changing {g′} {taps′} {saved′} made =
-          let late = is-discrepancy .0 in
-          step-cases p N s n h st (λ t. Stepped p t g′ taps′ saved′)
-          (λ early. absurd (let no : ⊥ = omega arith in no))
-          (λ _ none. absurd (some (is-discrepancy .1 ∙ none)))
-          (λ _ _. rw (← is-discrepancy .1) made)
+  due-early : (x .length + (N - length s) < n → ⊥) → d ≡ 0
+  unfolding dueAt
+  due-early early = rw (le-ltb (x .length + (N - length s)) n (omega arith))
 
--- the same once more, by equal names of what it leaves
-pub same-after : {p : ℕ} {st : State} {l l′ : ℕ} {places places′ sizes sizes′ discs discs′ quotients quotients′ taps taps′ saved saved′ : List ℕ} →
-    places′ ≡ places → sizes′ ≡ sizes → discs′ ≡ discs → quotients′ ≡ quotients → taps′ ≡ taps → saved′ ≡ saved → l′ ≡ l →
-    Stepped p st (progress l places sizes discs quotients) taps saved → Stepped p st (progress l′ places′ sizes′ discs′ quotients′) taps′ saved′
-same-after ep es ed eq et ev el made = rw (ep, es, ed, eq, et, ev, el) made
+  due-late : x .length + (N - length s) < n → d ≡ discrepancy p (st .size) (st .taps) s at
+  unfolding dueAt stateOf
+  due-late late = rw (lt-ltb (x .length + (N - length s)) n late) (discrepancy-own p (x .length) (x .taps) s at)
+
+  abbrev Made : Parts → Type 0
+  Made y = Stepped p (step p N s n h st) y
+
+  rests : d ≡ 0 → Made x
+  unfolding stateOf
+  rests none =
+      record {
+        state = step-cases p N s n h st (λ t. st ≡ t) (λ _. refl) (λ _ _. refl) (λ late some. absurd (some (sym (due-late late) ∙ none)));
+        ended = z;
+      }
+
+  changes : d ≢ 0 → Made (changedParts p n h d x)
+  unfolding stateOf
+  changes some =
+      let late = asked p N (x .length) (x .taps) s n refl some in
+      let c : Changeable p n h d x =
+      record {
+        readable = readable;
+        round = omega (arith, ready .round, ready .longest);
+        discrepancy = rw (due-late late) (discrepancy-less p (st .size) (st .taps) s at positive);
+        size = ready .size;
+        place = omega (arith, ready .place);
+      }
+      in
+      step-cases p N s n h st (λ t. Stepped p t (changedParts p n h d x))
+      (λ early. absurd (let no : ⊥ = omega arith in no))
+      (λ _ none. absurd (some (due-late late ∙ none)))
+      (λ _ _. rw (← due-late late) (change-made positive c z))
+
+  pub step-made : Made (stepParts p N s n h x)
+  step-made = pick (ℕ-discrete d 0)
+    where
+      pick : Dec (d ≡ 0) → Made (stepParts p N s n h x)
+      pick (yes none) = subst Made (step-rests p N s n h x refl none) (rests none)
+      pick (no some) = subst Made (step-changes p N s n h x refl some) (changes some)

@@ -11,10 +11,9 @@ use Rattle.lists.proofs.Entries.{getD-part}
 use Rattle.lists.proofs.Joined.{replicate-each}
 use Rattle.register.specs.Algorithm4.{start, rounds}
 use Rattle.reduction.specs.Reductions.{block}
-use Rattle.register_step.specs.Progress.{Progress, progress, stateOf}
+use Rattle.register_step.specs.Parts.{Parts, parts, stateOf}
 use Rattle.ends.specs.Ends.{Started}
 use Rattle.rounds.specs.Rounds.{Running, Reached, sequencesIn}
-use Rattle.sequences.specs.declared.Order.{Order}
 use Rattle.register_step.proofs.Change.{saved-path}
 use Rattle.rounds.proofs.Running.{sequence-at, length-part}
 
@@ -39,22 +38,22 @@ over-one {p} h =
     ap (λ (x : ℕ). (65536 % p * x) % p) (ap (λ (x : ℕ). x % p) (one-pow (p - 2)) ∙ mod-eq-of-lt h)
     ∙ ap (λ (x : ℕ). x % p) (mul-one (65536 % p)) ∙ mod-mod 65536 p
 
-module _ {p N : ℕ} {o : Order} {k : ℕ} {blocks : List ℕ} (r : Running p N o k blocks) {places : List ℕ} (s : Started N o k places) {u : ℕ} (unit : u ≡ 65536 % p) where
-  abbrev pub before : Progress
-  before = progress 0 places (replicate 8 0) (replicate 8 1) (replicate 8 u)
+module _ {p N : ℕ} {lengths : List ℕ} {k : ℕ} {blocks : List ℕ} (r : Running p N lengths k blocks) {places : List ℕ} (s : Started N lengths k places) {u : ℕ} (unit : u ≡ 65536 % p) where
+  abbrev pub before : Parts
+  before = parts 0 places (replicate 8 0) (replicate 8 1) (replicate 8 u) one-tap no-taps
 
-  saved-start : (h : ℕ) → h < k → stateOf before one-tap no-taps .saved h ≡ start N (sequencesIn o k blocks) .saved h
+  saved-start : (h : ℕ) → h < k → stateOf before .saved h ≡ start N (sequencesIn lengths k blocks) .saved h
   unfolding stateOf start
   saved-start h b =
       let small : h < 8 = omega (arith, r .count) in
-      let size = ap length (sequence-at o k blocks h b) ∙ length-part o k blocks h in
+      let size = ap length (sequence-at lengths k blocks h b) ∙ length-part lengths k blocks h in
       saved-path
       (s .place h b ∙ ap (λ (n : ℕ). N - n) (sym size))
       (getD-replicate {A = ℕ} 8 h 0 0 small)
       (getD-replicate {A = ℕ} 8 h 1 0 small)
       (ap (λ (n : ℕ). take (suc n) (block h no-taps)) (getD-replicate 8 h 0 0 small) ∙ zero-block h small)
 
-  pub reached-start : Reached p k (rounds p N (sequencesIn o k blocks) 0) before one-tap no-taps
+  pub reached-start : Reached p k (rounds p N (sequencesIn lengths k blocks) 0) before
   unfolding stateOf start rounds
   reached-start =
       record {
@@ -67,11 +66,10 @@ module _ {p N : ℕ} {o : Order} {k : ℕ} {blocks : List ℕ} (r : Running p N 
                     sizes = length-replicate {A = ℕ} 8 0;
                     discs = length-replicate {A = ℕ} 8 1;
                     quotients = length-replicate {A = ℕ} 8 u;
+                    taps = length-set {A = ℕ} (replicate 144 0) 0 1 ∙ length-replicate {A = ℕ} 144 0;
+                    saved = length-replicate {A = ℕ} 1152 0;
                   };
-              width = length-set {A = ℕ} (replicate 144 0) 0 1 ∙ length-replicate {A = ℕ} 144 0;
-              saved-width = length-replicate {A = ℕ} 1152 0;
               zeros = λ i past. getD-set-other {A = ℕ} (replicate 144 0) 0 i 1 0 (λ e. omega (arith, e)) ∙ replicate-each (λ (x : ℕ). x ≡ 0) 0 refl 144 i;
-              shorter = λ h b. omega (arith, getD-replicate {A = ℕ} 8 h 0 0 b);
               saved-zeros = λ h b i past small. getD-replicate {A = ℕ} 1152 (h * 144 + i) 0 0 (omega arith);
               quotients = λ h b. getD-replicate 8 h u 0 b ∙ unit ∙ sym (ap (quotient p (65536 % p)) (getD-replicate {A = ℕ} 8 h 1 0 b) ∙ over-one (r .two-or-more));
             };

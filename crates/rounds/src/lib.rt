@@ -1,15 +1,12 @@
 // The rounds of Algorithm 4: each round, and those that may change something.
 use discrepancy::Modulus;
-use discrepancy::due::due;
-use discrepancy::sums::residue;
-use register_step::step::change;
-use sequences::Order;
+use register_step::step::step;
 use settled::test::is_settled;
 ghost use mathlib.Core.Path.{_≡_};
 ghost use Prim.Native.Nat.{_+_, _≤_, _<_};
 ghost use Rattle.register.specs.Algorithm4.{rounds as roundsOf};
 ghost use Rattle.discrepancy.specs.Modulus.{WorkedOut, Moduli};
-ghost use Rattle.register_step.specs.Progress.{progress};
+ghost use Rattle.register_step.specs.Parts.{parts};
 ghost use Rattle.rounds.specs.Rounds.{Running, Reached, sequencesIn};
 
 // Round n + 1: a step for each sequence.
@@ -18,7 +15,7 @@ fn round(
     moduli: &[u16; 144],
     longest: usize,
     symbols: &[u16; 1152],
-    order: Order,
+    lengths: &[u16; 8],
     count: usize,
     n: usize,
     length: usize,
@@ -31,44 +28,32 @@ fn round(
 ) -> usize
     requires { ⌜ WorkedOut f ⌝ }
     requires { ⌜ Moduli (f .p) (now moduli) ⌝ }
-    requires { ⌜ Running (f .p) longest order count (now symbols) ⌝ }
+    requires { ⌜ Running (f .p) longest (now lengths) count (now symbols) ⌝ }
     requires { ⌜ n < longest ⌝ }
-    requires { ⌜ Reached (f .p) count (roundsOf (f .p) longest (sequencesIn order count (now symbols)) n)
-        (progress length (now places) (now sizes) (now discs) (now quotients)) (now taps) (now saved) ⌝ }
-    ensures { λ r. ⌜ Reached (f .p) count (roundsOf (f .p) longest (sequencesIn order count (now (symbols .entry))) (n + 1))
-        (progress r (now (places .exit)) (now (sizes .exit)) (now (discs .exit)) (now (quotients .exit))) (now (taps .exit)) (now (saved .exit)) ⌝ }
+    requires { ⌜ Reached (f .p) count (roundsOf (f .p) longest (sequencesIn (now lengths) count (now symbols)) n)
+        (parts length (now places) (now sizes) (now discs) (now quotients) (now taps) (now saved)) ⌝ }
+    ensures { λ r. ⌜ Reached (f .p) count (roundsOf (f .p) longest (sequencesIn (now (lengths .entry)) count (now (symbols .entry))) (n + 1))
+        (parts r (now (places .exit)) (now (sizes .exit)) (now (discs .exit)) (now (quotients .exit)) (now (taps .exit)) (now (saved .exit))) ⌝ }
 {
     let mut l = length;
     let mut h = 0;
     while h < count {
-        let sum = due(
+        l = step(
             f,
+            moduli,
             longest,
-            l,
-            taps,
             symbols,
             h,
-            order.lengths[h] as usize,
+            lengths[h] as usize,
             n + 1,
+            l,
+            places,
+            sizes,
+            discs,
+            quotients,
+            taps,
+            saved,
         );
-        let d = residue(f, sum);
-        if d != 0 {
-            l = change(
-                f,
-                moduli,
-                n + 1,
-                h,
-                d,
-                sum,
-                l,
-                places,
-                sizes,
-                discs,
-                quotients,
-                taps,
-                saved,
-            );
-        }
         h += 1;
     }
     l
@@ -80,7 +65,7 @@ fn advance(
     moduli: &[u16; 144],
     longest: usize,
     symbols: &[u16; 1152],
-    order: Order,
+    lengths: &[u16; 8],
     count: usize,
     from: usize,
     to: usize,
@@ -94,12 +79,12 @@ fn advance(
 ) -> usize
     requires { ⌜ WorkedOut f ⌝ }
     requires { ⌜ Moduli (f .p) (now moduli) ⌝ }
-    requires { ⌜ Running (f .p) longest order count (now symbols) ⌝ }
+    requires { ⌜ Running (f .p) longest (now lengths) count (now symbols) ⌝ }
     requires { ⌜ (from ≤ to) × (to ≤ longest) ⌝ }
-    requires { ⌜ Reached (f .p) count (roundsOf (f .p) longest (sequencesIn order count (now symbols)) from)
-        (progress length (now places) (now sizes) (now discs) (now quotients)) (now taps) (now saved) ⌝ }
-    ensures { λ r. ⌜ Reached (f .p) count (roundsOf (f .p) longest (sequencesIn order count (now (symbols .entry))) to)
-        (progress r (now (places .exit)) (now (sizes .exit)) (now (discs .exit)) (now (quotients .exit))) (now (taps .exit)) (now (saved .exit)) ⌝ }
+    requires { ⌜ Reached (f .p) count (roundsOf (f .p) longest (sequencesIn (now lengths) count (now symbols)) from)
+        (parts length (now places) (now sizes) (now discs) (now quotients) (now taps) (now saved)) ⌝ }
+    ensures { λ r. ⌜ Reached (f .p) count (roundsOf (f .p) longest (sequencesIn (now (lengths .entry)) count (now (symbols .entry))) to)
+        (parts r (now (places .exit)) (now (sizes .exit)) (now (discs .exit)) (now (quotients .exit)) (now (taps .exit)) (now (saved .exit))) ⌝ }
 {
     let mut l = length;
     let mut n = from;
@@ -109,7 +94,7 @@ fn advance(
             moduli,
             longest,
             symbols,
-            order,
+            lengths,
             count,
             n,
             l,
@@ -146,7 +131,7 @@ fn until_settled(
     moduli: &[u16; 144],
     longest: usize,
     symbols: &[u16; 1152],
-    order: Order,
+    lengths: &[u16; 8],
     count: usize,
     places: &mut [u16; 8],
     sizes: &mut [u16; 8],
@@ -157,17 +142,17 @@ fn until_settled(
 ) -> usize
     requires { ⌜ WorkedOut f ⌝ }
     requires { ⌜ Moduli (f .p) (now moduli) ⌝ }
-    requires { ⌜ Running (f .p) longest order count (now symbols) ⌝ }
+    requires { ⌜ Running (f .p) longest (now lengths) count (now symbols) ⌝ }
     requires { ⌜ (f .p ≡ 2 → ⊥) × (17 ≤ longest) ⌝ }
-    requires { ⌜ Reached (f .p) count (roundsOf (f .p) longest (sequencesIn order count (now symbols)) 0)
-        (progress 0 (now places) (now sizes) (now discs) (now quotients)) (now taps) (now saved) ⌝ }
-    ensures { λ r. ⌜ Reached (f .p) count (roundsOf (f .p) longest (sequencesIn order count (now (symbols .entry))) longest)
-        (progress r (now (places .exit)) (now (sizes .exit)) (now (discs .exit)) (now (quotients .exit))) (now (taps .exit)) (now (saved .exit)) ⌝ }
+    requires { ⌜ Reached (f .p) count (roundsOf (f .p) longest (sequencesIn (now lengths) count (now symbols)) 0)
+        (parts 0 (now places) (now sizes) (now discs) (now quotients) (now taps) (now saved)) ⌝ }
+    ensures { λ r. ⌜ Reached (f .p) count (roundsOf (f .p) longest (sequencesIn (now (lengths .entry)) count (now (symbols .entry))) longest)
+        (parts r (now (places .exit)) (now (sizes .exit)) (now (discs .exit)) (now (quotients .exit)) (now (taps .exit)) (now (saved .exit))) ⌝ }
 {
     let mut l = 0;
     let mut n = 0;
     while n < longest {
-        if 2 * l < n && is_settled(f, moduli, l, taps, symbols, order, count, longest - n) {
+        if 2 * l < n && is_settled(f, moduli, l, taps, symbols, lengths, count, longest - n) {
             return l;
         }
         let to = pause(n, longest);
@@ -176,7 +161,7 @@ fn until_settled(
             moduli,
             longest,
             symbols,
-            order,
+            lengths,
             count,
             n,
             to,
@@ -200,7 +185,7 @@ pub fn rounds(
     moduli: &[u16; 144],
     longest: usize,
     symbols: &[u16; 1152],
-    order: Order,
+    lengths: &[u16; 8],
     count: usize,
     places: &mut [u16; 8],
     sizes: &mut [u16; 8],
@@ -211,11 +196,11 @@ pub fn rounds(
 ) -> usize
     requires { ⌜ WorkedOut f ⌝ }
     requires { ⌜ Moduli (f .p) (now moduli) ⌝ }
-    requires { ⌜ Running (f .p) longest order count (now symbols) ⌝ }
-    requires { ⌜ Reached (f .p) count (roundsOf (f .p) longest (sequencesIn order count (now symbols)) 0)
-        (progress 0 (now places) (now sizes) (now discs) (now quotients)) (now taps) (now saved) ⌝ }
-    ensures { λ r. ⌜ Reached (f .p) count (roundsOf (f .p) longest (sequencesIn order count (now (symbols .entry))) longest)
-        (progress r (now (places .exit)) (now (sizes .exit)) (now (discs .exit)) (now (quotients .exit))) (now (taps .exit)) (now (saved .exit)) ⌝ }
+    requires { ⌜ Running (f .p) longest (now lengths) count (now symbols) ⌝ }
+    requires { ⌜ Reached (f .p) count (roundsOf (f .p) longest (sequencesIn (now lengths) count (now symbols)) 0)
+        (parts 0 (now places) (now sizes) (now discs) (now quotients) (now taps) (now saved)) ⌝ }
+    ensures { λ r. ⌜ Reached (f .p) count (roundsOf (f .p) longest (sequencesIn (now (lengths .entry)) count (now (symbols .entry))) longest)
+        (parts r (now (places .exit)) (now (sizes .exit)) (now (discs .exit)) (now (quotients .exit)) (now (taps .exit)) (now (saved .exit))) ⌝ }
 {
     if longest < 24 || f.p == 2 {
         return advance(
@@ -223,7 +208,7 @@ pub fn rounds(
             moduli,
             longest,
             symbols,
-            order,
+            lengths,
             count,
             0,
             longest,
@@ -241,7 +226,7 @@ pub fn rounds(
         moduli,
         longest,
         symbols,
-        order,
+        lengths,
         count,
         places,
         sizes,

@@ -6,7 +6,6 @@ use Prim.Native.Nat.{ℕ, _+_, _-_, _*_, _%_, _≤_, _<_, min}
 use lib.Dec.{eqb}
 use lib.ListN.{getD}
 use Rattle.lists.specs.Tabulate.{every}
-use Rattle.sequences.specs.declared.Order.{Order}
 use Rattle.discrepancy.specs.Discrepancies.{sumAt}
 use Rattle.discrepancy.specs.Modulus.{WorkedOut, Moduli}
 use Rattle.discrepancy.specs.declared.Modulus.{Modulus}
@@ -16,8 +15,8 @@ unfoldable pub settledIn : (p l : ℕ) (taps symbols : List ℕ) (h long left : 
 settledIn p l taps symbols h long left = every (min left (long - l)) (λ k. eqb (sumAt l taps symbols (h * 144 + k) % p) 0)
 
 -- in the first k sequences
-unfoldable pub settled : (p l : ℕ) (taps symbols : List ℕ) → Order → (k left : ℕ) → Bool
-settled p l taps symbols o k left = every k (λ h. settledIn p l taps symbols h (getD (o .lengths) h 0) left)
+unfoldable pub settled : (p l : ℕ) (taps symbols lengths : List ℕ) (k left : ℕ) → Bool
+settled p l taps symbols lengths k left = every k (λ h. settledIn p l taps symbols h (getD lengths h 0) left)
 
 -- what is asked where sequence h, of `long` symbols, is tested: an odd p, and a register and a sequence that are not too long
 pub record Testable (f : Modulus) (moduli : List ℕ) (l : ℕ) (taps : List ℕ) (h long : ℕ) : Type 0 where

@@ -1,7 +1,6 @@
 // The test of one sequence, and of all.
 use crate::ahead::ahead;
 use discrepancy::Modulus;
-use sequences::Order;
 use sequences::zeros::all_zero;
 ghost use mathlib.Core.Path.{_≡_};
 ghost use Prim.Native.Nat.{ℕ, _-_, _≤_, _<_, min};
@@ -47,16 +46,16 @@ pub fn is_settled(
     l: usize,
     taps: &[u16; 144],
     symbols: &[u16; 1152],
-    order: Order,
+    lengths: &[u16; 8],
     count: usize,
     left: usize,
 ) -> bool
-    requires { ⌜ (count ≤ 8) × ((h : ℕ) → h < count → Testable f (now moduli) l (now taps) h (getD (order .lengths) h 0)) ⌝ }
-    ensures { λ r. ⌜ r ≡ settled (f .p) l (now (taps .entry)) (now (symbols .entry)) order count left ⌝ }
+    requires { ⌜ (count ≤ 8) × ((h : ℕ) → h < count → Testable f (now moduli) l (now taps) h (getD (now lengths) h 0)) ⌝ }
+    ensures { λ r. ⌜ r ≡ settled (f .p) l (now (taps .entry)) (now (symbols .entry)) (now (lengths .entry)) count left ⌝ }
 {
     let mut h = 0;
     while h < count {
-        let long = order.lengths[h] as usize;
+        let long = lengths[h] as usize;
         if !is_settled_in(f, moduli, l, taps, symbols, h, long, left) {
             return false;
         }

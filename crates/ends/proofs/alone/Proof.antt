@@ -11,10 +11,10 @@ use Rattle.ends.proofs.alone.Statement.{statement}
 use Rattle.ends.proofs.alone.Tie as tie
 
 abbrev Inv-loop : tie.InvT-loop
-Inv-loop longest count l places sizes order h₀ h = Tested count (markTest longest order l places sizes) h true
+Inv-loop longest lengths count l places sizes h₀ h = Tested count (markTest longest lengths l places sizes) h true
 
 abbrev μ-loop : tie.MeasureT-loop
-μ-loop longest count l places sizes order h₀ h = count - h
+μ-loop longest lengths count l places sizes h₀ h = count - h
 
 loop-holds : tie.Need-loop-holds Inv-loop μ-loop
 loop-holds c = tested-none _ _
@@ -28,6 +28,11 @@ cast-place c = let at = c .before .before in record { fits = omega (arith, at .b
 
 cast-size : tie.Need-cast-size Inv-loop μ-loop
 cast-size c = let at = c .before .before .before in record { fits = omega (arith, at .before .pre .sizes-small (at .loop .h) (search needs)) }
+
+cast-long : tie.Need-cast-long Inv-loop μ-loop
+cast-long c =
+    let at = c .before .before .before .before in
+    record { fits = omega (arith, at .before .pre .shorter (at .loop .h) (search needs), at .before .pre .longest) }
 
 add-if1 : tie.Need-add-if1 Inv-loop μ-loop
 add-if1 c =
@@ -46,7 +51,7 @@ returns c =
     let args = at .before .args in
     let pre = at .before .pre in
     tested-out _ _ (at .loop .h) (search needs)
-    (mark-fails (args .longest) (args .t2) (args .l) (args .places .now) (args .sizes .now) (at .loop .h) _ (pre .size) (pre .shorter (at .loop .h) (search needs))
+    (mark-fails (args .longest) (args .lengths .now) (args .l) (args .places .now) (args .sizes .now) (at .loop .h) _ (pre .size) (pre .shorter (at .loop .h) (search needs))
     (c .before .smaller .ensures) (c .if1 .taken))
 
 loop-again : tie.Need-loop-again Inv-loop μ-loop
@@ -55,7 +60,7 @@ loop-again c =
     let args = at .before .args in
     let pre = at .before .pre in
     tested-pass _ _ (at .loop .h) true (at .loop .inv) (search needs) true refl
-    (mark-passes (args .longest) (args .t2) (args .l) (args .places .now) (args .sizes .now) (at .loop .h) _ (pre .size) (pre .shorter (at .loop .h) (search needs))
+    (mark-passes (args .longest) (args .lengths .now) (args .l) (args .places .now) (args .sizes .now) (at .loop .h) _ (pre .size) (pre .shorter (at .loop .h) (search needs))
     (c .before .smaller .ensures) (c .if1 .left))
 
 returns-2 : tie.Need-returns-2 Inv-loop μ-loop
@@ -77,7 +82,7 @@ alone-spec =
     cast-size
     (λ c. search needs)
     (λ c. search needs)
-    (λ c. search needs)
+    cast-long
     (λ c κs. search needs)
     add-if1
     add-if1-2

@@ -10,10 +10,10 @@ use Rattle.ends.proofs.start.Statement.{statement}
 use Rattle.ends.proofs.start.Tie as tie
 
 abbrev Inv-loop : tie.InvT-loop
-Inv-loop longest count order places₀ h₀ places h = (h ≤ count) × Filled (λ k. longest - getD (order .lengths) k 0) (zeros 8) h places
+Inv-loop longest lengths count places₀ h₀ places h = (h ≤ count) × Filled (λ k. longest - getD lengths k 0) (zeros 8) h places
 
 abbrev μ-loop : tie.MeasureT-loop
-μ-loop longest count order places₀ h₀ places h = count - h
+μ-loop longest lengths count places₀ h₀ places h = count - h
 
 loop-holds : tie.Need-loop-holds Inv-loop μ-loop
 loop-holds c = (search needs, filled-none _ _)

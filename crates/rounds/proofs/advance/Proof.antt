@@ -3,19 +3,19 @@ use Prim.Native.Nat.{_-_, _≤_}
 use native.Mathlib.Omega.{arith}
 use borrow.Author.Needs.{needs}
 use Rattle.register.specs.Algorithm4.{rounds}
-use Rattle.register_step.specs.Progress.{progress}
+use Rattle.register_step.specs.Parts.{parts}
 use Rattle.rounds.specs.Rounds.{Reached, sequencesIn}
 use Rattle.rounds.proofs.Running.{all-run}
 use Rattle.rounds.proofs.advance.Statement.{statement}
 use Rattle.rounds.proofs.advance.Tie as tie
 
 abbrev Inv-loop : tie.InvT-loop
-Inv-loop f moduli longest symbols order count from to length places₀ sizes₀ discs₀ quotients₀ taps₀ saved₀ l₀ n₀ places sizes discs quotients taps saved l n =
+Inv-loop f moduli longest symbols lengths count from to length places₀ sizes₀ discs₀ quotients₀ taps₀ saved₀ l₀ n₀ places sizes discs quotients taps saved l n =
     (n ≤ to)
-    × Reached (f .p) count (rounds (f .p) longest (sequencesIn order count symbols) n) (progress l places sizes discs quotients) taps saved
+    × Reached (f .p) count (rounds (f .p) longest (sequencesIn lengths count symbols) n) (parts l places sizes discs quotients taps saved)
 
 abbrev μ-loop : tie.MeasureT-loop
-μ-loop f moduli longest symbols order count from to length places₀ sizes₀ discs₀ quotients₀ taps₀ saved₀ l₀ n₀ places sizes discs quotients taps saved l n =
+μ-loop f moduli longest symbols lengths count from to length places₀ sizes₀ discs₀ quotients₀ taps₀ saved₀ l₀ n₀ places sizes discs quotients taps saved l n =
     to - n
 
 loop-holds : tie.Need-loop-holds Inv-loop μ-loop

@@ -4,7 +4,7 @@ use Prim.Native.Nat.{_-_, _≤_}
 use native.Mathlib.Omega.{arith}
 use borrow.Author.Needs.{needs}
 use Rattle.register.specs.Algorithm4.{rounds}
-use Rattle.register_step.specs.Progress.{progress}
+use Rattle.register_step.specs.Parts.{parts}
 use Rattle.rounds.specs.Rounds.{Reached, sequencesIn}
 use Rattle.rounds.proofs.Running.{all-run, found-within}
 use Rattle.rounds.proofs.Settling.{testable, settles}
@@ -12,12 +12,12 @@ use Rattle.rounds.proofs.until_settled.Statement.{statement}
 use Rattle.rounds.proofs.until_settled.Tie as tie
 
 abbrev Inv-loop : tie.InvT-loop
-Inv-loop f moduli longest symbols order count places₀ sizes₀ discs₀ quotients₀ taps₀ saved₀ l₀ n₀ places sizes discs quotients taps saved l n =
+Inv-loop f moduli longest symbols lengths count places₀ sizes₀ discs₀ quotients₀ taps₀ saved₀ l₀ n₀ places sizes discs quotients taps saved l n =
     (n ≤ longest)
-    × Reached (f .p) count (rounds (f .p) longest (sequencesIn order count symbols) n) (progress l places sizes discs quotients) taps saved
+    × Reached (f .p) count (rounds (f .p) longest (sequencesIn lengths count symbols) n) (parts l places sizes discs quotients taps saved)
 
 abbrev μ-loop : tie.MeasureT-loop
-μ-loop f moduli longest symbols order count places₀ sizes₀ discs₀ quotients₀ taps₀ saved₀ l₀ n₀ places sizes discs quotients taps saved l n = longest - n
+μ-loop f moduli longest symbols lengths count places₀ sizes₀ discs₀ quotients₀ taps₀ saved₀ l₀ n₀ places sizes discs quotients taps saved l n = longest - n
 
 loop-holds : tie.Need-loop-holds Inv-loop μ-loop
 loop-holds c = (search needs, c .pre .1 .1 .1 .1)
@@ -38,7 +38,7 @@ is-settled-requires c κs =
 returns : tie.Need-returns Inv-loop μ-loop
 returns c =
     let at = c .before .before .before .before .before in
-    settles (at .before .pre .1 .1 .0) _ _ _ (at .loop .inv .0) (sym (c .before .is-settled .ensures) ∙ c .if2 .taken) (at .loop .inv .1)
+    settles (at .before .pre .1 .1 .0) _ (at .loop .inv .0) (sym (c .before .is-settled .ensures) ∙ c .if2 .taken) (at .loop .inv .1)
 
 advance-requires : tie.Need-advance-requires Inv-loop μ-loop
 advance-requires c κs =

@@ -44,7 +44,7 @@ element-copy-out-product-2 c = let at = c .before .before .before in omega (arit
 
 -- the product is small
 small : (c : tie.After-product Inv-loop μ-loop) → c .product .result ≤ 66049
-small c = let at = c .before .before .before .before in rw (c .product .ensures) (at .before .before .pre .products (at .loop .i))
+small c = let at = c .before .before .before .before in rw (c .product .ensures) (at .before .before .pre .products (at .loop .i) (omega (arith, at .before .padded .ensures .1)))
 
 add-sum : tie.Need-add-sum Inv-loop μ-loop
 add-sum c =
@@ -57,7 +57,7 @@ loop-again c = summed-more _ _ _ _ _ (c .before .before .before .before .loop .i
 returns : tie.Need-returns Inv-loop μ-loop
 returns c =
     let at = c .before in
-    narrow-all (at .before .before .pre) (omega (arith, at .before .padded .ensures .0)) (at .loop .inv) (omega arith)
+    narrow-all (at .before .before .pre) (omega (arith, at .before .padded .ensures .0)) (omega (arith, at .before .padded .ensures .1)) (at .loop .inv) (omega arith)
 
 pub narrow-sum-spec : {M : Type 1} → statement M
 narrow-sum-spec =

@@ -44,26 +44,29 @@ mul-b c = let at = c .before .before .before in record { fits = omega (arith, at
 element-copy-out-b : tie.Need-element-copy-out-b Inv-loop μ-loop
 element-copy-out-b c = let at = c .before .before .before in omega (arith, at .before .pre .inside, at .padded .ensures .1)
 
-near : (c : tie.In-loop Inv-loop μ-loop) → c .before .loop .i < 136
-near c = let start = c .before .before in omega (arith, start .before .pre .short, start .padded .ensures .1)
+near : (c : tie.In-loop Inv-loop μ-loop) → c .before .loop .i < c .before .before .before .args .l + 8
+near c = omega (arith, c .before .before .padded .ensures .1)
+
+few : (c : tie.In-loop Inv-loop μ-loop) → c .before .loop .i < 136
+few c = omega (arith, near c, c .before .before .before .pre .short)
 
 add-low : tie.Need-add-low Inv-loop μ-loop
 add-low c =
     let at = c .before .before .before .before in
-    record { fits = half-fits {n = 136} (omega arith) (near (c .before .before .before)) (at .loop .inv .lows) (omega (arith, c .bottom .ensures)) }
+    record { fits = half-fits {n = 136} (omega arith) (few (c .before .before .before)) (at .loop .inv .lows) (omega (arith, c .bottom .ensures)) }
 
 add-high : tie.Need-add-high Inv-loop μ-loop
 add-high c =
     let at = c .before .before .before .before .before in
-    let small : c .top .result < 65536 = rw (c .top .ensures) (top-small (at .before .before .pre) (at .loop .i)) in
-    record { fits = half-fits {n = 136} (omega arith) (near (c .before .before .before .before)) (at .loop .inv .highs) small }
+    let small : c .top .result < 65536 = rw (c .top .ensures) (top-small (at .before .before .pre) (at .loop .i) (near (c .before .before .before .before))) in
+    record { fits = half-fits {n = 136} (omega arith) (few (c .before .before .before .before)) (at .loop .inv .highs) small }
 
 loop-again : tie.Need-loop-again Inv-loop μ-loop
 loop-again c =
     let at = c .before .before .before .before .before in
     let top = c .top .ensures in
     halved-more _ _ (at .loop .i) (at .loop .low) (at .loop .high) (at .loop .inv) (omega arith) (c .before .bottom .ensures) top
-    (rw top (top-small (at .before .before .pre) (at .loop .i)))
+    (rw top (top-small (at .before .before .pre) (at .loop .i) (near (c .before .before .before .before))))
 
 mul-wide-remainder : tie.Need-mul-wide-remainder Inv-loop μ-loop
 mul-wide-remainder c = record { fits = omega arith }
@@ -79,7 +82,7 @@ wide-remainder-requires c κs =
     record {
       positive = omega (arith, taken .two-or-more);
       modulus = taken .modulus;
-      quotient = sum-quotient _ (taken .modulus) (whole-below pre (omega (arith, at .before .padded .ensures .0)) (at .loop .inv) (omega arith));
+      quotient = sum-quotient _ (taken .modulus) (whole-below pre (omega (arith, at .before .padded .ensures .0)) (omega (arith, at .before .padded .ensures .1)) (at .loop .inv) (omega arith));
       reciprocal = pre .modulus .wide;
     }
 
@@ -87,7 +90,7 @@ returns : tie.Need-returns Inv-loop μ-loop
 returns c =
     let at = c .before .before in
     c .wide-remainder .ensures .0 ∙ ap (λ (x : ℕ). x % at .before .before .args .f .p)
-    (whole (at .before .before .pre) (omega (arith, at .before .padded .ensures .0)) (at .loop .inv) (c .before .loop-test .left))
+    (whole (at .before .before .pre) (omega (arith, at .before .padded .ensures .0)) (omega (arith, at .before .padded .ensures .1)) (at .loop .inv) (c .before .loop-test .left))
 
 pub wide-sum-spec : {M : Type 1} → statement M
 wide-sum-spec =

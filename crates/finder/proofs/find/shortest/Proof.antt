@@ -19,13 +19,13 @@ abbrev start-of : tie.After-worked-out → tie.Start
 start-of c = c .before .before .before .before
 
 abbrev longest-before : tie.After-rounds → tie.After-longest
-longest-before c = c .before .before .before .before .before .before .before .before .before .before .before .before .before
+longest-before c = c .before .before .before .before .before .before .before .before .before .before .before .before .before .before .before .before
 
 abbrev sorted-before : tie.After-rounds → tie.After-by-length
-sorted-before c = c .before .before .before .before .before .before .before .before .before .before .before .before
+sorted-before c = c .before .before .before .before .before .before .before .before .before .before .before .before .before .before .before
 
 abbrev turned-before : tie.After-rounds → tie.After-all-backwards
-turned-before c = c .before .before .before .before .before .before .before .before .before .before .before
+turned-before c = c .before .before .before .before .before .before .before .before .before .before .before .before .before .before
 
 -- ---- what is known of the input, of the modulus as it is worked out
 
@@ -52,24 +52,27 @@ all-backwards-requires : tie.Need-all-backwards-requires
 all-backwards-requires c κs = reversible (fine-at (c .before .before)) (c .before .longest .ensures) (c .by-length .ensures)
 
 start-requires : tie.Need-start-requires
-start-requires c κs = startable (fine-at (c .before .before .before)) (c .before .before .longest .ensures) (c .before .by-length .ensures)
+start-requires c κs = startable (fine-at (c .before .before .before .before .before)) (c .before .before .before .before .longest .ensures) (c .before .before .before .by-length .ensures)
 
 cast-quotients : tie.Need-cast-quotients
 cast-quotients c =
-    let worked = c .before .before .before .before .before .worked-out .ensures .1 in
-    let t = worked .taken in
-    record { fits = rw (worked .unit) (omega (arith, mod-lt 65536 (let e : 0 < c .before .before .before .before .before .worked-out .result .p = omega (arith, t .two-or-more) in e), t .modulus)) }
+    let worked = c .before .before .before .before .before .before .before .worked-out in
+    let t = worked .ensures .1 .taken in
+    let positive : 0 < worked .result .p = omega (arith, t .two-or-more) in
+    record { fits = rw (worked .ensures .1 .unit) (omega (arith, mod-lt 65536 positive, t .modulus)) }
 
 rounds-requires : tie.Need-rounds-requires
 rounds-requires c κs =
-    let worked = c .before .before .before .before .before .before .before .before .before .before .before .before .before in
-    let r = running (fine-at worked) (c .before .before .before .before .before .before .before .before .before .before .before .before .longest .ensures) (c .before .before .before .before .before .before .before .before .before .before .before .by-length .ensures) (c .before .before .before .before .before .before .before .before .before .before .all-backwards .ensures) in
+    let turned = c .before .before .before .before .before .before .before .before .before .before .before .before .before in
+    let sorted = turned .before in
+    let worked = sorted .before .before in
+    let r = running (fine-at worked) (sorted .before .longest .ensures) (sorted .by-length .ensures) (turned .all-backwards .ensures) in
     let known = worked .worked-out .ensures in
     let p = start-of worked .args .p in (
       known .1,
       (
         record { width = length-replicate {A = ℕ} 144 p; each = λ i b. getD-replicate {A = ℕ} 144 i p 0 b ∙ sym (known .0) },
-        (r, reached-start r (c .before .before .before .before .before .before .before .before .before .start .ensures) (known .1 .unit)),
+        (r, reached-start r (c .before .before .before .before .before .before .before .before .before .before .start .ensures) (known .1 .unit)),
       ),
     )
 
@@ -92,20 +95,20 @@ part-copy-end-2 c =
 
 alone-requires : tie.Need-alone-requires
 alone-requires c κs =
-    let ran = c .before .before .before .before .before .before .before .before in
+    let ran = c .before .before .before .before .before .before .before .before .before in
     markable (fine-at (longest-before ran .before)) (longest-before ran .longest .ensures) (sorted-before ran .by-length .ensures)
     (turned-before ran .all-backwards .ensures) (ran .rounds .ensures)
 
 returns : tie.Need-returns
 returns c =
-    let ran = c .before .before .before .before .before .before .before .before .before in
+    let ran = c .before .before .before .before .before .before .before .before .before .before in
     let worked = longest-before ran .before in
     let at = start-of worked in
     let same = worked .worked-out .ensures .0 in
     let passes = subst (λ (q : ℕ). outcome (tests q (at .args .lengths .now) (at .args .symbols .now) (length (at .args .taps .now))) ≡ passed) (sym same) (at .pre) in
     finds-same same
     (finds (fine-at worked) (longest-before ran .longest .ensures) (sorted-before ran .by-length .ensures) (turned-before ran .all-backwards .ensures)
-    (ran .rounds .ensures) passes (ran .rounds .result + 1 - 0) (c .alone .ensures) (omega arith) (c .before .before .before .before .before .copy .ensures))
+    (ran .rounds .ensures) passes (ran .rounds .result + 1 - 0) (c .alone .ensures) (omega arith) (c .before .before .before .before .before .before .copy .ensures))
 
 pub shortest-spec : {M : Type 1} → statement M
 shortest-spec =

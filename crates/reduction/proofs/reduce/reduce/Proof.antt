@@ -65,7 +65,7 @@ returns-2 c =
     let worked = start .pre .0 .modulus in
     let padded = c .before .padded .ensures in
     λ over told.
-    less-reduced p (args .f .inverse) (worked .inverse (at .before .if1 .left)) (start .pre .1) (c .take-off .ensures) (omega (arith, padded .0))
+    less-reduced p (args .f .inverse) (worked .inverse (at .before .if1 .left)) (start .pre .1) (c .take-off .ensures) (omega (arith, padded .0)) (omega (arith, padded .1))
     (omega (arith, padded .1, start .pre .1 .reach)) (quotient p (args .sum % p) over)
     (at .factor .ensures .0 ∙ sym (mod-mul-mod (args .sum) p (args .over)) ∙ quotient-unit p (args .sum % p) over told)
 

@@ -50,7 +50,7 @@ loop-again c =
     let y = getD (args .saved .now) (args .h * 144 + i) 0 in (
       search needs,
       turn-reduces 2 143 (args .taps .now) (args .q) (args .e) (take (suc (args .m)) (block (args .h) (args .saved .now))) i (at .loop .inv .1)
-          (omega (arith, r .reach)) (r .residues (args .e + i)) (saved-at (args .saved .now) (args .h) (args .m) i (r .zeros) (omega (arith, r .reach)))
+          (omega (arith, r .reach)) (r .residues (args .e + i)) (saved-at (args .saved .now) (args .h) (args .m) i (r .zeros) (omega arith) (omega (arith, r .reach)))
           (c .difference .ensures .0 ∙ ap (λ (x : ℕ). minus 2 (getD (at .loop .taps) (args .e + i) 0) x) (mul-mod-mod (args .q) y 2)),
     )
 

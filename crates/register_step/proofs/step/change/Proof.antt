@@ -1,73 +1,56 @@
--- `change` makes the change of Algorithm 4 on the arrays.
+-- `change` makes the change of the parts.
 use mathlib.Core.Path.{ap, _∙_}
 use Prim.Native.Nat.{ℕ, _<_}
 use native.Mathlib.Nat.{mod-lt}
 use native.Mathlib.Omega.{arith}
 use borrow.Author.Needs.{needs}
 use Rattle.field.specs.Residue.{quotient as quotientOf}
-use Rattle.register_step.specs.Progress.{stateOf}
-use Rattle.register_step.proofs.Change.{by-sum, over-less, reducible, growable, stays, grows, saved-stays, saved-grows}
+use Rattle.register_step.proofs.Change.{by-sum, over-less, reducible, changed-stays, changed-grows}
 use Rattle.register_step.proofs.step.change.Statement.{statement}
 use Rattle.register_step.proofs.step.change.Tie as tie
 
 cast-place : tie.Need-cast-place
-unfolding stateOf
-cast-place c = let a = c .before .pre .1 .1 .1 .0 in record { fits = omega (arith, a .place, a .round) }
+cast-place c = let a = c .before .pre .1 .1 .1 in record { fits = omega (arith, a .place, a .round) }
 
 cast-size : tie.Need-cast-size
-unfolding stateOf
-cast-size c = let a = c .before .before .pre .1 .1 .1 .0 in record { fits = omega (arith, a .saved-size, a .place, a .round) }
+cast-size c = let a = c .before .before .pre .1 .1 .1 in record { fits = omega (arith, a .readable .saved-size, a .place, a .round) }
 
 sub-e : tie.Need-sub-e
-unfolding stateOf
-sub-e c = c .before .before .pre .1 .1 .1 .0 .place
+sub-e c = c .before .before .pre .1 .1 .1 .place
 
 add-if1 : tie.Need-add-if1
-unfolding stateOf
-add-if1 c = let a = c .before .before .pre .1 .1 .1 .0 in record { fits = omega (arith, a .saved-size, a .place, a .round) }
+add-if1 c = let a = c .before .before .pre .1 .1 .1 in record { fits = omega (arith, a .readable .saved-size, a .place, a .round) }
 
 add-if1-2 : tie.Need-add-if1-2
-unfolding stateOf
-add-if1-2 c = let a = c .before .before .pre .1 .1 .1 .0 in record { fits = omega (arith, a .place, a .round, a .size) }
+add-if1-2 c = let a = c .before .before .pre .1 .1 .1 in record { fits = omega (arith, a .place, a .round, a .size) }
 
 -- what the modulus is
 positive-at : (c : tie.Start) → 0 < c .args .f .p
 positive-at c = omega (arith, c .pre .0 .taken .two-or-more)
 
 reduce-requires : tie.Need-reduce-requires
-unfolding stateOf
 reduce-requires c κs =
     let at = c .before .before .before .before .before .before in
     let pre = at .pre in
-    let a = pre .1 .1 .1 .0 in
-    let z = pre .1 .1 .1 .1 in
-    (record { modulus = pre .0; lent = pre .1 .0; loose = pre .1 .1 .0 .0; residue = over-less (positive-at at) a z }, reducible (positive-at at) a z)
+    let a = pre .1 .1 .1 in
+    (record { modulus = pre .0; lent = pre .1 .0; loose = pre .1 .1 .0 .0; residue = over-less (positive-at at) a }, reducible (positive-at at) a)
 
 returns : tie.Need-returns
-unfolding stateOf
 returns c =
     let at = c .before .before .before .before .before .before .before in
-    let a = at .pre .1 .1 .1 .0 in
-    let z = at .pre .1 .1 .1 .1 in
-    let short = c .before .before .before .before .if1 .taken in (
-      stays (positive-at at) a z (by-sum (positive-at at) a z _ (at .pre .1 .1 .0 .1) (c .reduce .ensures _ (z .quotients _ (a .sequence)))) short,
-      saved-stays (positive-at at) a z short,
-    )
+    let a = at .pre .1 .1 .1 in
+    changed-stays _ _ _ _ _ (by-sum (positive-at at) a _ (at .pre .1 .1 .0 .1) (c .reduce .ensures _ (a .readable .quotient)))
+    (c .before .before .before .before .if1 .taken)
 
 reduce-keeping-requires : tie.Need-reduce-keeping-requires
-unfolding stateOf
 reduce-keeping-requires c κs =
     let at = c .before .before .before .before .before .before in
     let pre = at .pre in
-    let a = pre .1 .1 .1 .0 in
-    let z = pre .1 .1 .1 .1 in (
-      record { modulus = pre .0; lent = pre .1 .0; loose = pre .1 .1 .0 .0; residue = over-less (positive-at at) a z },
-      (reducible (positive-at at) a z, growable (positive-at at) a z),
-    )
+    let a = pre .1 .1 .1 in
+    (record { modulus = pre .0; lent = pre .1 .0; loose = pre .1 .1 .0 .0; residue = over-less (positive-at at) a }, reducible (positive-at at) a)
 
 cast-sizes : tie.Need-cast-sizes
-unfolding stateOf
-cast-sizes c = let a = c .before .before .before .before .before .before .before .pre .1 .1 .1 .0 in record { fits = omega (arith, a .size, a .round) }
+cast-sizes c = let a = c .before .before .before .before .before .before .before .pre .1 .1 .1 in record { fits = omega (arith, a .size, a .round) }
 
 quotient-requires : tie.Need-quotient-requires
 quotient-requires c κs =
@@ -79,30 +62,25 @@ quotient-requires c κs =
           record {
             modulus = f .taken .modulus;
             factor = rw (f .unit) (mod-lt 65536 (positive-at at));
-            base = at .pre .1 .1 .1 .0 .discrepancy;
+            base = at .pre .1 .1 .1 .discrepancy;
             reciprocal = f .reciprocal;
           };
     }
 
 add-result : tie.Need-add-result
-unfolding stateOf
 add-result c =
-    let a = c .before .before .before .before .before .before .before .before .pre .1 .1 .1 .0 in
-    record { fits = omega (arith, a .saved-size, a .place, a .round) }
+    let a = c .before .before .before .before .before .before .before .before .pre .1 .1 .1 in
+    record { fits = omega (arith, a .readable .saved-size, a .place, a .round) }
 
 returns-2 : tie.Need-returns-2
-unfolding stateOf
 returns-2 c =
     let kept = c .before in
     let at = kept .before .before .before .before .before .before .before in
-    let a = at .pre .1 .1 .1 .0 in
-    let z = at .pre .1 .1 .1 .1 in
-    let long = kept .before .before .before .before .if1 .left in
-    let put-in = kept .reduce-keeping .ensures .1 in (
-      grows (positive-at at) a z (by-sum (positive-at at) a z _ (at .pre .1 .1 .0 .1) (kept .reduce-keeping .ensures .0 _ (z .quotients _ (a .sequence))))
-          (c .quotient .ensures .0 ∙ ap (λ (x : ℕ). quotientOf (at .args .f .p) x (at .args .d)) (at .pre .0 .unit)) put-in long,
-      saved-grows (positive-at at) a z put-in long,
-    )
+    let a = at .pre .1 .1 .1 in
+    changed-grows _ _ _ _ _
+    (by-sum (positive-at at) a _ (at .pre .1 .1 .0 .1) (kept .reduce-keeping .ensures .0 _ (a .readable .quotient)))
+    (c .quotient .ensures .0 ∙ ap (λ (x : ℕ). quotientOf (at .args .f .p) x (at .args .d)) (at .pre .0 .unit))
+    (kept .reduce-keeping .ensures .1) (kept .before .before .before .before .if1 .left)
 
 pub change-spec : {M : Type 1} → statement M
 change-spec =

@@ -3,27 +3,32 @@ use mathlib.Core.Path.{refl, sym, _∙_}
 use mathlib.Core.Bool.{Bool, true}
 use mathlib.Core.List.{List}
 use Prim.Native.Nat.{ℕ, _-_}
+use native.Mathlib.Omega.{arith}
 use borrow.Author.Needs.{needs}
 use borrow.Author.Tests.{not-true, not-false}
 use lib.ListN.{getD}
 use Rattle.lists.proofs.Testing.{Tested, tested-none, tested-pass, tested-out, tested-all}
-use Rattle.sequences.specs.declared.Order.{Order}
 use Rattle.settled.specs.Settled.{settledIn, settled}
 use Rattle.settled.proofs.test.is_settled.Statement.{statement}
 use Rattle.settled.proofs.test.is_settled.Tie as tie
 
 -- whether it is settled in sequence h
-abbrev test : (p l : ℕ) (taps symbols : List ℕ) → Order → (left h : ℕ) → Bool
-test p l taps symbols order left h = settledIn p l taps symbols h (getD (order .lengths) h 0) left
+abbrev test : (p l : ℕ) (taps symbols lengths : List ℕ) (left h : ℕ) → Bool
+test p l taps symbols lengths left h = settledIn p l taps symbols h (getD lengths h 0) left
 
 abbrev Inv-loop : tie.InvT-loop
-Inv-loop f moduli l taps symbols count left order h₀ h = Tested count (test (f .p) l taps symbols order left) h true
+Inv-loop f moduli l taps symbols lengths count left h₀ h = Tested count (test (f .p) l taps symbols lengths left) h true
 
 abbrev μ-loop : tie.MeasureT-loop
-μ-loop f moduli l taps symbols count left order h₀ h = count - h
+μ-loop f moduli l taps symbols lengths count left h₀ h = count - h
 
 loop-holds : tie.Need-loop-holds Inv-loop μ-loop
 loop-holds c = tested-none _ _
+
+cast-long : tie.Need-cast-long Inv-loop μ-loop
+cast-long c =
+    let at = c .before .before in
+    record { fits = omega (arith, at .before .pre .1 (at .loop .h) (search needs) .shorter) }
 
 is-settled-in-requires : tie.Need-is-settled-in-requires Inv-loop μ-loop
 is-settled-in-requires c κs = c .before .before .before .pre .1 (c .before .before .loop .h) (c .before .loop-test .taken)
@@ -53,7 +58,7 @@ is-settled-spec =
     loop-holds
     (λ c. search needs)
     (λ c. search needs)
-    (λ c. search needs)
+    cast-long
     is-settled-in-requires
     returns
     (λ c. search needs)

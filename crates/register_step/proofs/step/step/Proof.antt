@@ -1,0 +1,42 @@
+-- `step` makes a step on the parts.
+use mathlib.Core.Path.{sym, _∙_}
+use Prim.Native.Nat.{_<_}
+use native.Mathlib.Nat.{mod-lt}
+use native.Mathlib.Omega.{arith}
+use borrow.Author.Needs.{needs}
+use Rattle.register_step.proofs.Steps.{ending, changeable, step-rests, step-changes}
+use Rattle.register_step.proofs.step.step.Statement.{statement}
+use Rattle.register_step.proofs.step.step.Tie as tie
+
+due-requires : tie.Need-due-requires
+due-requires c κs = let pre = c .before .pre in (pre .0, (ending (pre .1 .1 .readable), pre .1 .1 .reach))
+
+returns : tie.Need-returns
+returns c = step-rests _ _ _ _ _ _ (c .before .residue .ensures ∙ c .before .before .due .ensures .0) (c .if1 .taken)
+
+change-requires : tie.Need-change-requires
+change-requires c κs =
+    let tested = c .before .before .before .before .before .before in
+    let reduced = tested .before in
+    let start = reduced .before .before .before in
+    let pre = start .pre in
+    let d = reduced .residue .ensures in
+    let positive : 0 < start .args .f .p = omega (arith, pre .0 .taken .two-or-more) in (
+      pre .0,
+      (
+        pre .1 .0,
+        (
+          (reduced .before .due .ensures .1, sym d),
+          changeable (pre .1 .1) (rw d (mod-lt (reduced .before .due .result) positive)) (d ∙ reduced .before .due .ensures .0) (tested .if1 .left),
+        ),
+      ),
+    )
+
+returns-2 : tie.Need-returns-2
+returns-2 c =
+    let tested = c .before .before .before .before .before .before .before in
+    let reduced = tested .before in
+    c .change .ensures ∙ step-changes _ _ _ _ _ _ (reduced .residue .ensures ∙ reduced .before .due .ensures .0) (tested .if1 .left)
+
+pub step-spec : {M : Type 1} → statement M
+step-spec = tie.close (tie.spec due-requires (λ c κs. search needs) returns change-requires returns-2)
