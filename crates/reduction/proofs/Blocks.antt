@@ -13,7 +13,7 @@ use Rattle.lists.proofs.Parts.{length-replaced, part-replaced, replaced-before,
 use Rattle.reduction.specs.Reductions.{ZerosAfter, block}
 
 -- entry i of the m + 1 taps that are saved for h, or 0 past them
-pub saved-at : (saved : List ℕ) (h m i : ℕ) → ZerosAfter saved h m → i < m + 8 → i < 144 → getD saved (h * 144 + i) 0 ≡ getD (take (suc m) (block h saved)) i 0
+pub saved-at : (saved : List ℕ) (h m i : ℕ) → ZerosAfter saved h m → i ≤ m + 8 → i < 144 → getD saved (h * 144 + i) 0 ≡ getD (take (suc m) (block h saved)) i 0
 saved-at saved h m i zeros near inside = pick (decLt m i)
   where
     pick : Dec (m < i) → getD saved (h * 144 + i) 0 ≡ getD (take (suc m) (block h saved)) i 0

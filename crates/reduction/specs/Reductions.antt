@@ -13,7 +13,7 @@ block h saved = take 144 (drop (h * 144) saved)
 
 -- zeros follow entry m of block h, as far as a loop over a multiple of 8 entries can go
 abbrev pub ZerosAfter : (saved : List ℕ) (h m : ℕ) → Type 0
-ZerosAfter saved h m = (i : ℕ) → m < i → i < m + 8 → getD saved (h * 144 + i) 0 ≡ 0
+ZerosAfter saved h m = (i : ℕ) → m < i → i ≤ m + 8 → getD saved (h * 144 + i) 0 ≡ 0
 
 -- the taps, residues modulo p, can be reduced by the m + 1 taps saved for h, moved by e
 pub record Reducible (p : ℕ) (taps : List ℕ) (e m : ℕ) (saved : List ℕ) (h : ℕ) : Type 0 where

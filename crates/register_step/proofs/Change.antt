@@ -18,7 +18,7 @@ use Rattle.lists.specs.Parts.{replaced}
 use Rattle.register.proofs.Cases.{changed-cases, grown, stayed}
 use Rattle.register.specs.Algorithm4.{Saved, State, changed, withSaved}
 use Rattle.register_step.specs.Parts.{Parts, parts, Whole, stateOf, reducedTaps, stayedParts, grownParts, changedParts, Ended, Changeable, Stepped}
-use Rattle.reduction.specs.Reductions.{Reducible, block}
+use Rattle.reduction.specs.Reductions.{Reducible, ZerosAfter, block}
 use Rattle.reduction.proofs.Blocks.{block-replaced, block-other, replaced-whole, replaced-entry, other-entry}
 use Rattle.discrepancy.proofs.Reduction.{minus-zero, shifted-past}
 
@@ -187,6 +187,7 @@ module _ {p n h d : ℕ} {x : Parts} (positive : 0 < p) (c : Changeable p n h d 
                     saved = z .whole .saved;
                   };
               zeros = zeros-past (x .length) (omega arith) (omega (arith, bounds));
+              short = z .short;
               saved-zeros = z .saved-zeros;
               quotients = z .quotients;
             };
@@ -238,8 +239,15 @@ module _ {p n h d : ℕ} {x : Parts} (positive : 0 < p) (c : Changeable p n h d 
       pick (no ne) =
           rw (getD-set-other (x .discs) h k d 0 ne) (getD-set-other (x .quotients) h k (quotient p (65536 % p) d) 0 ne ∙ z .quotients k b)
 
-  zeros-kept : (k : ℕ) → k < 8 → (i : ℕ) → getD (grown-parts .sizes) k 0 < i → i < 144 → getD (grown-parts .saved) (k * 144 + i) 0 ≡ 0
-  zeros-kept k b i past small = pick (ℕ-discrete k h)
+  short-kept : (k : ℕ) → k < 8 → getD (grown-parts .sizes) k 0 ≤ 128
+  short-kept k b = pick (ℕ-discrete k h)
+    where
+      pick : Dec (k ≡ h) → getD (grown-parts .sizes) k 0 ≤ 128
+      pick (yes same) = rw (same, getD-set-same (x .sizes) h (x .length) 0 (omega (arith, bounds, z .whole .sizes))) (omega (arith, bounds))
+      pick (no ne) = rw (getD-set-other (x .sizes) h k (x .length) 0 ne) (z .short k b)
+
+  zeros-kept : (k : ℕ) → k < 8 → ZerosAfter (grown-parts .saved) k (getD (grown-parts .sizes) k 0)
+  zeros-kept k b i past near = pick (ℕ-discrete k h)
     where
       pick : Dec (k ≡ h) → getD (grown-parts .saved) (k * 144 + i) 0 ≡ 0
       pick (yes same) =
@@ -247,10 +255,12 @@ module _ {p n h d : ℕ} {x : Parts} (positive : 0 < p) (c : Changeable p n h d 
           rw same (getD-set-same (x .sizes) h (x .length) 0 (omega (arith, bounds, z .whole .sizes)))
           in
           rw same
-          (replaced-entry h (x .taps) (x .saved) (z .whole .taps) (z .whole .saved) (c .readable .sequence) i small ∙ z .zeros i (omega (arith, size-is)))
+          (replaced-entry h (x .taps) (x .saved) (z .whole .taps) (z .whole .saved) (c .readable .sequence) i (omega (arith, short-kept k b))
+          ∙ z .zeros i (omega (arith, size-is)))
       pick (no ne) =
-          other-entry h (x .taps) (x .saved) (z .whole .taps) (z .whole .saved) (c .readable .sequence) k ne i small
-          ∙ z .saved-zeros k b i (omega (arith, getD-set-other (x .sizes) h k (x .length) 0 ne)) small
+          let same = getD-set-other (x .sizes) h k (x .length) 0 ne in
+          other-entry h (x .taps) (x .saved) (z .whole .taps) (z .whole .saved) (c .readable .sequence) k ne i (omega (arith, short-kept k b))
+          ∙ z .saved-zeros k b i (omega (arith, same)) (omega (arith, same))
 
   grows : place + x .length < n + size → Stepped p (changed p n h d (stateOf x)) grown-parts
   unfolding stateOf
@@ -270,6 +280,7 @@ module _ {p n h d : ℕ} {x : Parts} (positive : 0 < p) (c : Changeable p n h d 
                     saved = replaced-whole h (x .taps) (x .saved) (z .whole .taps) (z .whole .saved) (c .readable .sequence);
                   };
               zeros = zeros-past (n + size - place) (omega (arith, bounds)) (omega (arith, bounds));
+              short = short-kept;
               saved-zeros = zeros-kept;
               quotients = quotients-kept;
             };

@@ -80,8 +80,7 @@ module _ {p N : ℕ} {s : List ℕ} {n h : ℕ} {x : Parts} (positive : 0 < p) (
         residues = λ i. rw (← own-taps p (x .length) (x .taps) (z .zeros) 0 0 [] i) (ready .residues i);
         zeros = λ i past _. z .zeros i past;
         saved-size = ready .saved-size;
-        saved-zeros = λ i past near.
-            z .saved-zeros h (ready .sequence) i past (omega (arith, ready .saved-size, ready .place, ready .round, ready .longest));
+        saved-zeros = z .saved-zeros h (ready .sequence);
         quotient = z .quotients h (ready .sequence);
       }
 

@@ -108,11 +108,12 @@ pub record Whole (x : Parts) : Type 0 where
   pub taps : length (x .taps) ≡ 144
   pub saved : length (x .saved) ≡ 1152
 
--- the arrays are whole, zeros follow the register and the saved ones, and beside each discrepancy stands 2^16 over it
+-- the arrays are whole, only zeros follow the register, a few follow each of the saved ones, and beside each discrepancy stands 2^16 over it
 pub record Ended (p : ℕ) (x : Parts) : Type 0 where
   pub whole : Whole x
   pub zeros : (i : ℕ) → x .length < i → getD (x .taps) i 0 ≡ 0
-  pub saved-zeros : (h : ℕ) → h < 8 → (i : ℕ) → getD (x .sizes) h 0 < i → i < 144 → getD (x .saved) (h * 144 + i) 0 ≡ 0
+  pub short : (h : ℕ) → h < 8 → getD (x .sizes) h 0 ≤ 128
+  pub saved-zeros : (h : ℕ) → h < 8 → ZerosAfter (x .saved) h (getD (x .sizes) h 0)
   pub quotients : (h : ℕ) → h < 8 → getD (x .quotients) h 0 ≡ quotient p (65536 % p) (getD (x .discs) h 0)
 
 -- what holds of the state whenever a step (n, h) is made: nothing overflows and no index is out of range

@@ -70,7 +70,8 @@ module _ {p N : ℕ} {lengths : List ℕ} {k : ℕ} {blocks : List ℕ} (r : Run
                     saved = length-replicate {A = ℕ} 1152 0;
                   };
               zeros = λ i past. getD-set-other {A = ℕ} (replicate 144 0) 0 i 1 0 (λ e. omega (arith, e)) ∙ replicate-each (λ (x : ℕ). x ≡ 0) 0 refl 144 i;
-              saved-zeros = λ h b i past small. getD-replicate {A = ℕ} 1152 (h * 144 + i) 0 0 (omega arith);
+              short = λ h b. omega (arith, getD-replicate {A = ℕ} 8 h 0 0 b);
+              saved-zeros = λ h b i past near. getD-replicate {A = ℕ} 1152 (h * 144 + i) 0 0 (omega (arith, getD-replicate {A = ℕ} 8 h 0 0 b));
               quotients = λ h b. getD-replicate 8 h u 0 b ∙ unit ∙ sym (ap (quotient p (65536 % p)) (getD-replicate {A = ℕ} 8 h 1 0 b) ∙ over-one (r .two-or-more));
             };
       }
