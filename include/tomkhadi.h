@@ -4,17 +4,27 @@
  * that the documentation gives it; 0 means that nothing is refused. Nothing here allocates, blocks or keeps state: what a call knows stands in the job
  * and in what is lent. A pointer must be valid for the count of 16-bit numbers that follows it, `declared` for 32 64-bit numbers, and what is written must
  * not overlap the job or anything else lent. Lend no null pointer, not even with the count 0. The job itself is written: do not lend the `declared` of a job
- * to its own locate.
+ * to its own locate or start.
  *
- * The calls on a job, which is empty, shaped or located: what each wants, and how it leaves the job
+ * The calls on a job, which is empty, shaped, unfinished or located: what each wants, and how it leaves the job
  *   tomkhadi_empty    wants nothing; the job is empty, whatever it was
- *   tomkhadi_shape    wants nothing; the job is shaped, whatever it was, and nothing is located any more
- *   tomkhadi_encode   wants a job that is shaped or located, and makes a frame legal; the job is as it was
- *   tomkhadi_locate   wants a job that is shaped or located, and finds the damaged columns of a frame, some of whose cells may be declared lost; the job
- *                     is located by this frame, with these cells
+ *   tomkhadi_shape    wants nothing; the job is shaped, whatever it was, and nothing is located or unfinished any more
+ *   tomkhadi_encode   wants a job that is not empty, and makes a frame legal; the job is as it was
+ *   tomkhadi_locate   wants a job that is not empty, and finds the damaged columns of a frame, some of whose cells may be declared lost; the job is
+ *                     located by this frame, with these cells
+ *   tomkhadi_start    wants a job that is not empty, and begins the same in slices; the job is unfinished, or located where there is no step to make
+ *   tomkhadi_step     wants a job that is unfinished, and makes one slice; the job is still unfinished, or located after the last step
+ *   tomkhadi_peek     wants a job that is unfinished, and tells how long the register is so far; the job is as it was
  *   tomkhadi_repair   wants a job that is located, and a frame with the check sums of the frame that it is located by, and mends it; the job is shaped
- * A refused call writes nothing to what is lent and leaves the job as it was, but that locate refused by 24, 25 or 26 leaves it shaped. So between a locate
- * and its repair there may be encodes, and calls that are refused by other numbers.
+ * A refused call writes nothing to what is lent and leaves the job as it was, but that locate and step refused by 24, 25 or 26 leave it shaped. So between a
+ * locate and its repair there may be encodes, and calls that are refused by other numbers.
+ *
+ * Locating in slices is for a caller that can spare little at a time. The start copies the check sums, and the frame is not read again before the repair. It
+ * takes exactly N x rows steps, N being the longest sequence: the largest number of checks that a row has, less its declared cells. All steps but the last
+ * answer that the locate is unfinished, and the last one answers and leaves what a locate of the copied sums would have. A peek after n finished rounds, which
+ * is n x rows steps and up to the next, tells the length of the shortest register for the sequences without their last N - n symbols, empty where they have
+ * no more. An unfinished job counts as shaped: encode takes it, repair is refused by 22, and shape, locate or another start drops what is unfinished, unless
+ * a refusal leaves the job as it was.
  *
  * Two calls take no job: tomkhadi_find finds the shortest register of any sequences, and tomkhadi_search the columns that the taps of a register name.
  *
@@ -28,11 +38,11 @@
  * a damaged column two: where 2*w plus a row's declared cells is within its checks for each row, w being the columns damaged in other cells, repair gives back
  * what was sent.
  *
- * The search for the columns that a register names goes up from column 0, and ends as soon as it has found as many as the register is long. Locate and search
- * tell how many columns it tried: none where the length is 0, else those up to and with the last one found, or all where fewer are named.
+ * The search for the columns that a register names goes up from column 0, and ends as soon as it has found as many as the register is long. Locate, the last
+ * step and search tell how many columns it tried: none where the length is 0, else those up to and with the last one found, or all where fewer are named.
  *
  * What is proved: the functions of the archive do what is said here, whatever they are given (crates/capi/src). The calls on a job are inline functions of
- * one to three lines over them, and C is not proved: that such lines, in a list of any length, do what is said here is proved of their description
+ * one to four statements over them, and C is not proved: that such statements, in a list of any length, do what is said here is proved of their description
  * (crates/capi/specs/Runs.antt), and that they are as described is tested (tests/src/prototypes.c, and all of tests/src/trials).
  *
  * Refusals because of the input
@@ -51,9 +61,10 @@
  *   21  the job is empty
  *   22  repair of a job that is not located
  *   23  repair of a frame whose check sums differ from those located
- *   24  locate: the shortest register is not alone
+ *   24  locate, and the last step of one in slices, as in 25 and 26: the shortest register is not alone
  *   25  locate: it is alone, and some row has fewer checks, less its declared cells, than its length
  *   26  locate: neither of these, and no legal frame lies at a distance of that length, counted in columns that differ in cells not declared
+ *   33  step or peek of a job that is not unfinished
  */
 #ifndef TOMKHADI_H
 #define TOMKHADI_H
@@ -92,7 +103,7 @@ typedef struct {
  * marked. Where all are 0 every column is named, and the first c are marked, or all where there are fewer. Refusals in this order: 5, 4. */
 tomkhadi_columns tomkhadi_search(size_t columns, const uint16_t *taps, size_t tap_count);
 
-/* The head of a job. phase: 0 empty, 1 shaped, 2 located; any other number counts as empty. */
+/* The head of a job. phase: 0 empty, 1 shaped, 2 located, 3 unfinished; any other number counts as empty. */
 typedef struct {
   uint32_t phase;
   uint32_t alone;
@@ -106,25 +117,45 @@ typedef struct {
 
 /* A job. Treat it as opaque: make it empty, then hand it from call to call. One of zeros is empty. Any other value is safe too: it counts as empty, and
  * may be left as another that does, unless the numbers of its head are in their ranges (a shape that is not refused, its exponent 255 at most; where it is
- * located, alone is 1, `length` columns are marked, all below `columns`, and no row has fewer checks than `length`). The arrays hold what the last locate found
- * that was not refused, and the cells declared to it, and play a part only where the job is located: it counts as shaped where its cells would be refused
- * by 31, or leave some row fewer checks than `length`. */
+ * located, alone is 1, `length` columns are marked, all below `columns`, and no row has fewer checks than `length`). The arrays up to the taps hold what the
+ * last locate or start found that was not refused, and the cells declared to it; those after them are of a locate in slices. They play a part only where the
+ * job is located or unfinished. A located job counts as shaped where its cells would be refused by 31, or leave some row fewer checks than `length`. An
+ * unfinished one counts as shaped, and step and peek are refused by 33, where the next step would read what no start and no step leaves, such as a count out
+ * of its range or a symbol that is not below 257, or where it is the last step and a sum is not below 257 or the cells would be refused by 31. Other values
+ * are not told from those that calls leave, and give any answer. */
 typedef struct {
   tomkhadi_head head;
   uint64_t declared[32];
   uint16_t sums[512];
   uint16_t taps[65];
+  uint16_t counts[5];
+  uint16_t lengths[8];
+  uint16_t places[8];
+  uint16_t sizes[8];
+  uint16_t discs[8];
+  uint16_t quotients[8];
+  uint16_t current[144];
+  uint16_t symbols[1152];
+  uint16_t saved[1152];
 } tomkhadi_job;
 
-/* What locate and repair answer: the refusal or 0, the number of columns, how many columns locate tried in its search, and the columns as 256 marks (column i
- * is bit i mod 64 of word i / 64). All that are counted are marked, so locate tries one more than the number of the last, and none where the count is 0. Repair
- * searches nothing, and tries 0. Where it is refused the count and the columns tried are 0, and no column is marked. */
+/* What locate, start, step and repair answer: the refusal or 0, 1 where a start or a step leaves the job unfinished, else 0, the number of columns, how many
+ * columns were tried in the search for them, and the columns as 256 marks (column i is bit i mod 64 of word i / 64). All that are counted are marked, so locate
+ * tries one more than the number of the last, and none where the count is 0. Repair searches nothing, and tries 0. Where it is refused or unfinished the count
+ * and the columns tried are 0, and no column is marked. */
 typedef struct {
   uint32_t refusal;
+  uint32_t unfinished;
   uint64_t count;
   uint64_t tried;
   uint64_t marks[4];
 } tomkhadi_answer;
+
+/* What peek answers: the refusal or 0, and the length, 0 where it is refused. */
+typedef struct {
+  uint32_t refusal;
+  uint64_t length;
+} tomkhadi_peek_answer;
 
 /* The archive's functions take the head of a job by value and return it, and are lent the arrays. The calls below are made of them. */
 typedef struct {
@@ -143,6 +174,16 @@ uint32_t tomkhadi_head_encode(tomkhadi_head head, uint16_t *frame, size_t size);
 tomkhadi_head_answered tomkhadi_head_locate(tomkhadi_head head, uint16_t sums[512], uint16_t taps[65], uint64_t held[32], const uint64_t declared[32],
                                             const uint16_t *frame, size_t size);
 tomkhadi_head_answered tomkhadi_head_repair(tomkhadi_head head, const uint16_t sums[512], const uint64_t held[32], uint16_t *frame, size_t size);
+tomkhadi_head_answered tomkhadi_head_start(tomkhadi_head head, uint16_t sums[512], uint16_t taps[65], uint64_t held[32], uint16_t counts[5],
+                                           uint16_t lengths[8], uint16_t symbols[1152], uint16_t places[8], uint16_t sizes[8], uint16_t discs[8],
+                                           uint16_t quotients[8], uint16_t current[144], uint16_t saved[1152], const uint64_t declared[32],
+                                           const uint16_t *frame, size_t size);
+tomkhadi_head_answered tomkhadi_head_step(tomkhadi_head head, const uint16_t sums[512], uint16_t taps[65], const uint64_t held[32], uint16_t counts[5],
+                                          const uint16_t lengths[8], const uint16_t symbols[1152], uint16_t places[8], uint16_t sizes[8], uint16_t discs[8],
+                                          uint16_t quotients[8], uint16_t current[144], uint16_t saved[1152]);
+tomkhadi_peek_answer tomkhadi_head_peek(tomkhadi_head head, const uint16_t sums[512], const uint64_t held[32], const uint16_t counts[5],
+                                        const uint16_t lengths[8], const uint16_t symbols[1152], const uint16_t places[8], const uint16_t sizes[8],
+                                        const uint16_t discs[8], const uint16_t quotients[8], const uint16_t current[144], const uint16_t saved[1152]);
 
 /* Makes the job empty, and its arrays zeros. Refuses nothing. */
 static inline void tomkhadi_empty(tomkhadi_job *job) {
@@ -178,6 +219,35 @@ static inline tomkhadi_answer tomkhadi_repair(tomkhadi_job *job, uint16_t *frame
   tomkhadi_head_answered repaired = tomkhadi_head_repair(job->head, job->sums, job->declared, frame, size);
   job->head = repaired.head;
   return repaired.answer;
+}
+
+/* Begins to find the damaged columns of a frame in slices. It only reads frame and declared cells, as locate does, and neither is read again by a step. Leaves
+ * the job unfinished; where no sequence has a symbol, which is where each row has as many declared cells as checks, it does what locate does. Answers that it
+ * is unfinished, or what locate answers. Refusals: 21, 7, 31, 4. */
+static inline tomkhadi_answer tomkhadi_start(tomkhadi_job *job, const uint64_t declared[32], const uint16_t *frame, size_t size) {
+  tomkhadi_head_answered started =
+      tomkhadi_head_start(job->head, job->sums, job->taps, job->declared, job->counts, job->lengths, job->symbols, job->places, job->sizes, job->discs,
+                          job->quotients, job->current, job->saved, declared, frame, size);
+  job->head = started.head;
+  return started.answer;
+}
+
+/* Makes the next step of what is unfinished. Leaves the job unfinished; the last step, located; refused by 24, 25 or 26, shaped. Answers that it is
+ * unfinished; the last step, what locate answers. Refusals: 21, 33, 24, 25, 26. The head of a job that stays unfinished is as it was, unless it has marks that
+ * no call left, and need not be stored. */
+static inline tomkhadi_answer tomkhadi_step(tomkhadi_job *job) {
+  tomkhadi_head_answered stepped =
+      tomkhadi_head_step(job->head, job->sums, job->taps, job->declared, job->counts, job->lengths, job->symbols, job->places, job->sizes, job->discs,
+                         job->quotients, job->current, job->saved);
+  const uint64_t *marks = job->head.marks;
+  if (!stepped.answer.unfinished || (marks[0] | marks[1] | marks[2] | marks[3])) job->head = stepped.head;
+  return stepped.answer;
+}
+
+/* Tells the length of the shortest register after the rounds that are finished. Leaves the job as it is. Refusals: 21, 33. */
+static inline tomkhadi_peek_answer tomkhadi_peek(const tomkhadi_job *job) {
+  return tomkhadi_head_peek(job->head, job->sums, job->declared, job->counts, job->lengths, job->symbols, job->places, job->sizes, job->discs,
+                            job->quotients, job->current, job->saved);
 }
 
 #ifdef __cplusplus

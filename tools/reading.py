@@ -262,6 +262,9 @@ ENTRY_POINTS = [
     "calls::encode::encode",
     "calls::locate::locate",
     "calls::repair::repair",
+    "calls::start::start",
+    "calls::next::next",
+    "calls::peek::peek",
 ]
 
 # What the program does with the bytes that it is given. Its callers meet what these ask for.

@@ -20,3 +20,15 @@ tomkhadi_answer header_locate(tomkhadi_job *job, const uint64_t declared[32], co
 tomkhadi_answer header_repair(tomkhadi_job *job, uint16_t *frame, size_t size) {
   return tomkhadi_repair(job, frame, size);
 }
+
+tomkhadi_answer header_start(tomkhadi_job *job, const uint64_t declared[32], const uint16_t *frame, size_t size) {
+  return tomkhadi_start(job, declared, frame, size);
+}
+
+tomkhadi_answer header_step(tomkhadi_job *job) {
+  return tomkhadi_step(job);
+}
+
+tomkhadi_peek_answer header_peek(const tomkhadi_job *job) {
+  return tomkhadi_peek(job);
+}

@@ -5,6 +5,7 @@
 pub const EMPTY: u32 = 0;
 pub const SHAPED: u32 = 1;
 pub const LOCATED: u32 = 2;
+pub const UNFINISHED: u32 = 3;
 
 /// Column i is bit i mod 64 of word i / 64.
 pub type Marks = [u64; 4];
@@ -51,15 +52,39 @@ pub struct Job {
     pub declared: Declared,
     pub sums: [u16; 512],
     pub taps: [u16; 65],
+    pub counts: [u16; 5],
+    pub lengths: [u16; 8],
+    pub places: [u16; 8],
+    pub sizes: [u16; 8],
+    pub discs: [u16; 8],
+    pub quotients: [u16; 8],
+    pub current: [u16; 144],
+    pub symbols: [u16; 1152],
+    pub saved: [u16; 1152],
 }
 
 #[repr(C)]
 #[derive(Clone, Copy, Debug, PartialEq, Eq)]
 pub struct Answer {
     pub refusal: u32,
+    /// 1 where a start or a step leaves the locate unfinished.
+    pub unfinished: u32,
     pub count: u64,
     pub tried: u64,
     pub marks: Marks,
+}
+
+#[repr(C)]
+#[derive(Clone, Copy, Debug, PartialEq, Eq)]
+pub struct Peeked {
+    pub refusal: u32,
+    pub length: u64,
+}
+
+impl Peeked {
+    pub fn refused(refusal: u32) -> Peeked {
+        Peeked { refusal, length: 0 }
+    }
 }
 
 impl Register {
@@ -115,6 +140,7 @@ impl Head {
         self.marks = marks;
         Answer {
             refusal: 0,
+            unfinished: 0,
             count: self.length,
             tried: tried as u64,
             marks,
@@ -140,6 +166,15 @@ impl Job {
         declared: NOTHING,
         sums: [0; 512],
         taps: [0; 65],
+        counts: [0; 5],
+        lengths: [0; 8],
+        places: [0; 8],
+        sizes: [0; 8],
+        discs: [0; 8],
+        quotients: [0; 8],
+        current: [0; 144],
+        symbols: [0; 1152],
+        saved: [0; 1152],
     };
 }
 
@@ -147,6 +182,7 @@ impl Answer {
     pub fn refused(refusal: u32) -> Answer {
         Answer {
             refusal,
+            unfinished: 0,
             count: 0,
             tried: 0,
             marks: [0; 4],
@@ -163,6 +199,17 @@ pub trait Calls {
     fn encode(&self, job: &Job, frame: &mut [u16]) -> u32;
     fn locate(&self, job: &mut Job, declared: &Declared, frame: &[u16]) -> Answer;
     fn repair(&self, job: &mut Job, frame: &mut [u16]) -> Answer;
+
+    /// The calls that locate in slices, where there are such.
+    fn slices(&self) -> Option<&dyn Slices> {
+        None
+    }
+}
+
+pub trait Slices {
+    fn start(&self, job: &mut Job, declared: &Declared, frame: &[u16]) -> Answer;
+    fn step(&self, job: &mut Job) -> Answer;
+    fn peek(&self, job: &Job) -> Peeked;
 }
 
 /// The proved library, in the archive that `rt staticlib capi` writes.
@@ -171,7 +218,7 @@ pub struct Library;
 
 #[cfg(library)]
 mod library {
-    use super::{Answer, Calls, Columns, Declared, Job, Library, Register};
+    use super::{Answer, Calls, Columns, Declared, Job, Library, Peeked, Register, Slices};
 
     unsafe extern "C" {
         fn tomkhadi_find(
@@ -201,6 +248,14 @@ mod library {
             size: usize,
         ) -> Answer;
         fn header_repair(job: *mut Job, frame: *mut u16, size: usize) -> Answer;
+        fn header_start(
+            job: *mut Job,
+            declared: *const Declared,
+            frame: *const u16,
+            size: usize,
+        ) -> Answer;
+        fn header_step(job: *mut Job) -> Answer;
+        fn header_peek(job: *const Job) -> Peeked;
     }
 
     // SAFETY, of every call: a pointer is that of a job, of 32 words, or of a slice and followed by its length;
@@ -242,6 +297,24 @@ mod library {
 
         fn repair(&self, job: &mut Job, frame: &mut [u16]) -> Answer {
             unsafe { header_repair(job, frame.as_mut_ptr(), frame.len()) }
+        }
+
+        fn slices(&self) -> Option<&dyn Slices> {
+            Some(self)
+        }
+    }
+
+    impl Slices for Library {
+        fn start(&self, job: &mut Job, declared: &Declared, frame: &[u16]) -> Answer {
+            unsafe { header_start(job, declared, frame.as_ptr(), frame.len()) }
+        }
+
+        fn step(&self, job: &mut Job) -> Answer {
+            unsafe { header_step(job) }
+        }
+
+        fn peek(&self, job: &Job) -> Peeked {
+            unsafe { header_peek(job) }
         }
     }
 }

@@ -6,19 +6,22 @@ use std::collections::BTreeMap;
 use std::fmt::Debug;
 
 use common::interface::{
-    Answer, Calls, Columns, Declared, EMPTY, Head, Job, NOTHING, Register, SHAPED,
+    Answer, Calls, Columns, Declared, EMPTY, Head, Job, LOCATED, NOTHING, Register, Slices,
 };
 
 use crate::independent::{Independent, shape_of};
 
 /// The answers that the inputs tried must bring about, each at least once.
-const ANSWERS: [(&str, &[u32]); 6] = [
+const ANSWERS: [(&str, &[u32]); 9] = [
     ("find", &[0, 1, 2, 3, 4, 8]),
     ("search", &[0, 4, 5]),
     ("shape", &[0, 2, 5, 6, 32]),
     ("encode", &[0, 4, 7, 21]),
     ("locate", &[0, 4, 7, 21, 24, 25, 26, 31]),
     ("repair", &[0, 4, 7, 21, 22, 23]),
+    ("start", &[0, 4, 7, 21, 31]),
+    ("step", &[0, 21, 24, 25, 26, 33]),
+    ("peek", &[0, 21, 33]),
 ];
 
 pub struct Judge<'a> {
@@ -35,6 +38,15 @@ pub const FILLED: Job = Job {
     declared: [0xa5a5_a5a5_a5a5_a5a5; 32],
     sums: [0xa5a5; 512],
     taps: [0xa5a5; 65],
+    counts: [0xa5a5; 5],
+    lengths: [0xa5a5; 8],
+    places: [0xa5a5; 8],
+    sizes: [0xa5a5; 8],
+    discs: [0xa5a5; 8],
+    quotients: [0xa5a5; 8],
+    current: [0xa5a5; 144],
+    symbols: [0xa5a5; 1152],
+    saved: [0xa5a5; 1152],
 };
 
 /// A lent buffer, between two margins that no call may touch.
@@ -101,7 +113,7 @@ fn settled(head: &Head) -> Head {
             length: 0,
             ..*head
         },
-        Some(_) if head.phase == SHAPED => Head {
+        Some(_) if head.phase != LOCATED => Head {
             alone: 0,
             length: 0,
             ..*head
@@ -145,7 +157,17 @@ impl<'a> Judge<'a> {
         self.compare(what, inputs, true, holds);
     }
 
-    fn answered(&mut self, call: &'static str, refusal: u32) {
+    /// The implementation under test.
+    pub fn subject(&self) -> &'a dyn Calls {
+        self.subject
+    }
+
+    /// Its calls that locate in slices, where it has them.
+    pub fn slices(&self) -> Option<&'a dyn Slices> {
+        self.subject.slices()
+    }
+
+    pub fn answered(&mut self, call: &'static str, refusal: u32) {
         *self.answers.entry((call, refusal)).or_default() += 1;
     }
 
@@ -291,7 +313,11 @@ impl<'a> Judge<'a> {
 
     /// Prints how often each answer came, and the verdict. True if all is well.
     pub fn finish(mut self) -> bool {
+        let in_slices = ["start", "step", "peek"];
         for (call, refusals) in ANSWERS {
+            if self.slices().is_none() && in_slices.contains(&call) {
+                continue;
+            }
             for &refusal in refusals {
                 let count = self.answers.get(&(call, refusal)).copied().unwrap_or(0);
                 println!("{call:>6} {refusal:>2}: {count}");

@@ -1,7 +1,7 @@
 /* Sizes and places in the structs of the header, in the order of trials/layout.rs. */
 #include "tomkhadi.h"
 
-const size_t tomkhadi_layout[40] = {
+const size_t tomkhadi_layout[54] = {
     sizeof(tomkhadi_register),
     _Alignof(tomkhadi_register),
     offsetof(tomkhadi_register, refusal),
@@ -28,12 +28,26 @@ const size_t tomkhadi_layout[40] = {
     offsetof(tomkhadi_job, declared),
     offsetof(tomkhadi_job, sums),
     offsetof(tomkhadi_job, taps),
+    offsetof(tomkhadi_job, counts),
+    offsetof(tomkhadi_job, lengths),
+    offsetof(tomkhadi_job, places),
+    offsetof(tomkhadi_job, sizes),
+    offsetof(tomkhadi_job, discs),
+    offsetof(tomkhadi_job, quotients),
+    offsetof(tomkhadi_job, current),
+    offsetof(tomkhadi_job, symbols),
+    offsetof(tomkhadi_job, saved),
     sizeof(tomkhadi_answer),
     _Alignof(tomkhadi_answer),
     offsetof(tomkhadi_answer, refusal),
+    offsetof(tomkhadi_answer, unfinished),
     offsetof(tomkhadi_answer, count),
     offsetof(tomkhadi_answer, tried),
     offsetof(tomkhadi_answer, marks),
+    sizeof(tomkhadi_peek_answer),
+    _Alignof(tomkhadi_peek_answer),
+    offsetof(tomkhadi_peek_answer, refusal),
+    offsetof(tomkhadi_peek_answer, length),
     sizeof(tomkhadi_head_shaped),
     _Alignof(tomkhadi_head_shaped),
     offsetof(tomkhadi_head_shaped, refusal),

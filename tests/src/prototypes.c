@@ -14,6 +14,15 @@ static uint32_t (*const head_encode)(tomkhadi_head, uint16_t *, size_t) = tomkha
 static tomkhadi_head_answered (*const head_locate)(tomkhadi_head, uint16_t *, uint16_t *, uint64_t *, const uint64_t *, const uint16_t *,
                                                    size_t) = tomkhadi_head_locate;
 static tomkhadi_head_answered (*const head_repair)(tomkhadi_head, const uint16_t *, const uint64_t *, uint16_t *, size_t) = tomkhadi_head_repair;
+static tomkhadi_head_answered (*const head_start)(tomkhadi_head, uint16_t *, uint16_t *, uint64_t *, uint16_t *, uint16_t *, uint16_t *, uint16_t *,
+                                                  uint16_t *, uint16_t *, uint16_t *, uint16_t *, uint16_t *, const uint64_t *, const uint16_t *,
+                                                  size_t) = tomkhadi_head_start;
+static tomkhadi_head_answered (*const head_step)(tomkhadi_head, const uint16_t *, uint16_t *, const uint64_t *, uint16_t *, const uint16_t *,
+                                                 const uint16_t *, uint16_t *, uint16_t *, uint16_t *, uint16_t *, uint16_t *,
+                                                 uint16_t *) = tomkhadi_head_step;
+static tomkhadi_peek_answer (*const head_peek)(tomkhadi_head, const uint16_t *, const uint64_t *, const uint16_t *, const uint16_t *, const uint16_t *,
+                                               const uint16_t *, const uint16_t *, const uint16_t *, const uint16_t *, const uint16_t *,
+                                               const uint16_t *) = tomkhadi_head_peek;
 
 /* Those of the header. */
 static void (*const empty)(tomkhadi_job *) = tomkhadi_empty;
@@ -21,6 +30,9 @@ static uint32_t (*const shape)(tomkhadi_job *, size_t, const uint16_t *, size_t,
 static uint32_t (*const encode)(const tomkhadi_job *, uint16_t *, size_t) = tomkhadi_encode;
 static tomkhadi_answer (*const locate)(tomkhadi_job *, const uint64_t *, const uint16_t *, size_t) = tomkhadi_locate;
 static tomkhadi_answer (*const repair)(tomkhadi_job *, uint16_t *, size_t) = tomkhadi_repair;
+static tomkhadi_answer (*const start)(tomkhadi_job *, const uint64_t *, const uint16_t *, size_t) = tomkhadi_start;
+static tomkhadi_answer (*const step)(tomkhadi_job *) = tomkhadi_step;
+static tomkhadi_peek_answer (*const peek)(const tomkhadi_job *) = tomkhadi_peek;
 
 enum { ROWS = 2, COLUMNS = 8, SIZE = ROWS * COLUMNS };
 
@@ -40,6 +52,7 @@ static const uint16_t taps[65] = {1, 14};
 
 static const tomkhadi_head zeros;
 static const tomkhadi_head shaped = {.phase = 1, .rows = ROWS, .columns = COLUMNS, .checks = {4, 2}, .exponent = 1};
+static const tomkhadi_head unfinished = {.phase = 3, .rows = ROWS, .columns = COLUMNS, .checks = {4, 2}, .exponent = 1};
 static const tomkhadi_head located = {
     .phase = 2, .alone = 1, .length = 1, .rows = ROWS, .columns = COLUMNS, .marks = {1 << 5}, .checks = {4, 2}, .exponent = 1};
 
@@ -68,7 +81,15 @@ static int is_marked(const uint64_t marks[4], uint64_t first) {
 /* The refusal, or one column, which is column 5, and the number of columns tried. */
 static int is_answer(tomkhadi_answer answer, uint32_t refusal, uint64_t tried) {
   uint64_t count = refusal == 0;
-  return answer.refusal == refusal && answer.count == count && answer.tried == tried && is_marked(answer.marks, count << 5);
+  return answer.refusal == refusal && !answer.unfinished && answer.count == count && answer.tried == tried && is_marked(answer.marks, count << 5);
+}
+
+static int is_unfinished(tomkhadi_answer answer) {
+  return answer.refusal == 0 && answer.unfinished == 1 && answer.count == 0 && answer.tried == 0 && is_marked(answer.marks, 0);
+}
+
+static int is_length(tomkhadi_peek_answer peeked, uint32_t refusal, uint64_t length) {
+  return peeked.refusal == refusal && peeked.length == length;
 }
 
 static int is_columns(tomkhadi_columns found, uint32_t refusal, uint64_t tried, uint64_t marks) {
@@ -245,12 +266,124 @@ static void exponents(void) {
   CHECK(is_answer(repair(&job, frame, SIZE), 22, 0));
 }
 
+/* Row 1 has three checks left and row 2 has two: six steps in three rounds, two of them on a sequence each. Row 1 leaves 142, 68, 76, and row 2 its sums. Of
+ * no symbol the shortest register has length 0, and of those that column 5 leaves it has length 1. */
+enum { STEPS = 6 };
+
+/* What stands in the arrays before the first step, and after the second, in the order of the sequences, which is that of the rows here. */
+static int is_begun(const tomkhadi_job *job) {
+  static const uint16_t counts[5] = {3}, lengths[8] = {3, 2}, places[8] = {0, 1, 3, 3, 3, 3, 3, 3}, sizes[8], ones[8] = {1, 1, 1, 1, 1, 1, 1, 1};
+  static const uint16_t current[144] = {1}, backwards[3] = {76, 68, 142}, others[2] = {244, 56}, cleared[16];
+  return memcmp(job->counts, counts, sizeof counts) == 0 && memcmp(job->lengths, lengths, sizeof lengths) == 0 &&
+         memcmp(job->places, places, sizeof places) == 0 && memcmp(job->sizes, sizes, sizeof sizes) == 0 &&
+         memcmp(job->discs, ones, sizeof ones) == 0 && memcmp(job->quotients, ones, sizeof ones) == 0 &&
+         memcmp(job->current, current, sizeof current) == 0 && memcmp(job->symbols, backwards, sizeof backwards) == 0 &&
+         memcmp(job->symbols + 144, others, sizeof others) == 0 && memcmp(job->saved + 144, cleared, sizeof cleared) == 0;
+}
+
+/* The first step has saved round 1, the discrepancy 142, its inverse and the register of length 0 for row 1; the second changed nothing. */
+static int is_second(const tomkhadi_job *job) {
+  return job->counts[1] == 1 && job->counts[2] == 0 && job->counts[3] == 1 && job->counts[4] == 1 && job->places[0] == 1 && job->sizes[0] == 0 &&
+         job->discs[0] == 142 && job->quotients[0] * 142 % 257 == 1 && job->saved[0] == 1;
+}
+
+static void slices(void) {
+  tomkhadi_job job;
+  empty(&job);
+  CHECK(is_answer(start(&job, declared, received, SIZE), 21, 0) && is_answer(step(&job), 21, 0) && is_length(peek(&job), 21, 0));
+  CHECK(shape(&job, COLUMNS, checks, ROWS, 1) == 0);
+  CHECK(is_answer(step(&job), 33, 0) && is_length(peek(&job), 33, 0));
+  CHECK(is_answer(start(&job, declared, received, SIZE - 1), 7, 0));
+  CHECK(is_answer(start(&job, past, received, SIZE), 31, 0));
+  CHECK(is_answer(start(&job, nothing, received, SIZE), 4, 0));
+  CHECK(is_job(&job, shaped, 0));
+
+  uint16_t frame[SIZE];
+  for (int made = 0; made < STEPS; made++) {
+    if (made == 0) {
+      CHECK(is_unfinished(start(&job, declared, received, SIZE)));
+      CHECK(is_begun(&job));
+    } else {
+      CHECK(is_unfinished(step(&job)));
+    }
+    if (made == 2) CHECK(is_second(&job));
+    CHECK(is_head(job.head, unfinished));
+    CHECK(is_length(peek(&job), 0, made >= ROWS));
+    memcpy(frame, data, sizeof frame);
+    CHECK(encode(&job, frame, SIZE) == 0);
+    CHECK(is_answer(repair(&job, frame, SIZE), 22, 0));
+    SAME(frame, sent);
+  }
+  tomkhadi_job forged;
+  CHECK(is_unfinished(start(&job, declared, received, SIZE)));
+  forged = job;
+  forged.head.marks[3] = 1;
+  CHECK(is_unfinished(step(&forged)) && is_head(forged.head, unfinished));
+  for (int made = 1; made < STEPS; made++) CHECK(is_unfinished(step(&job)));
+  forged = job;
+  forged.sums[511] = 257;
+  CHECK(is_answer(step(&forged), 33, 0) && is_length(peek(&forged), 33, 0));
+  forged = job;
+  forged.declared[31] = 1;
+  CHECK(is_answer(step(&forged), 33, 0));
+  forged = job;
+  forged.current[0] = 0;
+  CHECK(is_answer(step(&forged), 33, 0) && is_head(forged.head, unfinished));
+  CHECK(is_answer(step(&job), 0, 6));
+  CHECK(is_job(&job, located, 1));
+  CHECK(is_answer(step(&job), 33, 0) && is_length(peek(&job), 33, 0));
+  memcpy(frame, received, sizeof frame);
+  CHECK(is_answer(repair(&job, frame, SIZE), 0, 0));
+  SAME(frame, sent);
+
+  /* Each call drops what is unfinished. */
+  CHECK(is_unfinished(start(&job, nothing, sent, SIZE)) && is_unfinished(start(&job, declared, received, SIZE)));
+  CHECK(is_begun(&job));
+  CHECK(is_answer(locate(&job, declared, received, SIZE), 0, 6) && is_answer(step(&job), 33, 0));
+  CHECK(is_unfinished(start(&job, declared, received, SIZE)) && shape(&job, COLUMNS, checks, ROWS, 1) == 0 && is_answer(step(&job), 33, 0));
+
+  /* Every check is spent on a declared cell: there is no step to make. */
+  const uint64_t all[32] = {15, 0, 0, 0, 3};
+  tomkhadi_answer answer = start(&job, all, sent, SIZE);
+  CHECK(answer.refusal == 0 && answer.unfinished == 0 && answer.count == 0 && job.head.phase == 2);
+
+  /* Three columns of row 1, as above: the last step is refused, and leaves the job shaped. */
+  frame[1]++, frame[2]++, frame[3]++;
+  CHECK(is_unfinished(start(&job, nothing, frame, SIZE)));
+  for (int made = 1; made < 4 * ROWS; made++) CHECK(is_unfinished(step(&job)));
+  CHECK(is_answer(step(&job), 26, 0) && is_head(job.head, shaped));
+}
+
+/* The archive's functions alone, on the parts of a job. */
+static void sliced_heads(void) {
+  static tomkhadi_job job;
+  tomkhadi_head_answered answered =
+      head_start(shaped, job.sums, job.taps, job.declared, job.counts, job.lengths, job.symbols, job.places, job.sizes, job.discs, job.quotients,
+                 job.current, job.saved, declared, received, SIZE);
+  CHECK(is_unfinished(answered.answer) && is_head(answered.head, unfinished) && is_begun(&job));
+  SAME(job.sums, sums);
+  SAME(job.declared, declared);
+  for (int made = 0; made < STEPS; made++) {
+    tomkhadi_peek_answer peeked = head_peek(unfinished, job.sums, job.declared, job.counts, job.lengths, job.symbols, job.places, job.sizes, job.discs,
+                                            job.quotients, job.current, job.saved);
+    CHECK(is_length(peeked, 0, made >= ROWS));
+    answered = head_step(unfinished, job.sums, job.taps, job.declared, job.counts, job.lengths, job.symbols, job.places, job.sizes, job.discs,
+                         job.quotients, job.current, job.saved);
+    if (made == 1) CHECK(is_second(&job));
+    if (made + 1 < STEPS) CHECK(is_unfinished(answered.answer) && is_head(answered.head, unfinished));
+  }
+  CHECK(is_answer(answered.answer, 0, 6) && is_head(answered.head, located));
+  SAME(job.taps, taps);
+}
+
 int main(void) {
   registers();
   searches();
   heads();
   jobs();
   exponents();
+  slices();
+  sliced_heads();
   printf("tests/src/prototypes.c: %d checks, %d failed\n", checked, failed);
   return failed != 0;
 }

@@ -35,12 +35,15 @@ fn locate_whole(
     let summed = frame_sums(j.shape, frame);
     let answer = locate_from(j.shape, true, declared, &summed, taps);
     let reply = answer.reply;
-    if let Reply::Refused(_) = reply {
-        return answer;
+    match reply {
+        Reply::Count(_) => {
+            *sums = summed;
+            *held = *declared;
+            answer
+        }
+        Reply::Unfinished => answer,
+        Reply::Refused(_) => answer,
     }
-    *sums = summed;
-    *held = *declared;
-    answer
 }
 
 // A frame with declared cells.
@@ -63,12 +66,15 @@ fn locate_read(
     let read = sums_read(j.shape, declared, frame);
     let answer = locate_from(j.shape, false, declared, &read, taps);
     let reply = answer.reply;
-    if let Reply::Refused(_) = reply {
-        return answer;
+    match reply {
+        Reply::Count(_) => {
+            *sums = read;
+            *held = *declared;
+            answer
+        }
+        Reply::Unfinished => answer,
+        Reply::Refused(_) => answer,
     }
-    *sums = read;
-    *held = *declared;
-    answer
 }
 
 // The arrays are written where nothing is refused.

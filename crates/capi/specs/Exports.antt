@@ -1,18 +1,20 @@
 -- What the exported functions do, by the definitions of the finder and of the calls on a job: what they return, and what they leave in the lent arrays and
--- buffers. (The contract of `tomkhadi_search`, which leaves nothing, needs none of these.) What is not lent is kept: shape and encode keep all arrays, and
--- repair, which only reads the sums and the declared cells, the taps.
+-- buffers. (The contract of `tomkhadi_search`, which leaves nothing, needs none of these.) What is not lent is kept: shape, encode and peek keep all
+-- arrays; repair, which only reads the sums and the declared cells, the taps; and all but start those of a locate in slices.
 use mathlib.Core.Path.{_≡_}
 use mathlib.Core.List.{List}
 use Prim.Native.Nat.{ℕ}
 use lib.ListN.{length}
 use Rattle.finder.specs.Finder.{answer, tapsLeft}
-use Rattle.job.specs.Calls.{Outcome, step, shape, encode, locate, repair}
-use Rattle.job.specs.Job.{Arrays, Job, beside, withFound, withRead}
-use Rattle.mirror.specs.Mirror.{headOf, registerOf, refusalOf, shapedOf, answeredOf}
+use Rattle.job.specs.Calls.{Outcome, step, shape, encode, locate, repair, start, next, peek}
+use Rattle.job.specs.Job.{Arrays, Job, beside, withFound, withRead, withStarted}
+use Rattle.mirror.specs.Mirror.{headOf, registerOf, refusalOf, shapedOf, peekedOf, answeredOf}
 use Rattle.mirror.specs.declared.CAnswered.{CAnswered}
 use Rattle.mirror.specs.declared.CHead.{CHead}
+use Rattle.mirror.specs.declared.CPeeked.{CPeeked}
 use Rattle.mirror.specs.declared.CRegister.{CRegister}
 use Rattle.mirror.specs.declared.CShaped.{CShaped}
+use Rattle.slices.specs.Synthesis.{Synthesis}
 
 -- find: the register, and the buffer of the taps
 pub record CFinds (p : ℕ) (lengths symbols buffer left : List ℕ) (r : CRegister) : Type 0 where
@@ -31,7 +33,7 @@ pub record CEncodes (j : Job) (o : Outcome) (r : ℕ) (left : List ℕ) : Type 0
   pub job : o .job ≡ j
   pub leaves : left ≡ o .frame
 
--- locate: the answer and the head, and the arrays a as it leaves them
+-- locate, start and step: the answer and the head, and the arrays a as it leaves them
 pub record CLocates (o : Outcome) (r : CAnswered) (a : Arrays) : Type 0 where
   pub answers : r ≡ answeredOf o
   pub arrays : a ≡ o .job .arrays
@@ -41,6 +43,11 @@ pub record CRepairs (a : Arrays) (o : Outcome) (r : CAnswered) (left : List ℕ)
   pub answers : r ≡ answeredOf o
   pub arrays : o .job .arrays ≡ a
   pub leaves : left ≡ o .frame
+
+-- peek: the length; the job j is that of the outcome
+pub record CPeeks (j : Job) (o : Outcome) (r : CPeeked) : Type 0 where
+  pub answers : r ≡ peekedOf (o .answer)
+  pub job : o .job ≡ j
 
 -- What each function promises of the head that it is given, of what it is lent and of what it returns and leaves, whatever the arrays are that it is not lent
 abbrev pub HeadShapes : (head : CHead) (n : ℕ) (checks : List ℕ) (b : ℕ) (r : CShaped) → Type 0
@@ -57,3 +64,21 @@ HeadLocates m sums taps held declared f r sumsLeft tapsLeft heldLeft =
 abbrev pub HeadRepairs : (head : CHead) (sums held frame : List ℕ) (r : CAnswered) (left : List ℕ) → Type 0
 HeadRepairs m sums held f r left =
     (a : Arrays) → CRepairs (withRead a sums held) (step (beside (headOf m) (withRead a sums held)) (repair f)) r left
+
+-- all arrays of a job
+abbrev pub arraysOf : (sums taps held : List ℕ) → Synthesis → Arrays
+arraysOf sums taps held x = record { sums = sums; taps = taps; declared = held; synthesis = x }
+
+abbrev pub HeadStarts : (head : CHead) (sums taps held : List ℕ) (x : Synthesis) (declared frame : List ℕ) (r : CAnswered)
+    (sumsLeft tapsLeft heldLeft : List ℕ) (left : Synthesis) → Type 0
+HeadStarts m sums taps held x declared f r sumsLeft tapsLeft heldLeft left =
+    CLocates (step (beside (headOf m) (arraysOf sums taps held x)) (start declared f)) r (arraysOf sumsLeft tapsLeft heldLeft left)
+
+-- the sums and the declared cells are only read
+abbrev pub HeadSteps : (head : CHead) (sums taps held : List ℕ) (x : Synthesis) (r : CAnswered) (tapsLeft : List ℕ) (left : Synthesis) → Type 0
+HeadSteps m sums taps held x r tapsLeft left =
+    CLocates (step (beside (headOf m) (arraysOf sums taps held x)) next) r (arraysOf sums tapsLeft held left)
+
+abbrev pub HeadPeeks : (head : CHead) (sums held : List ℕ) (x : Synthesis) (r : CPeeked) → Type 0
+HeadPeeks m sums held x r =
+    (a : Arrays) → CPeeks (beside (headOf m) (withStarted a sums held x)) (step (beside (headOf m) (withStarted a sums held x)) peek) r

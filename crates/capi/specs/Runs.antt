@@ -2,36 +2,51 @@
 -- calls promises; that the header's text is these steps is read, and tried by tests/. A list of steps answers and leaves what the list of calls does.
 -- Proved in proofs/Runs.antt.
 use mathlib.Core.Path.{_≡_}
+use mathlib.Core.Logic.{_⊎_}
 use mathlib.Core.List.{List, [], _∷_}
 use Prim.Native.Nat.{ℕ}
-use Rattle.job.specs.Calls.{Call, shape, encode, locate, repair, Outcome, step}
+use Rattle.job.specs.Calls.{Call, shape, encode, locate, repair, start, next, peek, Outcome, step}
 use Rattle.job.specs.Runs.{runFrom, run}
 use Rattle.job.specs.Job.{Arrays, Job, beside, withFound, emptyHead}
-use Rattle.capi.specs.Exports.{HeadShapes, HeadEncodes, HeadLocates, HeadRepairs}
-use Rattle.mirror.specs.Mirror.{headOf, mirrorOf, refusalOf, answeredOf}
+use Rattle.capi.specs.Exports.{HeadShapes, HeadEncodes, HeadLocates, HeadRepairs, HeadStarts, HeadSteps, HeadPeeks, arraysOf}
+use Rattle.mirror.specs.Mirror.{headOf, mirrorOf, refusalOf, peekedOf, answeredOf}
 use Rattle.mirror.specs.declared.CAnswer.{CAnswer}
 use Rattle.mirror.specs.declared.CAnswered.{CAnswered}
 use Rattle.mirror.specs.declared.CHead.{CHead}
+use Rattle.mirror.specs.declared.CPeeked.{CPeeked}
 use Rattle.mirror.specs.declared.CShaped.{CShaped}
+use Rattle.slices.specs.Synthesis.{Synthesis, synthesis}
 
 -- tomkhadi_job: the head, and the arrays beside it
 pub record CJob : Type 0 where
   pub head : CHead
   pub arrays : Arrays
 
--- what a call returns: shape and encode the refusal or 0, locate and repair the struct of an answer
+-- what a call returns: shape and encode the refusal or 0; locate, repair, start and step the struct of an answer; peek that of a length
 pub data CReply : Type 0 where
   number : (refusal : ℕ) → CReply
   answer : CAnswer → CReply
+  peeked : CPeeked → CReply
 
--- that, and the job and the lent frame as the call leaves them (no frame is lent to shape: `[]`)
+-- that, and the job and the lent frame as the call leaves them (no frame is lent to shape, step and peek: `[]`)
 pub record CReturn : Type 0 where
   pub reply : CReply
   pub job : CJob
   pub frame : List ℕ
 
--- The inline functions: the exported function is called on the parts of the job, and gives anything that it promises; the head that it returns is stored, and
--- the answer returned. What is const is as it was, and so are arrays that are not lent.
+-- what a step leaves: the lengths and the symbols are const
+abbrev pub stepLeft : (x y : Synthesis) → Synthesis
+stepLeft x y =
+    synthesis (y .counts) (x .lengths) (x .symbols) (y .places) (y .sizes) (y .discs) (y .quotients) (y .taps) (y .saved)
+
+-- what a step does with the head that it is returned: it stores it, or, where the job stays unfinished and no column is marked, leaves the one that is there
+abbrev pub StepStores : (before after : CHead) → CAnswered → Type 0
+StepStores before after s =
+    (after ≡ s .head) ⊎
+    ((s .answer .unfinished ≡ 1) × (before .marks ≡ 0 ∷ 0 ∷ 0 ∷ 0 ∷ []) × (after ≡ before))
+
+-- The inline functions: the exported function is called on the parts of the job, and gives anything that it promises; the head that it returns is stored, as
+-- above by a step, and the answer returned. What is const is as it was, and so are arrays that are not lent.
 abbrev pub CStep : CJob → Call → CReturn → Type 0
 CStep m (shape n checks b) r =
     (s : CShaped) × HeadShapes (m .head) n checks b s ×
@@ -45,6 +60,23 @@ CStep m (locate words f) r =
 CStep m (repair f) r =
     (s : CAnswered) × (left : List ℕ) × HeadRepairs (m .head) (m .arrays .sums) (m .arrays .declared) f s left ×
     (r ≡ record { reply = answer (s .answer); job = record { head = s .head; arrays = m .arrays }; frame = left })
+CStep m (start words f) r =
+    (s : CAnswered) × (sums : List ℕ) × (taps : List ℕ) × (held : List ℕ) × (y : Synthesis) ×
+    HeadStarts (m .head) (m .arrays .sums) (m .arrays .taps) (m .arrays .declared) (m .arrays .synthesis) words f s sums taps held y ×
+    (r ≡ record { reply = answer (s .answer); job = record { head = s .head; arrays = arraysOf sums taps held y }; frame = f })
+CStep m next r =
+    let a : Arrays = m .arrays in
+    (s : CAnswered) × (taps : List ℕ) × (y : Synthesis) × (head : CHead) × StepStores (m .head) head s ×
+    HeadSteps (m .head) (a .sums) (a .taps) (a .declared) (a .synthesis) s taps (stepLeft (a .synthesis) y) ×
+    (r ≡
+    record {
+      reply = answer (s .answer);
+      job = record { head = head; arrays = arraysOf (a .sums) taps (a .declared) (stepLeft (a .synthesis) y) };
+      frame = [];
+    })
+CStep m peek r =
+    (s : CPeeked) × HeadPeeks (m .head) (m .arrays .sums) (m .arrays .declared) (m .arrays .synthesis) s ×
+    (r ≡ record { reply = peeked s; job = m; frame = [] })
 
 -- the calls of a list, each on the job that the one before it left
 abbrev pub CRun : CJob → List Call → CJob → Type 0
@@ -70,6 +102,9 @@ replyOf (shape n checks b) o = number (refusalOf (o .answer))
 replyOf (encode f) o = number (refusalOf (o .answer))
 replyOf (locate words f) o = answer (answeredOf o .answer)
 replyOf (repair f) o = answer (answeredOf o .answer)
+replyOf (start words f) o = answer (answeredOf o .answer)
+replyOf next o = answer (answeredOf o .answer)
+replyOf peek o = peeked (peekedOf (o .answer))
 
 abbrev pub returnOf : Call → Outcome → CReturn
 returnOf c o = record { reply = replyOf c o; job = mirrorJob (o .job); frame = o .frame }

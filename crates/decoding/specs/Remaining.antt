@@ -1,9 +1,9 @@
 -- Locating and repair with declared cells (SPECIFICATION.md, "Declared cells"). All of locating is a function of the check sums of the frame as read and of
 -- the declared cells.
-use mathlib.Core.Bool.{Bool}
+use mathlib.Core.Bool.{Bool, not, _||_}
 use mathlib.Core.List.{List, []}
 use Prim.Native.Nat.{ℕ, suc, _+_, _-_}
-use lib.Dec.{leb, eqb}
+use lib.Dec.{leb, ltb, eqb}
 use lib.ListN.{length, getD}
 use Rattle.columns.specs.Columns.{either, members}
 use Rattle.columns.specs.declared.Columns.{Columns}
@@ -38,12 +38,24 @@ readSequences s D f = allRemaining s D (sumsRead s D f)
 unfoldable pub leftReach : Shape → Declared → (c : ℕ) → Bool
 leftReach s D c = every (s .rows) (λ h. leb c (checksLeft s D h))
 
--- whether each row can be completed at its marked and declared columns: with these taken out, what is left of its sums is 0
-unfoldable pub completable : Shape → Declared → (M : Columns) (S : List (List ℕ)) → Bool
-completable s D M S =
-    every (s .rows) (λ h.
+-- whether row h can be completed at its marked and declared columns: with these taken out, what is left of its sums is 0
+abbrev pub rowCompletable : Declared → (M : Columns) (S : List (List ℕ)) (h : ℕ) → Bool
+rowCompletable D M S h =
     let left : List ℕ = remaining (either M (D h)) (getD S h []) in
-    every (length left) (λ j. eqb (getD left j 0) 0))
+    every (length left) (λ j. eqb (getD left j 0) 0)
+
+-- whether each row can
+unfoldable pub completable : Shape → Declared → (M : Columns) (S : List (List ℕ)) → Bool
+completable s D M S = every (s .rows) (λ h. rowCompletable D M S h)
+
+-- whether some marked column is declared: together they are fewer
+abbrev pub meets : (M J : Columns) → Bool
+meets M J = ltb (length (members (either M J))) (length (members M) + length (members J))
+
+-- Whether each row in which some marked column is declared can be completed. Where the columns are those that a register of the sequences names, as many as it
+-- is long, the other rows can be completed too, so that this is `completable` (proofs/RowsApart.antt).
+unfoldable pub meetingCompletable : Shape → Declared → (M : Columns) (S : List (List ℕ)) → Bool
+meetingCompletable s D M S = every (s .rows) (λ h. not (meets M (D h)) || rowCompletable D M S h)
 
 -- each row completed at its marked and declared columns
 unfoldable pub mended : Shape → Declared → (M : Columns) (f : List ℕ) → List ℕ

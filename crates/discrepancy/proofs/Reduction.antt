@@ -5,20 +5,17 @@ use mathlib.Core.Logic.{_≢_}
 use mathlib.Core.List.{List, []}
 use Prim.Native.Nat.{ℕ, suc, _+_, _-_, _*_, _%_, _≤_, _<_}
 use native.Mathlib.Decide.{decLt, ℕ-discrete}
-use native.Mathlib.Nat.{add-mod-right, mul-one, mul-zero, zero-mod, mod-eq-of-lt, sub-zero, add-sub-cancel-left, pow-zero}
+use native.Mathlib.Nat.{mul-one, mod-eq-of-lt, add-sub-cancel-left, pow-zero}
 use native.Mathlib.Numerals.{add-one}
 use native.Mathlib.Omega.{arith}
 use lib.ListN.{length, getD, take, set, length-take, length-set, List·getD-eq-default}
 use lib.Seq.{ext-getD, take-all, getD-take, getD-set-same, getD-set-other}
 use Rattle.field.specs.Coefficients.{reduced, shifted}
 use Rattle.field.specs.Residue.{minus, times, inverse, quotient}
-use Rattle.field.proofs.Coefficients.{shifted-below, shifted-above, length-reduced, getD-reduced}
+use Rattle.field.proofs.Coefficients.{minus-zero, shifted-below, shifted-above, length-reduced, getD-reduced}
 use Rattle.field.proofs.Remainders.{mod-mul-mod, mul-mod-mod}
 use Rattle.lists.proofs.Entries.{getD-take-suc}
 use Rattle.discrepancy.specs.Modulus.{Moduli}
-
-pub minus-zero : (p a q : ℕ) → a < p → minus p a (times p q 0) ≡ a
-minus-zero p a q h = rw (mul-zero, zero-mod, sub-zero, add-mod-right) (mod-eq-of-lt h)
 
 -- x^e·τ has no coefficient past its last
 pub shifted-past : (e : ℕ) (τ : List ℕ) (k : ℕ) → e + length τ ≤ k → shifted e τ k ≡ 0

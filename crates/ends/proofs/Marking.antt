@@ -18,7 +18,7 @@ module _ (N : ℕ) (lengths : List ℕ) (l : ℕ) (places sizes : List ℕ) wher
   abbrev long : ℕ → ℕ
   long h = getD lengths h 0
 
-  module _ (h m : ℕ) (le : l ≤ N) (fits : long h ≤ N) (least : m ≡ min l (long h)) where
+  module _ (h m : ℕ) (fits : long h ≤ N) (least : m ≡ min l (long h)) where
     pub mark-passes : place h + m ≤ size h + N → markTest N lengths l places sizes h ≡ true
     mark-passes small = le-leb (place h) (size h + max (N - l) (N - long h)) (omega arith)
 

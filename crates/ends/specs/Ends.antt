@@ -7,7 +7,7 @@ use lib.Dec.{leb}
 use lib.ListN.{length, getD}
 use Rattle.lists.specs.Tabulate.{every}
 
--- the places of k sequences can be set: none is longer than N
+-- the places of k sequences can be set, and the alone mark read off: none is longer than N
 pub record Startable (N : ℕ) (lengths : List ℕ) (k : ℕ) : Type 0 where
   pub longest : N ≤ 128
   pub count : k ≤ 8
@@ -17,15 +17,6 @@ pub record Startable (N : ℕ) (lengths : List ℕ) (k : ℕ) : Type 0 where
 pub record Started (N : ℕ) (lengths : List ℕ) (k : ℕ) (places : List ℕ) : Type 0 where
   pub width : length places ≡ 8
   pub place : (h : ℕ) → h < k → getD places h 0 ≡ N - getD lengths h 0
-
--- the alone mark can be read off: neither the register, of length l, nor a sequence is longer than N, and no number fails to fit
-pub record Markable (N : ℕ) (lengths : List ℕ) (k l : ℕ) (places sizes : List ℕ) : Type 0 where
-  pub longest : N ≤ 128
-  pub count : k ≤ 8
-  pub size : l ≤ N
-  pub shorter : (h : ℕ) → h < k → getD lengths h 0 ≤ N
-  pub places-small : (h : ℕ) → h < k → getD places h 0 ≤ 128
-  pub sizes-small : (h : ℕ) → h < k → getD sizes h 0 ≤ 128
 
 -- whether nothing of sequence h is free after all N rounds
 abbrev pub markTest : (N : ℕ) (lengths : List ℕ) (l : ℕ) (places sizes : List ℕ) (h : ℕ) → Bool

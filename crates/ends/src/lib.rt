@@ -1,7 +1,7 @@
 // What stands before the first round of Algorithm 4, and what is read off after the last: the places of the sequences, and the alone mark.
 ghost use mathlib.Core.Path.{_≡_};
-ghost use Prim.Native.Nat.{min};
-ghost use Rattle.ends.specs.Ends.{Startable, Started, Markable, aloneMark};
+ghost use Prim.Native.Nat.{_<_, min};
+ghost use Rattle.ends.specs.Ends.{Startable, Started, aloneMark};
 
 // Before the first round the place of a sequence is its gap, N − N_h.
 pub fn start(longest: usize, lengths: &[u16; 8], count: usize) -> [u16; 8]
@@ -15,6 +15,14 @@ pub fn start(longest: usize, lengths: &[u16; 8], count: usize) -> [u16; 8]
         h += 1;
     }
     places
+}
+
+// An entry of an array as a number: the proof learns that it fits.
+fn wide(x: u16) -> usize
+    ensures equals { λ r. ⌜ r ≡ x ⌝ }
+    ensures below { λ r. ⌜ r < 65536 ⌝ }
+{
+    x as usize
 }
 
 fn smaller(a: usize, b: usize) -> usize
@@ -35,14 +43,14 @@ pub fn alone(
     places: &[u16; 8],
     sizes: &[u16; 8],
 ) -> bool
-    requires { ⌜ Markable longest (now lengths) count l (now places) (now sizes) ⌝ }
+    requires { ⌜ Startable longest (now lengths) count ⌝ }
     ensures { λ r. ⌜ r ≡ aloneMark longest (now (lengths .entry)) count l (now (places .entry)) (now (sizes .entry)) ⌝ }
 {
     let mut h = 0;
     while h < count {
-        let place = places[h] as usize;
-        let size = sizes[h] as usize;
-        let long = lengths[h] as usize;
+        let place = wide(places[h]);
+        let size = wide(sizes[h]);
+        let long = wide(lengths[h]);
         if place + smaller(l, long) > size + longest {
             return false;
         }

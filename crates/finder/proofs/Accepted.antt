@@ -1,20 +1,17 @@
--- What holds of input that no test refuses: the bounds, and what they say of the sequences that it is cut into.
-use mathlib.Core.Path.{_≡_, refl, ap₂}
+-- What holds of input that no test refuses: the bounds.
+use mathlib.Core.Path.{_≡_}
 use mathlib.Core.Bool.{and-eq-true-iff}
-use mathlib.Core.List.{List, [], _∷_, map}
-use Prim.Native.Nat.{ℕ, _+_, _≤_, _<_}
-use native.Mathlib.Omega.{arith}
+use mathlib.Core.List.{List}
+use Prim.Native.Nat.{ℕ, _≤_, _<_}
 use borrow.Author.Tests.{ltb-true, ltb-false, leb-true, eqb-true}
-use lib.ListN.{length, getD, drop, length-drop}
-use lib.Seq.{length-take-le}
+use lib.ListN.{length, getD}
 use Rattle.field.proofs.Modulus.{modulus-prime}
-use Rattle.lists.proofs.Totals.{total-head}
 use Rattle.field.specs.Prime.{Prime}
 use Rattle.lists.specs.Total.{total}
 use Rattle.lists.proofs.Tabulated.{every-at}
 use Rattle.refusal.proofs.Orders.{Pass, no-fail, none-pass, outcome-passed}
 use Rattle.refusal.specs.Outcome.{passed, outcome}
-use Rattle.register.specs.Sequences.{largest, split}
+use Rattle.register.specs.Sequences.{largest}
 use Rattle.finder.specs.Demands.{reasons}
 use Rattle.sequences.specs.Tests.{isShort, tests}
 use Rattle.sequences.proofs.Checks.{counted-bounds}
@@ -50,14 +47,3 @@ module _ (p : ℕ) (lengths symbols : List ℕ) (room : ℕ) where
         enough = ltb-false _ _ (ok .1 .1 .1 .0);
         below = λ i b. ltb-true _ _ (every-at (length symbols) _ (no-fail _ (ok .1 .1 .1 .1 .0)) i b);
       }
-
--- the sequences have the lengths given
-pub lengths-split : (lengths symbols : List ℕ) → total (length lengths) (λ h. getD lengths h 0) ≤ length symbols →
-    map length (split lengths symbols) ≡ lengths
-unfolding split
-lengths-split [] symbols h = refl
-lengths-split (n ∷ ns) symbols h =
-    let parted : total (length (n ∷ ns)) (λ k. getD (n ∷ ns) k 0) ≡ n + total (length ns) (λ k. getD ns k 0) =
-    total-head (length ns) (λ k. getD (n ∷ ns) k 0)
-    in
-    ap₂ _∷_ (length-take-le n symbols (omega arith)) (lengths-split ns (drop n symbols) (omega (arith, length-drop n symbols)))

@@ -2,64 +2,37 @@
 -- sequences lent.
 use mathlib.Core.Path.{_≡_, sym, ap, ap₂, subst, _∙_}
 use mathlib.Core.Bool.{Bool}
-use mathlib.Core.List.{List, [], _++_}
-use Prim.Native.Nat.{ℕ, suc, _+_, _-_, _≤_, _<_, max}
+use mathlib.Core.List.{List, _++_}
+use Prim.Native.Nat.{ℕ, suc, _+_, _-_, _*_, _≤_, _<_}
 use native.Mathlib.Omega.{arith}
-use lib.Dec.{leb}
 use lib.ListN.{length, getD, take, drop}
 use lib.Seq.{length-take-le}
 use Rattle.lists.proofs.Totals.{total-bound}
 use Rattle.field.proofs.Modulus.{odd-prime}
 use Rattle.lists.proofs.Entries.{getD-part}
-use Rattle.lists.proofs.Filling.{by-entries}
-use Rattle.lists.proofs.Tabulated.{every-ext, getD-tabulate, length-tabulate, tabulate-ext}
 use Rattle.refusal.proofs.Outcomes.{given-passed}
 use Rattle.refusal.specs.Outcome.{passed, outcome}
-use Rattle.register.proofs.Bounds.{Bounded, bounded-rounds}
-use Rattle.register.proofs.Ordering.{longest-bounds, longest-ordered}
-use Rattle.register.specs.Algorithm4.{Saved, State, rounds, isAlone, found, foundAlone}
+use Rattle.register.proofs.Ordering.{longest-ordered}
+use Rattle.register.specs.Algorithm4.{State, rounds, isAlone, found, foundAlone}
 use Rattle.register.specs.Sequences.{largest, longest, ordered, split}
 use Rattle.sequences.specs.Tests.{tests}
 use Rattle.finder.specs.Finder.{register, refused, answer, tapsLeft, Finds}
-use Rattle.sequences.specs.Places.{sequenceAt, sequencesAt, Sortable, Stands}
-use Rattle.discrepancy.specs.Discrepancies.{sequenceIn}
+use Rattle.sequences.specs.Backwards.{Reversible, backwardsOver}
+use Rattle.sequences.specs.Places.{sequencesAt, Sortable, Stands}
 use Rattle.discrepancy.specs.Modulus.{Taken}
 use Rattle.register_step.specs.Parts.{Parts, stateOf}
-use Rattle.ends.specs.Ends.{Markable, Startable, aloneMark}
-use Rattle.rounds.specs.Rounds.{Agree, Reached, Running, sequencesIn}
-use Rattle.finder.specs.Backwards.{Backwards, Reversible}
+use Rattle.ends.specs.Ends.{Startable, aloneMark}
+use Rattle.rounds.specs.Rounds.{Reached, Running, sequencesIn}
 use Rattle.finder.specs.declared.Found.{Found}
 use Rattle.finder.specs.declared.Found.the-variants.{Register}
 use Rattle.sequences.specs.declared.Order.{Order}
-use Rattle.finder.proofs.Accepted.{Accepted, lengths-split}
-use Rattle.sequences.proofs.Insertion.{length-within}
+use Rattle.finder.proofs.Accepted.{Accepted}
+use Rattle.sequences.proofs.Reversing.{backwards-in}
+use Rattle.sequences.proofs.Standing.{lengths-split, standing-at, standing-count, standing-length, standing-shorter}
 use Rattle.register.proofs.Largest.{largest-bound}
-use Rattle.rounds.proofs.Running.{found-within, length-part, length-sequences, sequence-at}
-
--- the mark read off the arrays is that of the state that they hold
-mark-is : (N : ℕ) (lengths : List ℕ) (k : ℕ) (blocks : List ℕ) (x : Parts) (st : State) →
-    Agree k (stateOf x) st → aloneMark N lengths k (x .length) (x .places) (x .sizes) ≡ isAlone N (sequencesIn lengths k blocks) N st
-unfolding aloneMark isAlone stateOf
-mark-is N lengths k blocks x st agree =
-    rw (length-sequences lengths k blocks)
-    (every-ext k _ _ (λ h b.
-    ap₂ (λ (v : Saved) (m : ℕ). leb (v .place) (v .size + m)) (agree .saved h b)
-    (ap₂ (λ (l n : ℕ). max (N - l) (N - n)) (agree .size) (sym (ap length (sequence-at lengths k blocks h b) ∙ length-part lengths k blocks h)))))
-
--- what stands backwards in the blocks are the sequences
-sequences-are : (o : Order) (k : ℕ) (symbols blocks : List ℕ) → ((h : ℕ) → h < k → getD (o .starts) h 0 + getD (o .lengths) h 0 ≤ length symbols) →
-    Backwards o k symbols blocks → sequencesIn (o .lengths) k blocks ≡ sequencesAt o k symbols
-unfolding sequenceIn
-sequences-are o k symbols blocks within back = tabulate-ext k _ _ (λ h b. each h b)
-  where
-    each : (h : ℕ) → h < k → sequenceIn blocks h (getD (o .lengths) h 0) ≡ sequenceAt o symbols h
-    each h b =
-        let n : ℕ = getD (o .lengths) h 0 in
-        let a : ℕ = getD (o .starts) h 0 in
-        let long : length (sequenceAt o symbols h) ≡ n = length-within a n symbols (within h b) in
-        sym (by-entries n _ (sequenceAt o symbols h) long (λ i less.
-        getD-part a n symbols i 0 less
-        ∙ sym (back .entries h b (n - suc i) (omega arith) ∙ ap (λ (j : ℕ). getD symbols (a + j) 0) (let e : n - suc (n - suc i) ≡ i = omega arith in e))))
+use Rattle.rounds.proofs.Marking.{mark-is}
+use Rattle.rounds.proofs.Reading.{sequences-read}
+use Rattle.rounds.proofs.Running.{found-within}
 
 module _ {p : ℕ} {lengths symbols : List ℕ} {room : ℕ} (fine : Accepted p lengths symbols room) where
   abbrev k : ℕ
@@ -84,13 +57,7 @@ module _ {p : ℕ} {lengths symbols : List ℕ} {room : ℕ} (fine : Accepted p 
     is-longest = ap largest (lengths-split lengths symbols (omega (arith, fine .whole))) ∙ sym most
 
     shorter : (h : ℕ) → h < k → getD (o .lengths) h 0 ≤ N
-    shorter h b =
-        let here : getD (ordered ss) h [] ≡ sequenceAt o symbols h =
-        ap (λ (l : List (List ℕ)). getD l h []) (sym (stands .sequences)) ∙ getD-tabulate k (sequenceAt o symbols) h [] b
-        in
-        let size = ap length here ∙ length-within (getD (o .starts) h 0) (getD (o .lengths) h 0) symbols (stands .within h b) in
-        let many = sym (ap length (stands .sequences)) ∙ length-tabulate k (sequenceAt o symbols) in
-        omega (arith, longest-bounds (ordered ss) h (omega arith), longest-ordered ss, is-longest)
+    shorter h b = omega (arith, standing-shorter stands h b, longest-ordered ss, is-longest)
 
     pub startable : Startable N (o .lengths) k
     startable = record { longest = omega (arith, largest-bound 128 lengths (fine .short)); count = fine .count; shorter = shorter }
@@ -99,7 +66,22 @@ module _ {p : ℕ} {lengths symbols : List ℕ} {room : ℕ} (fine : Accepted p 
     reversible =
         record { count = fine .count; short = λ h b. omega (arith, shorter h b, startable .longest); within = stands .within }
 
-    module _ {blocks : List ℕ} (back : Backwards o k symbols blocks) where
+    module _ {blocks : List ℕ} (old : List ℕ) (back : blocks ≡ backwardsOver (sequencesAt o k symbols) old) where
+      -- the blocks are those of the sequences in order
+      turned : blocks ≡ backwardsOver (ordered ss) old
+      turned = back ∙ ap (λ (l : List (List ℕ)). backwardsOver l old) (stands .sequences)
+
+      -- symbol i counted from the last
+      entry : (h : ℕ) → h < k → (i : ℕ) → i < getD (o .lengths) h 0 →
+          getD blocks (h * 144 + i) 0 ≡ getD symbols (getD (o .starts) h 0 + (getD (o .lengths) h 0 - suc i)) 0
+      entry h b i less =
+          let n : ℕ = getD (o .lengths) h 0 in
+          let size = standing-length stands h b in
+          ap (λ (l : List ℕ). getD l (h * 144 + i) 0) turned
+          ∙ backwards-in (ordered ss) old h i (omega (arith, fine .count)) (omega arith) (omega (arith, shorter h b, startable .longest))
+          ∙ ap₂ (λ (l : List ℕ) (m : ℕ). getD l (m - suc i) 0) (standing-at stands h b) size
+          ∙ getD-part (getD (o .starts) h 0) n symbols (n - suc i) 0 (omega arith)
+
       pub running : Running p N (o .lengths) k blocks
       running =
           record {
@@ -107,19 +89,19 @@ module _ {p : ℕ} {lengths symbols : List ℕ} {room : ℕ} (fine : Accepted p 
             longest = startable .longest;
             count = fine .count;
             shorter = shorter;
-            residues = λ h b i less. rw (back .entries h b i less) (fine .below _ (omega (arith, stands .within h b)));
+            residues = λ h b i less. rw (entry h b i less) (fine .below _ (omega (arith, stands .within h b)));
           }
 
       module _ {x : Parts} (reached : Reached p k (rounds p N (sequencesIn (o .lengths) k blocks) N) x) where
         sequences : sequencesIn (o .lengths) k blocks ≡ ordered ss
-        sequences = sequences-are o k symbols blocks (stands .within) back ∙ stands .sequences
+        sequences =
+            ap (sequencesIn (o .lengths) k) turned
+            ∙ sequences-read (ordered ss) old (o .lengths) k (sym (standing-count stands)) (fine .count) (λ h b. sym (standing-length stands h b))
+            (λ h b. omega (arith, shorter h b, startable .longest))
 
         is-found : rounds p N (sequencesIn (o .lengths) k blocks) N ≡ found p ss (longest ss)
         unfolding found
         is-found = ap₂ (λ (m : ℕ) (l : List (List ℕ)). rounds p m l m) (sym is-longest) sequences
-
-        bounded : Bounded p N (sequencesIn (o .lengths) k blocks) N (rounds p N (sequencesIn (o .lengths) k blocks) N)
-        bounded = bounded-rounds p N (sequencesIn (o .lengths) k blocks) (running .two-or-more) N
 
         pub size-within : x .length ≤ N
         size-within = found-within running N reached
@@ -129,29 +111,6 @@ module _ {p : ℕ} {lengths symbols : List ℕ} {room : ℕ} (fine : Accepted p 
 
         pub buffer-room : x .length + 1 ≤ room
         buffer-room = omega (arith, size-within, fine .enough)
-
-        -- what is saved for a sequence lies within the rounds
-        saved-within : (h : ℕ) → h < k → (getD (x .places) h 0 ≤ 128) × (getD (x .sizes) h 0 ≤ 128)
-        unfolding stateOf
-        saved-within h b =
-            let st = rounds p N (sequencesIn (o .lengths) k blocks) N in
-            let v = reached .state .saved h b in
-            let place : getD (x .places) h 0 ≡ st .saved h .place = ap (λ (w : Saved). w .place) v in
-            let size : getD (x .sizes) h 0 ≡ st .saved h .size = ap (λ (w : Saved). w .size) v in
-            let most = bounded .place h in
-            let least = bounded .saved-size h in
-            (omega (arith, running .longest), omega (arith, running .longest))
-
-        pub markable : Markable N (o .lengths) k (x .length) (x .places) (x .sizes)
-        markable =
-            record {
-              longest = running .longest;
-              count = running .count;
-              size = size-within;
-              shorter = running .shorter;
-              places-small = λ h b. saved-within h b .0;
-              sizes-small = λ h b. saved-within h b .1;
-            }
 
         found-size : x .length ≡ found p ss (longest ss) .size
         unfolding stateOf
@@ -185,5 +144,6 @@ module _ {p : ℕ} {lengths symbols : List ℕ} {room : ℕ} (fine : Accepted p 
             }
 
 -- by another name of the modulus
-pub finds-same : {p q : ℕ} {lengths symbols buffer left : List ℕ} {r : Found} → q ≡ p → Finds q lengths symbols buffer left r → Finds p lengths symbols buffer left r
+pub finds-same : {p q : ℕ} {lengths symbols buffer left : List ℕ} {r : Found} →
+    q ≡ p → Finds q lengths symbols buffer left r → Finds p lengths symbols buffer left r
 finds-same {p} {q} {lengths} {symbols} {buffer} {left} {r} = subst (λ (x : ℕ). Finds x lengths symbols buffer left r)

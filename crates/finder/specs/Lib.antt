@@ -1,3 +1,2 @@
-pub mod Backwards
 pub mod Demands
 pub mod Finder

@@ -1,12 +1,12 @@
 // The finder: the shortest register of the sequences lent, or why the input is refused.
 use crate::Found;
-use crate::backwards::all_backwards;
 use discrepancy::worked_out::worked_out;
 use ends::alone;
 use ends::start;
 use reduction::copy::copy;
 use refusal::Checked;
 use rounds::rounds;
+use sequences::backwards::all_backwards;
 use sequences::check::check;
 use sequences::check::longest;
 use sequences::sort::by_length;
@@ -27,7 +27,8 @@ fn shortest(p: u32, lengths: &[u16], symbols: &[u16], taps: &mut [u16]) -> Found
     let count = lengths.len();
     let most = longest(lengths);
     let order = by_length(lengths, symbols);
-    let backwards = all_backwards(order, count, symbols);
+    let mut backwards = [0u16; 1152];
+    all_backwards(order, count, symbols, &mut backwards);
     let sorted = order.lengths;
     let mut places = start(most, &sorted, count);
     let mut sizes = [0u16; 8];

@@ -1,5 +1,4 @@
 // The shortest register of up to eight sequences (SPECIFICATION.md, "Registers").
-mod backwards;
 pub mod find;
 
 use refusal::Refusal;

@@ -60,6 +60,7 @@ pub fn is_sound(j: Head) -> bool
     match phase {
         Phase::Empty => true,
         Phase::Shaped => is_shape(j.shape),
+        Phase::Unfinished => is_shape(j.shape),
         Phase::Located { length, alone } => {
             if !is_shape(j.shape) {
                 return false;
@@ -80,6 +81,7 @@ pub fn counts_as_empty(j: Head) -> bool
     match phase {
         Phase::Empty => true,
         Phase::Shaped => false,
+        Phase::Unfinished => false,
         Phase::Located {
             length: _,
             alone: _,

@@ -7,7 +7,7 @@ use job::Phase;
 use job::Reply;
 use refusal::Refusal;
 ghost use mathlib.Core.Path.{_≡_};
-ghost use Rattle.job.specs.Job.{emptyHead, shapedHead, isLocatedPhase, lengthOf};
+ghost use Rattle.job.specs.Job.{emptyHead, shapedHead, unfinishedHead, isLocatedPhase, isUnfinishedPhase, lengthOf};
 ghost use Rattle.heads.specs.Answered.{found, refusal, repair};
 
 // The head that the first call gets.
@@ -35,6 +35,17 @@ pub fn shaped(s: Shape) -> Head
     let columns = columns::empty();
     Head {
         phase: Phase::Shaped,
+        shape: s,
+        columns,
+    }
+}
+
+pub fn unfinished(s: Shape) -> Head
+    ensures { λ r. ⌜ r ≡ unfinishedHead s ⌝ }
+{
+    let columns = columns::empty();
+    Head {
+        phase: Phase::Unfinished,
         shape: s,
         columns,
     }
@@ -92,10 +103,25 @@ pub fn is_located(phase: Phase) -> bool
     match phase {
         Phase::Empty => false,
         Phase::Shaped => false,
+        Phase::Unfinished => false,
         Phase::Located {
             length: _,
             alone: _,
         } => true,
+    }
+}
+
+pub fn is_unfinished(phase: Phase) -> bool
+    ensures { λ r. ⌜ r ≡ isUnfinishedPhase phase ⌝ }
+{
+    match phase {
+        Phase::Empty => false,
+        Phase::Shaped => false,
+        Phase::Unfinished => true,
+        Phase::Located {
+            length: _,
+            alone: _,
+        } => false,
     }
 }
 
@@ -105,6 +131,7 @@ pub fn length_of(phase: Phase) -> usize
     match phase {
         Phase::Empty => 0,
         Phase::Shaped => 0,
+        Phase::Unfinished => 0,
         Phase::Located { length, alone: _ } => length,
     }
 }

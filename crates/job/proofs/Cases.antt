@@ -3,23 +3,23 @@
 use mathlib.Core.Path.{_≡_, _∙_}
 use Prim.Native.Nat.{ℕ}
 use Rattle.refusal.proofs.Orders.{Among, Pass, by-tests, pass-otherwise}
-use Rattle.job.specs.Calls.{Call, Outcome, Described, refusing, reshaped, describe, step}
-use Rattle.job.specs.Job.{Job}
+use Rattle.job.specs.Calls.{Call, Outcome, Described, refusing, describe, step}
+use Rattle.job.specs.Job.{Job, shapedJob}
 
 module _ (j : Job) (c : Call) where
   abbrev d : Described
   d = describe j c
 
   pub by-call : (P : Outcome → Type 0) → ((k : ℕ) → Among k (d .keeping) → P (refusing j (d .lent) k))
-      → ((k : ℕ) → Pass (d .keeping) → Among k (d .shaping) → P (refusing (reshaped j) (d .lent) k))
+      → ((k : ℕ) → Pass (d .keeping) → Among k (d .shaping) → P (refusing (shapedJob (j .head .shape) (d .beside)) (d .lent) k))
       → (Pass (d .keeping) → Pass (d .shaping) → P (d .gives)) → P (step j c)
   unfolding step
   by-call P kept shaped given =
       by-tests (refusing j (d .lent)) _ P (d .keeping) kept (λ p.
-      by-tests (refusing (reshaped j) (d .lent)) (d .gives) P (d .shaping) (λ k. shaped k p) (given p))
+      by-tests (refusing (shapedJob (j .head .shape) (d .beside)) (d .lent)) (d .gives) P (d .shaping) (λ k. shaped k p) (given p))
 
   pub step-gives : Pass (d .keeping) → Pass (d .shaping) → step j c ≡ d .gives
   unfolding step
   step-gives kept shaped =
       pass-otherwise (refusing j (d .lent)) _ (d .keeping) kept
-      ∙ pass-otherwise (refusing (reshaped j) (d .lent)) (d .gives) (d .shaping) shaped
+      ∙ pass-otherwise (refusing (shapedJob (j .head .shape) (d .beside)) (d .lent)) (d .gives) (d .shaping) shaped

@@ -2,36 +2,38 @@
 use mathlib.Core.Path.{_≡_, refl, sym, ap, subst, subst⁻¹, _∙_}
 use mathlib.Core.Logic.{_↔_}
 use mathlib.Core.Bool.{Bool, true, false, and-eq-true-iff}
-use mathlib.Core.List.{List, [], _∷_, _++_}
+use mathlib.Core.List.{List, [], _∷_, _++_, append-assoc}
 use mathlib.Core.Option.{some}
-use Prim.Native.Nat.{ℕ, _≤_, _<_}
+use Prim.Native.Nat.{ℕ, _+_, _*_, _≤_, _<_}
 use Rattle.decoding.specs.Remaining.{readSequences}
 use Rattle.decoding.proofs.MendedFrame.{read-facts}
-use Rattle.decoding.proofs.Recovery.{recovers-twice}
-use Rattle.frame.specs.DeclaredCells.{Declared, declaredBy, checksLeft, WellFormedRead}
+use Rattle.decoding.proofs.Recovery.{Recovers, recovers-twice}
+use Rattle.frame.specs.DeclaredCells.{Declared, declaredBy, checksLeft, erasures, WellFormedRead, distanceRead}
 use Rattle.frame.specs.Encode.{encodeTests}
-use Rattle.frame.specs.Shape.{isShape, shapeOf}
+use Rattle.frame.specs.Frame.{Legal}
+use Rattle.frame.specs.Shape.{checksOf, isShape, shapeOf}
 use Rattle.frame.specs.declared.Shape.{Shape}
-use Rattle.frame.proofs.Declarable.{read-passes}
 use Rattle.frame.proofs.Demands as frames
 use Rattle.refusal.specs.Outcome as outcome
 use Rattle.refusal.specs.Outcome.{passed}
 use Rattle.refusal.proofs.Orders.{Pass, no-fail, pass-otherwise}
 use Rattle.register.specs.Register.{Shortest, Alone}
-use Rattle.job.specs.Calls.{Call, shape, encode, locate, repair, done, columns, refused, Outcome, describe, step, repairs}
+use Rattle.job.specs.Calls.{Call, shape, encode, locate, repair, done, columns, refused, Outcome, describe, step}
 use Rattle.job.specs.Demands.{ShapeGives, Encoded, Mended, Found, LocateExact, RepairMends, CheckSumsDiffer, RepairExact, DamageMended}
 use Rattle.job.specs.Demands.{Demand2, Demand3}
 use Rattle.job.specs.Job.{Arrays, Job, emptyJob, isEmpty, isLocatedPhase, lengthOf, declaredIn, declaredSound}
 use Rattle.job.specs.Left.{Given, LeftShaped}
 use Rattle.job.specs.Refusals.{LegalAt}
-use Rattle.job.specs.Runs.{run, runFrom, lastShape, IsRefused, Taken, Between, GoesBack}
+use Rattle.job.specs.Runs.{run, lastShape, IsRefused, Taken, Between, LocatedBy, at-once, GoesBack}
 use Rattle.job.proofs.AfterRefusal.{never-columns}
 use Rattle.job.proofs.Between.{between-keeps}
 use Rattle.job.proofs.Cases.{by-call}
-use Rattle.job.proofs.Forms.{Locates, locatedFrame, locatesFrame, has-shape, register-passes, run-form, run-append}
+use Rattle.job.proofs.Emptiness.{has-shape}
+use Rattle.job.proofs.Forms.{Locates, locatedFrame, run-form, run-append}
 use Rattle.job.proofs.GoingBack.{goes-back}
 use Rattle.job.proofs.LastShape.{shape-is-last}
 use Rattle.job.proofs.Left.{shape-given}
+use Rattle.job.proofs.LocatedBy.{located-by}
 use Rattle.job.proofs.Locating.{locate-takes, exact-at, found}
 use Rattle.job.proofs.NoPart.{play-no-part}
 use Rattle.job.proofs.OtherSums.{refused-where-differ}
@@ -115,62 +117,74 @@ locate-exact a calls s words f c σ last =
     → ((h : ℕ) → h < x .rows → c ≤ checksLeft x D h) → IsRefused (step (run a calls) (locate words f)) ↔ (LegalAt x D f c → ⊥)) same
     (exact-at (run a calls) words f not-empty c σ)
 
--- ---- a frame that was damaged
+-- ---- a frame that was located, at once or in slices
 
-module _ (a : Arrays) (before : List Call) (s : Shape) (words f : List ℕ) (last : lastShape before ≡ some s) where
-  pub shaped-so : isShape s ≡ true
-  shaped-so = let (not-empty, same) = shape-held a before s last in subst (λ (x : Shape). isShape x ≡ true) same (has-shape (run a before .head) not-empty)
+pub shaped-so : (a : Arrays) (calls : List Call) (s : Shape) → lastShape calls ≡ some s → isShape s ≡ true
+shaped-so a calls s last =
+    let (not-empty, same) = shape-held a calls s last in subst (λ (x : Shape). isShape x ≡ true) same (has-shape (run a calls .head) not-empty)
 
-  module _ (l : Locates s (declaredBy words) f) where
-    abbrev j : Job
-    j = locatedFrame s (run a before .arrays) words f
+module _ (a : Arrays) (before locating : List Call) (s : Shape) (words f : List ℕ) (last : lastShape before ≡ some s)
+    (by : LocatedBy a before words f locating) where
+  -- the job is the one that the frame leaves
+  located-so : (b : Arrays) × (run a (before ++ locating) ≡ locatedFrame s b words f) × Locates s (declaredBy words) f
+  located-so =
+      subst (λ (x : Shape). (b : Arrays) × (run a (before ++ locating) ≡ locatedFrame x b words f) × Locates x (declaredBy words) f)
+      (shape-held a before s last .1) (located-by a before words f locating by)
 
-    taken : step (run a before) (locate words f) ≡ locatesFrame s (run a before .arrays) words f
-    taken =
-        let (not-empty, same) = shape-held a before s last in
-        subst (λ (x : Shape). Locates x (declaredBy words) f → step (run a before) (locate words f) ≡ locatesFrame x (run a before .arrays) words f) same
-        (locate-takes (run a before) words f not-empty) l
+  pub locates : Locates s (declaredBy words) f
+  locates = let (b, same, l) = located-so in l
 
-    located-then : run a (before ++ (locate words f ∷ [])) ≡ j
-    unfolding runFrom
-    located-then = run-append (emptyJob a) before (locate words f ∷ []) ∙ ap (λ o. o .job) taken
-
-    still-located : (between : List Call) → Between (run a (before ++ (locate words f ∷ []))) between → run a (before ++ (locate words f ∷ between)) ≡ j
-    unfolding runFrom
-    still-located between kept =
-        run-append (emptyJob a) before (locate words f ∷ between) ∙ ap (λ o. runFrom (o .job) between) taken
-        ∙ between-keeps j between (subst (λ i. Between i between) located-then kept)
-
-    repair-then : (between : List Call) → Between (run a (before ++ (locate words f ∷ []))) between
-        → step (run a (before ++ (locate words f ∷ between))) (repair f) ≡ repairs j f
-    repair-then between kept = ap (λ i. step i (repair f)) (still-located between kept) ∙ repair-takes s (run a before .arrays) words f shaped-so l
-
-  pub locates : Taken (step (run a before) (locate words f)) → Locates s (declaredBy words) f
-  locates =
-      subst (λ (x : Shape). Taken (step (run a before) (locate words f)) → Locates x (declaredBy words) f) (shape-held a before s last .1)
-      (by-call (run a before) (locate words f) (λ o. Taken o → Locates (run a before .head .shape) (declaredBy words) f) (λ k m t. absurd (t (k, refl)))
-      (λ k p m t. absurd (t (k, refl))) (λ p q t. register-passes _ (declaredBy words) f (read-passes _ (declaredBy words) f (p .1)) q))
+  -- and still is
+  pub still-located : (between : List Call) → Between (run a (before ++ locating)) between
+      → (b : Arrays) × (run a (before ++ (locating ++ between)) ≡ locatedFrame s b words f)
+  still-located between kept =
+      let (b, same, l) = located-so in (
+        b,
+        ap (run a) (sym (append-assoc before locating between)) ∙ run-append (emptyJob a) (before ++ locating) between
+            ∙ between-keeps (run a (before ++ locating)) between kept ∙ same,
+      )
 
 repair-exact : RepairExact
-repair-exact a before between s words f g last taken kept w =
+repair-exact a before locating between s words f g last by kept w =
     let D : Declared = declaredBy words in
-    let l : Locates s D g = locates a before s words g last taken in
-    subst⁻¹ (λ j. (IsRefused (step j (repair f)) ↔ CheckSumsDiffer s D f g) × ((step j (repair f) .answer ≡ refused 23) ↔ CheckSumsDiffer s D f g))
-    (still-located a before s words g last l between kept)
-    (refused-where-differ s (run a before .arrays) words f g (shaped-so a before s words g last) l w)
+    let (b, same) = still-located a before locating s words g last by between kept in
+    subst⁻¹ (λ j. (IsRefused (step j (repair f)) ↔ CheckSumsDiffer s D f g) × ((step j (repair f) .answer ≡ refused 23) ↔ CheckSumsDiffer s D f g)) same
+    (refused-where-differ s b words f g (shaped-so a before s last) (locates a before locating s words g last by) w)
+
+-- ---- a frame that was damaged
+
+module _ (s : Shape) (t : isShape s ≡ true) (words f g : List ℕ) (legal : Legal s g) (w : WellFormedRead s (declaredBy words) f)
+    (twice : (h : ℕ) → h < s .rows → 2 * distanceRead s (declaredBy words) g f + erasures (declaredBy words) h ≤ checksOf s h) where
+  abbrev D : Declared
+  D = declaredBy words
+
+  recovers : Recovers s D g f
+  recovers = recovers-twice s t D g f legal (read-facts s t D f w) twice
+
+  pub damaged-locates : Locates s (declaredBy words) f
+  damaged-locates =
+      record { well-formed = w; alone = recovers .alone; reach = recovers .reaches; names = recovers .names; fits = recovers .fits }
+
+  -- a job that it left located mends it
+  pub damaged-mended : (j : Job) (b : Arrays) → j ≡ locatedFrame s b words f → Taken (step j (repair f)) × (step j (repair f) .frame ≡ g)
+  damaged-mended j b same =
+      let after = ap (λ i. step i (repair f)) same ∙ repair-takes s b words f t damaged-locates in
+      (λ (k, refusal). never-columns (sym (ap (λ o. o .answer) after) ∙ refusal), ap (λ o. o .frame) after ∙ recovers .frame)
+
+locate-taken : (a : Arrays) (before : List Call) (s : Shape) (words f : List ℕ) → lastShape before ≡ some s → Locates s (declaredBy words) f
+    → Taken (step (run a before) (locate words f))
+locate-taken a before s words f last =
+    let (not-empty, same) = shape-held a before s last in
+    subst (λ (x : Shape). Locates x (declaredBy words) f → Taken (step (run a before) (locate words f))) same
+    (λ l (k, refusal). never-columns (sym (ap (λ o. o .answer) (locate-takes (run a before) words f not-empty l)) ∙ refusal))
 
 damage-mended : DamageMended
 damage-mended a before between s words f g last legal w twice kept =
-    let D : Declared = declaredBy words in
-    let t : isShape s ≡ true = shaped-so a before s words f last in
-    let r = recovers-twice s t D g f legal (read-facts s t D f w) twice in
-    let l : Locates s D f = record { well-formed = w; alone = r .alone; reach = r .reaches; names = r .names; fits = r .fits } in
-    let after = repair-then a before s words f last l between kept in
-    record {
-      located = λ (k, refusal). never-columns (sym (ap (λ o. o .answer) (taken a before s words f last l)) ∙ refusal);
-      mended = λ (k, refusal). never-columns (sym (ap (λ o. o .answer) after) ∙ refusal);
-      frame = ap (λ o. o .frame) after ∙ r .frame;
-    }
+    let t : isShape s ≡ true = shaped-so a before s last in
+    let taken = locate-taken a before s words f last (damaged-locates s t words f g legal w twice) in
+    let (b, same) = still-located a before (locate words f ∷ []) s words f last (at-once a before words f taken) between kept in
+    let (mended, frame) = damaged-mended s t words f g legal w twice _ b same in
+    record { located = taken; mended = mended; frame = frame }
 
 pub demand-2 : Demand2
 demand-2 = record { encode-fills = fills }

@@ -1,6 +1,6 @@
 -- Which heads count as empty: those that are not sound, and of the others those whose phase is. What a located job must hold, by its tests.
 use mathlib.Core.Path.{_≡_, sym, ap, _∙_}
-use mathlib.Core.Bool.{Bool, true, false, not, _&&_, _||_, and-false, or-true, or-false}
+use mathlib.Core.Bool.{Bool, true, false, not, _&&_, _||_, and-false, or-true, or-false, and-eq-true-iff, false≢true}
 use Prim.Native.Nat.{ℕ}
 use lib.Dec.{ltb, eqb}
 use lib.ListN.{length}
@@ -13,8 +13,9 @@ use Rattle.frame.specs.declared.Shape.{Shape}
 use Rattle.job.specs.Job.{findingsSound, countsEmpty, isEmptyPhase, phaseSound, headSound}
 use Rattle.job.specs.declared.Head.{Head}
 use Rattle.job.specs.declared.Phase.{Phase}
-use Rattle.job.specs.declared.Phase.the-variants.{Empty, Shaped, Located}
+use Rattle.job.specs.declared.Phase.the-variants.{Empty, Shaped, Unfinished, Located}
 use Rattle.lists.specs.Tabulate.{every}
+use Rattle.refusal.proofs.Orders.{no-fail}
 
 pub unsound-empty : (j : Head) → headSound j ≡ false → countsEmpty j ≡ true
 unfolding countsEmpty
@@ -36,6 +37,10 @@ empty-sound j e = ap (soundIn j) e
 pub shaped-sound : (j : Head) → j .phase ≡ Shaped → headSound j ≡ isShape (j .shape)
 unfolding headSound phaseSound
 shaped-sound j e = ap (soundIn j) e
+
+pub unfinished-sound : (j : Head) → j .phase ≡ Unfinished → headSound j ≡ isShape (j .shape)
+unfolding headSound phaseSound
+unfinished-sound j e = ap (soundIn j) e
 
 module _ (j : Head) (c : ℕ) (a : Bool) (located : j .phase ≡ Located c a) where
   abbrev findings : Bool
@@ -75,3 +80,14 @@ module _ (s : Shape) (J : Columns) (c : ℕ) (a : Bool) where
   reach-left alone within count =
       ap (λ t. t && (inside && (counted && rowsReach s c))) alone ∙ ap (λ t. t && (counted && rowsReach s c)) within
       ∙ ap (λ t. t && rowsReach s c) (eq-eqb _ c count)
+
+-- a head that does not count as empty has a shape
+pub has-shape : (h : Head) → countsEmpty h ≡ false → isShape (h .shape) ≡ true
+unfolding countsEmpty headSound phaseSound
+has-shape h e = of-phase (h .phase) e
+  where
+    of-phase : (p : Phase) → (isEmptyPhase p || not (phaseSound p (h .shape) (h .columns))) ≡ false → isShape (h .shape) ≡ true
+    of-phase Empty e = absurd (false≢true (sym e))
+    of-phase Shaped e = no-fail _ e
+    of-phase Unfinished e = no-fail _ e
+    of-phase (Located c a) e = and-eq-true-iff (isShape (h .shape)) (findingsSound (h .shape) (h .columns) c a) .0 (no-fail _ e) .0

@@ -6,7 +6,7 @@ use Prim.Native.Nat.{ℕ}
 use Rattle.frame.specs.Shape.{shapeOf, shapeTests}
 use Rattle.frame.specs.declared.Shape.{Shape}
 use Rattle.refusal.proofs.Orders.{Pass, by-tests, pass-otherwise}
-use Rattle.job.specs.Calls.{Call, shape, encode, locate, repair, step}
+use Rattle.job.specs.Calls.{Call, shape, encode, locate, repair, start, next, peek, step}
 use Rattle.job.specs.Demands.{ShapeIsLast}
 use Rattle.job.specs.Job.{Arrays, Job, emptyJob}
 use Rattle.job.specs.Left.{Given}
@@ -29,6 +29,9 @@ kept-shape s j (shape n checks b) refusal =
 kept-shape s j (encode f) refusal = refl
 kept-shape s j (locate words f) refusal = refl
 kept-shape s j (repair f) refusal = refl
+kept-shape s j (start words f) refusal = refl
+kept-shape s j next refusal = refl
+kept-shape s j peek refusal = refl
 
 none-shapes : (s : Option Shape) (j : Job) (calls : List Call) → NoneShapes j calls → lastShapeFrom s calls ≡ s
 unfolding lastShapeFrom

@@ -29,7 +29,8 @@ use Rattle.job.specs.Refusals.{LegalAt}
 use Rattle.job.specs.Runs.{IsRefused}
 use Rattle.job.proofs.AfterRefusal.{never-columns}
 use Rattle.job.proofs.Cases.{step-gives}
-use Rattle.job.proofs.Forms.{Locates, locatesFrame, has-shape, register-passes}
+use Rattle.job.proofs.Emptiness.{has-shape}
+use Rattle.job.proofs.Forms.{Locates, locatesFrame, register-passes}
 use Rattle.job.proofs.Left.{sums-held, taps-held}
 use Rattle.job.proofs.Soundness.{marked-number}
 

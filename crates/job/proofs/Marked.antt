@@ -16,7 +16,7 @@ use Rattle.frame.specs.declared.Shape.{Shape}
 use Rattle.job.specs.Job.{findingsSound, countsEmpty, isEmptyPhase, isLocatedPhase, lengthOf, phaseSound, headSound}
 use Rattle.job.specs.declared.Head.{Head}
 use Rattle.job.specs.declared.Phase.{Phase}
-use Rattle.job.specs.declared.Phase.the-variants.{Empty, Shaped, Located}
+use Rattle.job.specs.declared.Phase.the-variants.{Empty, Shaped, Unfinished, Located}
 use Rattle.lists.specs.Tabulate.{every}
 use Rattle.lists.proofs.Tabulated.{every-at}
 use Rattle.refusal.proofs.Orders.{no-fail}
@@ -52,6 +52,7 @@ located-marked j full located four = of-phase (j .phase) full located
     of-phase : (p : Phase) → (isEmptyPhase p || not (phaseSound p (j .shape) (j .columns))) ≡ false → isLocatedPhase p ≡ true → Marked (j .shape) (j .columns)
     of-phase Empty e l = absurd (false≢true l)
     of-phase Shaped e l = absurd (false≢true l)
+    of-phase Unfinished e l = absurd (false≢true l)
     of-phase (Located c a) e l =
         findings-marked (j .shape) (j .columns) four c a (and-eq-true-iff (isShape (j .shape)) (findingsSound (j .shape) (j .columns) c a) .0 (no-fail _ e) .1)
 
@@ -65,6 +66,7 @@ located-findings j full located = of-phase (j .phase) full located
         → (length (members (j .columns)) ≡ lengthOf p) × (rowsReach (j .shape) (lengthOf p) ≡ true)
     of-phase Empty e l = absurd (false≢true l)
     of-phase Shaped e l = absurd (false≢true l)
+    of-phase Unfinished e l = absurd (false≢true l)
     of-phase (Located c a) e l =
         let (shape, findings) = and-eq-true-iff (isShape (j .shape)) (findingsSound (j .shape) (j .columns) c a) .0 (no-fail _ e) in
         let (alone, rest) = and-eq-true-iff a _ .0 findings in

@@ -2,7 +2,7 @@
 use mathlib.Core.Path.{_≡_, refl, sym, subst, subst⁻¹, _∙_}
 use mathlib.Core.Logic.{_↔_}
 use mathlib.Core.Bool.{true, false}
-use mathlib.Core.List.{List}
+use mathlib.Core.List.{List, [], _∷_}
 use mathlib.Core.Option.{some}
 use Prim.Native.Nat.{ℕ, _*_, _<_}
 use native.Mathlib.Omega.{arith}
@@ -20,13 +20,13 @@ use Rattle.lists.proofs.Joined.{replicate-each}
 use Rattle.lists.proofs.Tabulated.{every-of}
 use Rattle.refusal.proofs.Orders.{no-fail}
 use Rattle.register.specs.Register.{Shortest, Alone}
-use Rattle.job.specs.Calls.{Call, repair, Outcome, step}
+use Rattle.job.specs.Calls.{Call, locate, repair, Outcome, step}
 use Rattle.job.specs.Demands.{Found, Mended, CheckSumsDiffer}
 use Rattle.job.specs.Job.{Arrays, Job}
 use Rattle.job.specs.Left.{HoldsSums}
 use Rattle.job.specs.NothingDeclared.{noWords, FoundWhole, MendedWhole, SumsDifferWhole, NothingDeclared}
 use Rattle.job.specs.Refusals.{LegalAt}
-use Rattle.job.specs.Runs.{run, lastShape, Taken}
+use Rattle.job.specs.Runs.{run, lastShape, Taken, at-once}
 use Rattle.job.proofs.Cases.{by-call}
 use Rattle.job.proofs.Demands.{shaped-so, locates, demand-3}
 use Rattle.job.proofs.GoingBack.{held-words}
@@ -107,10 +107,11 @@ pub nothing-declared : NothingDeclared
 nothing-declared = record {
   locate-finds = λ a calls f taken.
       let (s, c, last, answer, found) = demand-3 .locate-finds a calls noWords f taken in
-      let t : isShape s ≡ true = shaped-so a calls s noWords f last in
-      (s, c, last, answer, found-whole s t f (locates a calls s noWords f last taken .well-formed .size) c _ found);
+      let t : isShape s ≡ true = shaped-so a calls s last in
+      let l = locates a calls (locate noWords f ∷ []) s noWords f last (at-once a calls noWords f taken) in
+      (s, c, last, answer, found-whole s t f (l .well-formed .size) c _ found);
   locate-exact = λ a calls s f c σ last w shortest alone checks.
-      let t : isShape s ≡ true = shaped-so a calls s noWords f last in
+      let t : isShape s ≡ true = shaped-so a calls s last in
       let same = same-sequences s t f (w .size) in
       let exact =
       demand-3 .locate-exact a calls s noWords f c σ last (well-formed s t f w) (subst⁻¹ (λ ss. Shortest 257 c ss σ) same shortest)
@@ -120,7 +121,7 @@ nothing-declared = record {
   repair-mends = λ a calls f back taken.
       let (s, words, c, last, words-back, answer, mended) = demand-3 .repair-mends a calls f taken in
       let same : words ≡ noWords = sym (held-words a calls words words-back) ∙ held-words a calls noWords back in
-      let t : isShape s ≡ true = shaped-so a calls s noWords f last in (
+      let t : isShape s ≡ true = shaped-so a calls s last in (
         s,
         c,
         last,
@@ -128,14 +129,14 @@ nothing-declared = record {
         mended-whole s t f (repaired-size a calls f s last taken) c (run a calls) _
             (subst (λ (w : List ℕ). Mended s (declaredBy w) f c (run a calls) (step (run a calls) (repair f))) same mended),
       );
-  repair-exact = λ a before between s f g last taken kept w.
-      let t : isShape s ≡ true = shaped-so a before s noWords f last in
-      let sized = locates a before s noWords g last taken .well-formed .size in
-      let exact = demand-3 .repair-exact a before between s noWords f g last taken kept (well-formed s t f w) .1 in
+  repair-exact = λ a before locating between s f g last by kept w.
+      let t : isShape s ≡ true = shaped-so a before s last in
+      let sized = locates a before locating s noWords g last by .well-formed .size in
+      let exact = demand-3 .repair-exact a before locating between s noWords f g last by kept (well-formed s t f w) .1 in
       let same = same-differ s t f g (w .size) sized in
       (λ refusal. same .0 (exact .0 refusal), λ differ. exact .1 (same .1 differ));
   damage-mended = λ a before between s f g last legal w twice kept.
-      let t : isShape s ≡ true = shaped-so a before s noWords f last in
+      let t : isShape s ≡ true = shaped-so a before s last in
       let at = same-distance s t f (w .size) g legal in
       demand-3 .damage-mended a before between s noWords f g last legal (well-formed s t f w)
       (λ h below. (let e = no-cells s t D (none s t) h below in let l = twice h below in omega arith)) kept;

@@ -1,37 +1,41 @@
 -- The tests of the calls on a job say their reasons: each fails exactly where its reason holds; those of the register in turn, where the tests before
 -- them pass.
-use mathlib.Core.Path.{_≡_, refl, sym, subst, subst⁻¹, _∙_}
+use mathlib.Core.Path.{_≡_, refl, sym, ap, subst, subst⁻¹, _∙_}
 use mathlib.Core.Logic.{_⊎_, inl, inr}
-use mathlib.Core.Bool.{Bool, true, false, not, _&&_, _||_, or-true, and-eq-true-iff, false≢true}
+use mathlib.Core.Bool.{Bool, true, false, cond, not, _&&_, _||_, or-true, and-eq-true-iff, false≢true}
 use mathlib.Core.List.{List, [], _∷_}
 use Prim.Native.Nat.{ℕ}
 use native.Mathlib.Omega.{arith}
 use lib.Dec.{leb}
 use borrow.Author.Tests.{leb-false, eqb-true, eqb-false}
 use Rattle.decoding.specs.Locating.{sizeOf, tapsOf, aloneOf, namesAll, namedColumns}
-use Rattle.decoding.specs.Remaining.{sumsRead, readSequences, leftReach, completable}
+use Rattle.decoding.specs.Remaining.{sumsRead, readSequences, leftReach, completable, meetingCompletable}
 use Rattle.decoding.proofs.MendedFrame.{read-facts}
 use Rattle.decoding.proofs.SequenceRegister.{register-of, same-size, not-alone}
 use Rattle.decoding.proofs.SoleNearest.{left-reach, legal-at-size}
 use Rattle.frame.specs.DeclaredCells.{Declared, declaredBy, declarable, checksLeft, asRead, BadCells, WellFormedRead}
 use Rattle.frame.specs.DeclaredCells.{rereadTests, rereadReasons}
-use Rattle.frame.specs.Frame.{heldSums}
+use Rattle.frame.specs.Frame.{heldSums, heldSequences}
 use Rattle.frame.specs.Shape.{isShape}
 use Rattle.frame.specs.declared.Shape.{Shape}
 use Rattle.frame.proofs.Declarable.{one-false, good-cells, bad-cells, read-says, read-passes, reread-says}
 use Rattle.frame.proofs.HeldSums.{held-sequences}
 use Rattle.frame.proofs.Reasons.{shape-says, encode-says}
 use Rattle.lists.proofs.Tabulated.{every-at, every-witness}
+use Rattle.refusal.specs.Order.{Test, Reason, None}
 use Rattle.refusal.proofs.Orders.{Pass, Says, SayAll, SayInTurn, no-fail, says-not, say-append, fails-not}
 use Rattle.register.specs.EachRound.{IsShortest}
 use Rattle.register.specs.Register.{Generator}
-use Rattle.job.specs.Calls.{Call, shape, encode, locate, repair, describe, emptyTest, notLocatedTest, sameSums, sumsTest, registerTests}
-use Rattle.job.specs.Job.{Job, sound, isEmptyPhase, isLocatedPhase, isLocated, lengthOf, declaredIn, declaredSound, countsEmpty}
-use Rattle.job.specs.Refusals.{LegalAt, ShortRow, emptyReason, notLocatedReason, sumsReason, reasons}
-use Rattle.job.specs.Refusals.{notAloneReason, shortRowReason, noFrameReason, registerReasons}
-use Rattle.job.specs.declared.Phase.the-variants.{Empty, Shaped, Located}
+use Rattle.slices.specs.Synthesis.{Synthesis, size, ended}
+use Rattle.job.specs.Calls.{Call, shape, encode, locate, repair, start, next, peek, describe, emptyTest, notLocatedTest, notUnfinishedTest}
+use Rattle.job.specs.Calls.{sameSums, sumsTest, registerTests, byRegisterTests, arrivesTests, heldTaps, heldMark, started, stepped}
+use Rattle.job.specs.Job.{Arrays, Job, sound, isEmptyPhase, isLocatedPhase, isLocated, lengthOf, declaredIn, declaredSound, countsEmpty}
+use Rattle.job.specs.Job.{isUnfinishedPhase, stepSound}
+use Rattle.job.specs.Refusals.{LegalAt, ShortRow, emptyReason, notLocatedReason, sumsReason, notUnfinishedReason, reasons}
+use Rattle.job.specs.Refusals.{notAloneReason, shortRowReason, noFrameReason, registerReasons, arrivesReasons}
+use Rattle.job.specs.declared.Phase.the-variants.{Empty, Shaped, Unfinished, Located}
 use Rattle.job.specs.declared.Phase.{Phase}
-use Rattle.job.proofs.Forms.{has-shape}
+use Rattle.job.proofs.Emptiness.{has-shape}
 
 empty-says : (j : Job) → Says (emptyTest j) (emptyReason j)
 unfolding countsEmpty
@@ -41,6 +45,8 @@ empty-says j = record { number = refl; reason = reason (j .head .phase) (sound j
     reason Empty b e = inl refl
     reason Shaped true e = absurd (false≢true e)
     reason Shaped false e = inr refl
+    reason Unfinished true e = absurd (false≢true e)
+    reason Unfinished false e = inr refl
     reason (Located c a) true e = absurd (false≢true e)
     reason (Located c a) false e = inr refl
 
@@ -90,6 +96,16 @@ module _ (j : Job) where
 
   not-located-says : Says (notLocatedTest j) (notLocatedReason j)
   not-located-says = says-not 22 (isLocated j) _ located unlocated
+
+-- b and c is asked for
+says-both : (n : ℕ) (b c : Bool) → Says (record { number = n; fails = not (b && c) }) (record { number = n; holds = (b ≡ false) ⊎ (c ≡ false) })
+says-both n b c =
+    says-not n (b && c) _
+    (λ e f. elim f [ inl l ↦ false≢true (sym l ∙ and-eq-true-iff b c .0 e .0) | inr r ↦ false≢true (sym r ∙ and-eq-true-iff b c .0 e .1) ])
+    (one-false b c)
+
+not-unfinished-says : (j : Job) → Says (notUnfinishedTest j) (notUnfinishedReason j)
+not-unfinished-says j = says-both 33 (isUnfinishedPhase (j .head .phase)) (stepSound (j .head .shape) (j .arrays))
 
 sums-say : (j : Job) (f : List ℕ) → Says (sumsTest j f) (sumsReason j f)
 unfolding sameSums
@@ -146,6 +162,51 @@ module _ (s : Shape) (D : Declared) (f : List ℕ) (t : isShape s ≡ true) wher
         (short-row-says a, λ m. (no-frame-says w a, λ l. tt)),
   )
 
+-- ---- in slices
+
+-- the tests say the reasons in turn, or there is no test, and no reason holds
+abbrev pub SayOrNone : List Test → List Reason → Type 0
+SayOrNone ts rs = SayInTurn ts rs ⊎ ((ts ≡ []) × None rs)
+
+module _ (s : Shape) (a : Arrays) where
+  abbrev x : Synthesis
+  x = a .synthesis
+
+  abbrev D : Declared
+  D = declaredBy (a .declared)
+
+  abbrev S : List (List ℕ)
+  S = heldSequences s (a .sums)
+
+  -- a test of the end, which fails where b is false
+  at-end : ended x ≡ true → (n : ℕ) (b : Bool) →
+      Says (record { number = n; fails = not b }) (record { number = n; holds = (ended x ≡ true) × (b ≡ false) })
+  at-end e n b = says-not n b _ (λ t h. false≢true (sym (h .1) ∙ t)) (λ f. (e, f))
+
+  at-end-say : ended x ≡ true → SayInTurn (byRegisterTests s D S (size x) (heldTaps x) (heldMark s x)) (arrivesReasons s a)
+  unfolding byRegisterTests
+  at-end-say e = (
+    at-end e 24 (heldMark s x),
+    λ m. (
+      says-not 25 (leftReach s D (size x)) _ (λ r h. no-short-row s D (size x) r (h .1)) (λ r. (e, short-row s D (size x) r)),
+      λ n. (at-end e 26 (namesAll s (heldTaps x) (size x) && meetingCompletable s D (namedColumns s (heldTaps x)) S), λ l. tt),
+    ),
+  )
+
+  before : {A : Type 0} → ended x ≡ false → (ended x ≡ true) × A → ⊥
+  before e h = false≢true (sym e ∙ h .0)
+
+  arriving-says : SayOrNone (arrivesTests s a) (arrivesReasons s a)
+  unfolding arrivesTests
+  arriving-says = pick (ended x) refl
+    where
+      pick : (b : Bool) → ended x ≡ b →
+          SayOrNone (cond (ended x) (byRegisterTests s D S (size x) (heldTaps x) (heldMark s x)) []) (arrivesReasons s a)
+      pick true e =
+          inl (subst⁻¹ (λ (b : Bool). SayInTurn (cond b (byRegisterTests s D S (size x) (heldTaps x) (heldMark s x)) []) (arrivesReasons s a)) e (at-end-say e))
+      pick false e =
+          inr (ap (λ (b : Bool). cond b (byRegisterTests s D S (size x) (heldTaps x) (heldMark s x)) []) e, (before e, (before e, (before e, tt))))
+
 -- ---- the calls
 
 pub keeping-says : (j : Job) (c : Call) → SayAll (describe j c .keeping) (reasons j c .keeping)
@@ -160,13 +221,24 @@ keeping-says j (repair f) = (
         (reread-says (j .head .shape) (declaredIn j) f) (sums-say j f, tt),
   ),
 )
+keeping-says j (start words f) = (empty-says j, read-says (j .head .shape) (declaredBy words) f)
+keeping-says j next = (empty-says j, (not-unfinished-says j, tt))
+keeping-says j peek = (empty-says j, (not-unfinished-says j, tt))
 
-pub shaping-says : (j : Job) (c : Call) → Pass (describe j c .keeping) → SayInTurn (describe j c .shaping) (reasons j c .shaping)
-shaping-says j (shape n checks b) p = tt
-shaping-says j (encode f) p = tt
-shaping-says j (locate words f) (e, p) =
+-- those of locate, one by one
+pub locate-says : (j : Job) (words f : List ℕ) → Pass (describe j (locate words f) .keeping)
+    → SayInTurn (describe j (locate words f) .shaping) (reasons j (locate words f) .shaping)
+locate-says j words f (e, p) =
     let s : Shape = j .head .shape in
     let D : Declared = declaredBy words in
     subst⁻¹ (λ S. SayInTurn (registerTests s D S) (registerReasons s D f)) (held-sequences s (asRead s D f))
     (register-says s D f (has-shape (j .head) e) (read-passes s D f p))
-shaping-says j (repair f) p = tt
+
+pub shaping-says : (j : Job) (c : Call) → Pass (describe j c .keeping) → SayOrNone (describe j c .shaping) (reasons j c .shaping)
+shaping-says j (shape n checks b) p = inl tt
+shaping-says j (encode f) p = inl tt
+shaping-says j (locate words f) p = inl (locate-says j words f p)
+shaping-says j (repair f) p = inl tt
+shaping-says j (start words f) p = arriving-says (j .head .shape) (started (j .head .shape) (j .arrays) words f)
+shaping-says j next p = arriving-says (j .head .shape) (stepped (j .head .shape) (j .arrays))
+shaping-says j peek p = inl tt

@@ -25,7 +25,7 @@ use Rattle.job.specs.Calls.{repair, describe, step, sameSums, locatedBy,
 use Rattle.job.specs.Demands.{Mended}
 use Rattle.job.specs.Job.{Arrays, Job, declaredIn, countsEmpty, lengthOf}
 use Rattle.job.proofs.Cases.{step-gives}
-use Rattle.job.proofs.Forms.{Locates, locatedFrame, Form, empty, shaped, located}
+use Rattle.job.proofs.Forms.{Locates, locatedFrame, Form, empty, shaped, unfinished, located}
 use Rattle.job.proofs.Soundness.{form-sound, frame-located}
 
 -- ---- the same sums
@@ -72,6 +72,7 @@ pub repair-mended : (j : Job) (f : List ℕ) → Form j → Pass (describe j (re
 unfolding rereadTests
 repair-mended _ f (empty a) p = absurd (false≢true (sym (p .1 .0)))
 repair-mended _ f (shaped s a t) p = absurd (false≢true (sym (p .1 .0)))
+repair-mended _ f (unfinished s a g n h t going) p = absurd (false≢true (sym (p .1 .0)))
 repair-mended _ f (located s a words g t l) (e, (h, (size, (symbols, (sums, u))))) =
     let D : Declared = declaredBy words in
     let w : WellFormedRead s D f = reread-passes s D f (well-formed-declarable s D g (l .well-formed)) (size, (symbols, tt)) in

@@ -21,15 +21,16 @@ use Rattle.frame.specs.declared.Shape.{Shape}
 use Rattle.frame.proofs.Declarable.{well-formed-declarable}
 use Rattle.lists.proofs.Tabulated.{every-of}
 use Rattle.refusal.proofs.Orders.{Among, Pass, firstOf-map}
-use Rattle.job.specs.Calls.{Call, shape, encode, locate, repair, refusing, describe, step, shapes}
+use Rattle.job.specs.Calls.{Call, shape, encode, locate, repair, start, next, peek, refusing, describe, step, shapes}
+use Rattle.job.specs.Calls.{arrives, started, stepped}
 use Rattle.job.specs.Demands.{heldShape, Reached}
 use Rattle.job.specs.Job.{Arrays, Job, emptyJob, noColumns, sound, headSound, phaseSound, findingsSound}
 use Rattle.job.specs.Job.{isEmpty, isEmptyPhase, isLocatedPhase, isLocated, declaredSound, countsEmpty}
 use Rattle.job.specs.Runs.{run, runFrom, shapeAfter, lastShape, lastShapeFrom}
-use Rattle.job.specs.declared.Phase.the-variants.{Empty, Shaped, Located}
+use Rattle.job.specs.declared.Phase.the-variants.{Empty, Shaped, Unfinished, Located}
 use Rattle.job.specs.declared.Phase.{Phase}
 use Rattle.job.proofs.Cases.{by-call}
-use Rattle.job.proofs.Forms.{Locates, locatedFrame, Form, empty, shaped, located, run-form}
+use Rattle.job.proofs.Forms.{Locates, locatedFrame, Form, empty, shaped, unfinished, located, by-end, run-form}
 
 -- ---- the shape
 
@@ -43,6 +44,7 @@ not-empty-held j e = of-phase (j .head .phase) (not (sound j)) e
     of-phase : (p : Phase) (b : Bool) → (isEmptyPhase p || b) ≡ false → heldShape p (j .head .shape) ≡ some (j .head .shape)
     of-phase Empty b e = absurd (false≢true (sym e))
     of-phase Shaped b e = refl
+    of-phase Unfinished b e = refl
     of-phase (Located c a) b e = refl
 
 -- a call that is refused leaves the shape; after a late refusal the job was not empty, and has the same
@@ -52,12 +54,21 @@ module _ (j : Job) (c : Call) where
   kept-shape late given =
       by-call j c (λ o. shapeHeld (o .job) ≡ shapeHeld j) (λ k a. refl) (λ k p a. sym (not-empty-held j (late k p a))) (λ p q. given p)
 
+arrives-shape : (s : Shape) (a : Arrays) (f : List ℕ) → shapeHeld (arrives s a f .job) ≡ some s
+arrives-shape s a f = by-end s a f (λ o. shapeHeld (o .job) ≡ some s) refl refl
+
 shape-step : (j : Job) (c : Call) → shapeHeld (step j c .job) ≡ shapeAfter (shapeHeld j) c
 unfolding step
 shape-step j (shape n checks b) = firstOf-map (λ o. shapeHeld (o .job)) (refusing j []) (shapeTests n checks b) (shapes (j .arrays) n checks b)
 shape-step j (encode f) = kept-shape j (encode f) (λ k p a. absurd a) (λ p. refl)
 shape-step j (locate words f) = kept-shape j (locate words f) (λ k p a. p .0) (λ p. sym (not-empty-held j (p .0)))
 shape-step j (repair f) = kept-shape j (repair f) (λ k p a. absurd a) (λ p. sym (not-empty-held j (p .0)))
+shape-step j (start words f) =
+    kept-shape j (start words f) (λ k p a. p .0)
+    (λ p. arrives-shape (j .head .shape) (started (j .head .shape) (j .arrays) words f) f ∙ sym (not-empty-held j (p .0)))
+shape-step j next =
+    kept-shape j next (λ k p a. p .0) (λ p. arrives-shape (j .head .shape) (stepped (j .head .shape) (j .arrays)) [] ∙ sym (not-empty-held j (p .0)))
+shape-step j peek = kept-shape j peek (λ k p a. absurd a) (λ p. refl)
 
 run-shape : (j : Job) (calls : List Call) → shapeHeld (runFrom j calls) ≡ lastShapeFrom (shapeHeld j) calls
 unfolding runFrom lastShapeFrom
@@ -72,6 +83,7 @@ holds-last-shape a calls = run-shape (emptyJob a) calls
 unmarked : (j : Job) → Form j → isLocatedPhase (j .head .phase) ≡ false → j .head .columns ≡ noColumns
 unmarked _ (empty a) e = refl
 unmarked _ (shaped s a t) e = refl
+unmarked _ (unfinished s a f n h t going) e = refl
 unmarked _ (located s a words f t l) e = absurd (false≢true (sym e))
 
 -- ---- soundness
@@ -109,6 +121,7 @@ pub form-sound : (j : Job) → Form j → sound j ≡ true
 unfolding headSound phaseSound
 form-sound _ (empty a) = refl
 form-sound _ (shaped s a t) = t
+form-sound _ (unfinished s a f n h t going) = t
 form-sound _ (located s a words f t l) = ap₂ _&&_ t (found-sound s (declaredBy words) f t l)
 
 pub reached : (a : Arrays) (calls : List Call) → Reached a calls
@@ -128,4 +141,5 @@ shape-held a calls s last =
         → ((isEmptyPhase p || not b) ≡ false) × (run a calls .head .shape ≡ s)
     of-phase Empty b e h = absurd (let z : _≡_ {A = ℕ} 0 1 = cc in let y : ⊥ = omega arith in y)
     of-phase Shaped b e h = (ap not e, cc)
+    of-phase Unfinished b e h = (ap not e, cc)
     of-phase (Located c a) b e h = (ap not e, cc)

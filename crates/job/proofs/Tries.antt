@@ -1,27 +1,34 @@
--- A locate that is not refused tries the columns up to and with the last one that it marks, and no other call tries any.
+-- A locate that is not refused tries the columns up to and with the last one that it marks, one in slices at its end, and no other call tries any.
 use mathlib.Core.Path.{_≡_, refl, sym, _∙_}
 use mathlib.Core.Logic.{_⊎_, inl, inr}
 use mathlib.Core.Bool.{true, false, and-eq-true-iff}
-use mathlib.Core.List.{List}
+use mathlib.Core.List.{List, []}
 use Prim.Native.Nat.{ℕ, suc, _<_}
 use native.Mathlib.Omega.{arith}
 use Rattle.columns.specs.Columns.{has}
 use Rattle.columns.specs.Listed.{count}
 use Rattle.decoding.specs.Locating.{sizeOf, tapsOf, named, namedColumns, namesAll}
+use Rattle.decoding.specs.Remaining.{readSequences}
 use Rattle.decoding.specs.Search.{tried}
 use Rattle.decoding.proofs.NamedColumns.{has-named, named-below, names-all}
 use Rattle.decoding.proofs.SequenceRegister.{generator-of}
 use Rattle.decoding.proofs.Tried.{passing-tried, last-passes}
+use Rattle.frame.specs.DeclaredCells.{declaredBy}
 use Rattle.frame.specs.Shape.{isShape}
 use Rattle.frame.specs.declared.Shape.{Shape}
+use Rattle.frame.proofs.Declarable.{read-passes}
 use Rattle.frame.proofs.Shapes.{shape-ranges}
 use Rattle.refusal.proofs.Orders.{Pass, no-fail}
-use Rattle.job.specs.Calls.{Call, shape, encode, locate, repair, describe, registerTests, step}
-use Rattle.job.specs.Job.{Job, isEmpty}
+use Rattle.job.specs.Calls.{Call, shape, encode, locate, repair, start, next, peek, Outcome, refusing, describe, registerTests, started, stepped, step}
+use Rattle.job.specs.Job.{Arrays, Job, isEmpty}
 use Rattle.job.specs.Runs.{run, Taken}
-use Rattle.job.specs.Tries.{UpToLast, LocateTries, OthersTryNone}
+use Rattle.job.specs.Tries.{UpToLast, LocateTries, TriesAtEnd, SlicesTry, OthersTryNone}
+use Rattle.job.proofs.AfterRefusal.{never-columns}
 use Rattle.job.proofs.Cases.{by-call}
-use Rattle.job.proofs.Forms.{has-shape}
+use Rattle.job.proofs.Emptiness.{has-shape}
+use Rattle.job.proofs.Forms.{Comes, goes, comes, arrived, next-arrives, run-form}
+use Rattle.job.proofs.Going.{start-arrives}
+use Rattle.job.proofs.LocatedBy.{never-both}
 
 module _ (s : Shape) (t : isShape s ≡ true) (ss : List (List ℕ)) (names : namesAll s (tapsOf ss) (sizeOf ss) ≡ true) where
   abbrev σ : List ℕ
@@ -61,6 +68,38 @@ locate-tries a calls words f =
     by-call (run a calls) (locate words f) (λ o. Taken o → UpToLast (o .marks) (o .tried)) (λ k m taken. absurd (taken (k, refl)))
     (λ k p m taken. absurd (taken (k, refl))) (λ p q taken. gives-tried (run a calls) words f (p .0) q)
 
+-- ---- in slices
+
+module _ (s : Shape) (t : isShape s ≡ true) (a : Arrays) (g f : List ℕ) where
+  comes-tries : (o : Outcome) → Comes s a g f o → TriesAtEnd o
+  comes-tries _ (goes n h going) = record { at-end = λ c e. absurd (never-both e); before-end = λ e. refl; at-refusal = λ k e. refl }
+  comes-tries _ (comes l) = record {
+    at-end = λ c e. up-to-last s t (readSequences s (declaredBy (a .declared)) f) (l .names);
+    before-end = λ e. absurd (never-both (sym e));
+    at-refusal = λ k e. absurd (never-columns e);
+  }
+
+refused-tries : (j : Job) (f : List ℕ) (k : ℕ) → TriesAtEnd (refusing j f k)
+refused-tries j f k = record { at-end = λ c e. absurd (never-columns (sym e)); before-end = λ e. refl; at-refusal = λ m e. refl }
+
+pub slices-try : SlicesTry
+slices-try = record {
+  start = λ a calls words f.
+      let j : Job = run a calls in
+      let s : Shape = j .head .shape in
+      by-call j (start words f) TriesAtEnd (λ k m. refused-tries _ _ k) (λ k p m. refused-tries _ _ k) (λ (e, p) q.
+      let t : isShape s ≡ true = has-shape (j .head) e in
+      let there : Arrays = started s (j .arrays) words f in
+      comes-tries s t there f f _ (arrived s there f f (start-arrives s t (j .arrays) words f (read-passes s (declaredBy words) f p)) q));
+  next = λ a calls.
+      let j : Job = run a calls in
+      let s : Shape = j .head .shape in
+      by-call j next TriesAtEnd (λ k m. refused-tries _ _ k) (λ k p m. refused-tries _ _ k) (λ (e, (n, u)) q.
+      let there : Arrays = stepped s (j .arrays) in
+      let (f, came) = next-arrives j (run-form a calls) n in
+      comes-tries s (has-shape (j .head) e) there [] f _ (arrived s there [] f came q));
+}
+
 -- ---- the other calls
 
 none-tried : (j : Job) (c : Call) → describe j c .gives .tried ≡ 0 → step j c .tried ≡ 0
@@ -72,4 +111,5 @@ others-try-none =
       shape = λ j n checks b. none-tried j (shape n checks b) refl;
       encode = λ j f. none-tried j (encode f) refl;
       repair = λ j f. none-tried j (repair f) refl;
+      peek = λ j. none-tried j peek refl;
     }

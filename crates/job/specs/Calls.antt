@@ -1,38 +1,46 @@
 -- What each call on a job answers and leaves, for every job and everything lent (SPECIFICATION.md, "Jobs", and the orders of "Refusals"). Each call is
 -- described once, and `step` carries out what is described.
-use mathlib.Core.Bool.{Bool, not, _&&_, _||_}
+use mathlib.Core.Bool.{Bool, cond, not, _&&_, _||_}
 use mathlib.Core.List.{List, [], _∷_, _++_}
-use Prim.Native.Nat.{ℕ}
+use Prim.Native.Nat.{ℕ, suc}
 use lib.Dec.{eqb}
-use lib.ListN.{getD}
+use lib.ListN.{getD, take}
 use Rattle.columns.specs.declared.Columns.{Columns}
 use Rattle.decoding.specs.Locating.{sizeOf, tapsOf, aloneOf, named, namesAll, namedColumns}
-use Rattle.decoding.specs.Remaining.{allRemaining, leftReach, completable, mended}
+use Rattle.decoding.specs.Remaining.{allRemaining, leftReach, completable, meetingCompletable, mended}
 use Rattle.decoding.specs.Search.{tried}
+use Rattle.ends.specs.Ends.{aloneMark}
 use Rattle.frame.specs.DeclaredCells.{Declared, declaredBy, asRead, readTests, rereadTests}
 use Rattle.frame.specs.Encode.{encoded, encodeTests}
 use Rattle.frame.specs.Frame.{heldSums, heldSequences}
 use Rattle.frame.specs.Shape.{shapeOf, shapeTests}
 use Rattle.frame.specs.declared.Shape.{Shape}
 use Rattle.lists.specs.Tabulate.{every}
+use Rattle.slices.specs.Synthesis.{Synthesis, allRounds, found, size, ended, begun, advanced}
 use Rattle.refusal.specs.Order.{Test, firstOf}
-use Rattle.job.specs.Job.{Arrays, Job, noColumns, shapedJob, locatedJob, isEmpty, isLocated, lengthOf, declaredIn}
+use Rattle.job.specs.Job.{Arrays, Job, withStarted, withSynthesis, noColumns, shapedJob, unfinishedJob, locatedJob}
+use Rattle.job.specs.Job.{isEmpty, isLocated, isUnfinished, lengthOf, declaredIn}
 
--- the calls, with what is lent; to locate, 32 words of declared cells besides
+-- the calls, with what is lent; to locate and start, 32 words of declared cells besides
 pub data Call : Type 0 where
   shape : (n : ℕ) (checks : List ℕ) (b : ℕ) → Call
   encode : (frame : List ℕ) → Call
   locate : (declared frame : List ℕ) → Call
   repair : (frame : List ℕ) → Call
+  start : (declared frame : List ℕ) → Call
+  next : Call
+  peek : Call
 
--- done; the number of columns to mend or mended; or the number of a refusal
+-- done; the number of columns to mend or mended; that a locate is unfinished; the length of a shortest register; or the number of a refusal
 pub data Answer : Type 0 where
   done : Answer
   columns : ℕ → Answer
+  unfinished : Answer
+  shortest : ℕ → Answer
   refused : ℕ → Answer
 
 -- what a call answers, the set of columns beside the answer, how many columns were tried in a search for them (0 where there is none), the job and the lent
--- frame as it leaves them (no frame is lent to shape: `[]`)
+-- frame as it leaves them (no frame is lent to shape, to a step and to a peek: `[]`)
 pub record Outcome : Type 0 where
   pub answer : Answer
   pub marks : Columns
@@ -49,11 +57,12 @@ abbrev pub reshaped : Job → Job
 reshaped j = shapedJob (j .head .shape) (j .arrays)
 
 -- A call on a job: the frame that is lent; the tests whose refusal leaves the job as it was, in their order; after these the tests whose refusal leaves it
--- shaped; and what is given where no test fails.
+-- shaped, beside which arrays; and what is given where no test fails.
 pub record Described : Type 0 where
   pub lent : List ℕ
   pub keeping : List Test
   pub shaping : List Test
+  pub beside : Arrays
   pub gives : Outcome
 
 -- ---- the tests
@@ -64,6 +73,9 @@ emptyTest j = record { number = 21; fails = isEmpty j }
 
 abbrev pub notLocatedTest : Job → Test
 notLocatedTest j = record { number = 22; fails = not (isLocated j) }
+
+abbrev pub notUnfinishedTest : Job → Test
+notUnfinishedTest j = record { number = 33; fails = not (isUnfinished j) }
 
 -- whether two lists of held sums are the same
 unfoldable pub sameSums : (a b : List ℕ) → Bool
@@ -85,6 +97,16 @@ registerTests s D S =
       number = 26;
       fails = not (namesAll s (tapsOf ss) (sizeOf ss) && completable s D (namedColumns s (tapsOf ss)) S);
     } ∷
+    []
+
+-- the refusals 24, 25, 26 of a register of length c with the taps σ, however it was found; the mark says whether it is alone. They do not ask whether it is
+-- a register of the sums, so that they are said for all that a job can hold. Of the shortest register of the sums they are those above (`same-tests` of
+-- proofs/ByShortest.antt).
+unfoldable pub byRegisterTests : Shape → Declared → (S : List (List ℕ)) (c : ℕ) (σ : List ℕ) (alone : Bool) → List Test
+byRegisterTests s D S c σ alone =
+    record { number = 24; fails = not alone } ∷
+    record { number = 25; fails = not (leftReach s D c) } ∷
+    record { number = 26; fails = not (namesAll s σ c && meetingCompletable s D (namedColumns s σ) S) } ∷
     []
 
 -- ---- what is given
@@ -109,6 +131,17 @@ locates s a words ss sums f =
       frame = f;
     }
 
+-- the same by a register of length c with the taps σ
+abbrev pub byRegisterGives : Shape → Arrays → (words sums : List ℕ) (c : ℕ) (σ f : List ℕ) → Outcome
+byRegisterGives s a words sums c σ f =
+    record {
+      answer = columns c;
+      marks = namedColumns s σ;
+      tried = tried (s .columns) (named s σ) c;
+      job = locatedJob s a c sums σ words (namedColumns s σ);
+      frame = f;
+    }
+
 abbrev pub repairs : Job → (f : List ℕ) → Outcome
 repairs j f =
     let M : Columns = j .head .columns in
@@ -120,13 +153,45 @@ repairs j f =
       frame = mended (j .head .shape) (declaredIn j) M f;
     }
 
+-- ---- in slices
+
+-- the taps of the register that the arrays hold, and its alone mark
+abbrev pub heldTaps : Synthesis → List ℕ
+heldTaps x = take (suc (size x)) (x .taps)
+
+abbrev pub heldMark : Shape → Synthesis → Bool
+heldMark s x = aloneMark (allRounds x) (x .lengths) (s .rows) (size x) (x .places) (x .sizes)
+
+-- A locate that has come to the arrays a ends where all rounds are finished: by the register that they hold. Else it goes on.
+unfoldable pub arrivesTests : Shape → Arrays → List Test
+arrivesTests s a =
+    let x : Synthesis = a .synthesis in
+    cond (ended x) (byRegisterTests s (declaredBy (a .declared)) (heldSequences s (a .sums)) (size x) (heldTaps x) (heldMark s x)) []
+
+unfoldable pub arrives : Shape → Arrays → (f : List ℕ) → Outcome
+arrives s a f =
+    let x : Synthesis = a .synthesis in
+    cond (ended x) (byRegisterGives s a (a .declared) (a .sums) (size x) (heldTaps x) f)
+    (record { answer = unfinished; marks = noColumns; tried = 0; job = unfinishedJob s a; frame = f })
+
+-- the arrays after the start
+abbrev pub started : Shape → Arrays → (words f : List ℕ) → Arrays
+started s a words f =
+    let D : Declared = declaredBy words in
+    let summed : List ℕ = heldSums s (asRead s D f) in
+    withStarted a summed words (begun (allRemaining s D (heldSequences s summed)) (a .synthesis))
+
+-- and after a step
+abbrev pub stepped : Shape → Arrays → Arrays
+stepped s a = withSynthesis a (advanced (s .rows) (a .synthesis))
+
 -- ---- the calls
 
 abbrev pub describe : Job → Call → Described
 describe j (shape n checks b) =
-    record { lent = []; keeping = shapeTests n checks b; shaping = []; gives = shapes (j .arrays) n checks b }
+    record { lent = []; keeping = shapeTests n checks b; shaping = []; beside = j .arrays; gives = shapes (j .arrays) n checks b }
 describe j (encode f) =
-    record { lent = f; keeping = emptyTest j ∷ encodeTests (j .head .shape) f; shaping = []; gives = encodes j f }
+    record { lent = f; keeping = emptyTest j ∷ encodeTests (j .head .shape) f; shaping = []; beside = j .arrays; gives = encodes j f }
 describe j (locate words f) =
     let s : Shape = j .head .shape in
     let D : Declared = declaredBy words in
@@ -136,6 +201,7 @@ describe j (locate words f) =
       lent = f;
       keeping = emptyTest j ∷ readTests s D f;
       shaping = registerTests s D S;
+      beside = j .arrays;
       gives = locates s (j .arrays) words (allRemaining s D S) sums f;
     }
 describe j (repair f) =
@@ -143,13 +209,40 @@ describe j (repair f) =
       lent = f;
       keeping = emptyTest j ∷ notLocatedTest j ∷ (rereadTests (j .head .shape) (declaredIn j) f ++ (sumsTest j f ∷ []));
       shaping = [];
+      beside = j .arrays;
       gives = repairs j f;
+    }
+describe j (start words f) =
+    let s : Shape = j .head .shape in
+    record {
+      lent = f;
+      keeping = emptyTest j ∷ readTests s (declaredBy words) f;
+      shaping = arrivesTests s (started s (j .arrays) words f);
+      beside = started s (j .arrays) words f;
+      gives = arrives s (started s (j .arrays) words f) f;
+    }
+describe j next =
+    let s : Shape = j .head .shape in
+    record {
+      lent = [];
+      keeping = emptyTest j ∷ notUnfinishedTest j ∷ [];
+      shaping = arrivesTests s (stepped s (j .arrays));
+      beside = stepped s (j .arrays);
+      gives = arrives s (stepped s (j .arrays)) [];
+    }
+describe j peek =
+    record {
+      lent = [];
+      keeping = emptyTest j ∷ notUnfinishedTest j ∷ [];
+      shaping = [];
+      beside = j .arrays;
+      gives = record { answer = shortest (found (j .arrays .synthesis)); marks = noColumns; tried = 0; job = j; frame = [] };
     }
 
 unfoldable pub step : Job → Call → Outcome
 step j c =
     let d : Described = describe j c in
-    firstOf (refusing j (d .lent)) (d .keeping) (firstOf (refusing (reshaped j) (d .lent)) (d .shaping) (d .gives))
+    firstOf (refusing j (d .lent)) (d .keeping) (firstOf (refusing (shapedJob (j .head .shape) (d .beside)) (d .lent)) (d .shaping) (d .gives))
 
 -- SPECIFICATION.md, "Refusals": those after which the job is shaped; after every other one it is as it was
 unfoldable pub late : ℕ → Bool

@@ -16,12 +16,13 @@ use Rattle.frame.specs.Shape.{checksOf}
 use Rattle.frame.specs.declared.Shape.{Shape}
 use Rattle.register.specs.Register.{Shortest, Alone}
 use Rattle.job.specs.Calls.{Call, shape, encode, locate, repair, done, columns, refused, Outcome, step}
-use Rattle.job.specs.Job.{Arrays, Job, emptyJob, isLocatedPhase, sound, noColumns}
+use Rattle.slices.specs.Same.{SameSynthesis}
+use Rattle.job.specs.Job.{Arrays, Job, emptyJob, isLocatedPhase, isUnfinishedPhase, sound, noColumns}
 use Rattle.job.specs.Left.{Given, LeftShaped, LeftLocated, sumOf}
 use Rattle.job.specs.Refusals.{LegalAt}
-use Rattle.job.specs.Runs.{run, afterCalls, lastShape, IsRefused, Taken, NoneShapes, Between, GoesBack}
+use Rattle.job.specs.Runs.{run, afterCalls, lastShape, IsRefused, Taken, NoneShapes, Between, LocatedBy, GoesBack}
 use Rattle.job.specs.declared.Phase.{Phase}
-use Rattle.job.specs.declared.Phase.the-variants.{Empty, Shaped, Located}
+use Rattle.job.specs.declared.Phase.the-variants.{Empty, Shaped, Unfinished, Located}
 
 -- ---- what every job holds
 
@@ -29,6 +30,7 @@ use Rattle.job.specs.declared.Phase.the-variants.{Empty, Shaped, Located
 abbrev pub heldShape : Phase → Shape → Option Shape
 heldShape Empty s = none
 heldShape Shaped s = some s
+heldShape Unfinished s = some s
 heldShape (Located c a) s = some s
 
 -- What every job reached by calls holds: it is sound, its shape is that of the last shape call not refused, and one that is not located has no marks.
@@ -109,7 +111,7 @@ pub record Mended (s : Shape) (D : Declared) (f : List ℕ) (c : ℕ) (before : 
   pub nearest : (g : List ℕ) → Legal s g → (g ≡ after .frame → ⊥) → c < distanceRead s D g f
   pub job : LeftShaped s (before .arrays) (after .job)
 
--- The declared cells are those of the locate that the repair goes back to.
+-- The declared cells are those of the locate, at once or in slices, that the repair goes back to.
 abbrev pub RepairMends : Type 0
 RepairMends =
     (a : Arrays) (calls : List Call) (f : List ℕ) → Taken (afterCalls a calls (repair f)) →
@@ -123,15 +125,14 @@ CheckSumsDiffer s D f g =
     (h : ℕ) × (j : ℕ) × (h < s .rows) × (1 ≤ j) × (j ≤ checksOf s h) ×
     (sumOf s (asRead s D f) h j ≡ sumOf s (asRead s D g) h j → ⊥)
 
--- After a locate of g that is not refused, with nothing but encodes and calls refused early since then, a repair of an f that is well-formed with the same
--- declared cells is refused exactly when some check sum of f differs from that of g, and then by 23.
+-- After calls that located g, at once or in slices, with nothing but encodes and calls refused early since then, a repair of an f that is well-formed with the
+-- same declared cells is refused exactly when some check sum of f differs from that of g, and then by 23.
 abbrev pub RepairExact : Type 0
 RepairExact =
-    (a : Arrays) (before between : List Call) (s : Shape) (words f g : List ℕ) → lastShape before ≡ some s →
-    Taken (afterCalls a before (locate words g)) → Between (run a (before ++ (locate words g ∷ []))) between →
-    WellFormedRead s (declaredBy words) f →
-    (IsRefused (afterCalls a (before ++ (locate words g ∷ between)) (repair f)) ↔ CheckSumsDiffer s (declaredBy words) f g) ×
-    ((afterCalls a (before ++ (locate words g ∷ between)) (repair f) .answer ≡ refused 23) ↔
+    (a : Arrays) (before locating between : List Call) (s : Shape) (words f g : List ℕ) → lastShape before ≡ some s →
+    LocatedBy a before words g locating → Between (run a (before ++ locating)) between → WellFormedRead s (declaredBy words) f →
+    (IsRefused (afterCalls a (before ++ (locating ++ between)) (repair f)) ↔ CheckSumsDiffer s (declaredBy words) f g) ×
+    ((afterCalls a (before ++ (locating ++ between)) (repair f) .answer ≡ refused 23) ↔
     CheckSumsDiffer s (declaredBy words) f g)
 
 -- Demand 3, third part. A legal frame g was sent, and f is what damage made of it: well-formed with the declared cells, and in every row twice the columns
@@ -151,9 +152,24 @@ DamageMended =
 
 -- ---- arrays
 
--- What an array holds that the phase does not speak for plays no part: two jobs are alike that have one head and, where it is located, the same arrays.
-abbrev pub Alike : Job → Job → Type 0
-Alike i j = (i .head ≡ j .head) × (isLocatedPhase (j .head .phase) ≡ true → i .arrays ≡ j .arrays)
+-- the same sums, taps and declared cells
+pub record SameFound (a b : Arrays) : Type 0 where
+  pub sums : a .sums ≡ b .sums
+  pub taps : a .taps ≡ b .taps
+  pub declared : a .declared ≡ b .declared
+
+-- the same sums and declared cells, and the same of a search
+pub record SameStarted (a b : Arrays) : Type 0 where
+  pub sums : a .sums ≡ b .sums
+  pub declared : a .declared ≡ b .declared
+  pub synthesis : SameSynthesis (a .synthesis) (b .synthesis)
+
+-- What an array holds that the phase does not speak for plays no part: two jobs are alike that have one head and, where it is located or unfinished, hold the
+-- same.
+pub record Alike (i j : Job) : Type 0 where
+  pub head : i .head ≡ j .head
+  pub located : isLocatedPhase (j .head .phase) ≡ true → SameFound (i .arrays) (j .arrays)
+  pub unfinished : isUnfinishedPhase (j .head .phase) ≡ true → SameStarted (i .arrays) (j .arrays)
 
 -- A call answers two jobs that are alike the same, leaves the same frame, and leaves them alike.
 pub record SameOutcome (o p : Outcome) : Type 0 where

@@ -15,7 +15,7 @@ use Rattle.job.specs.Calls.{Call, locate, repair, columns, refused, Outc
 use Rattle.job.specs.Demands.{Recovered}
 use Rattle.job.specs.Job.{Arrays}
 use Rattle.job.specs.Left.{HoldsSums, sumOf}
-use Rattle.job.specs.Runs.{run, afterCalls, lastShape, IsRefused, Taken, Between, GoesBack}
+use Rattle.job.specs.Runs.{run, afterCalls, lastShape, IsRefused, Taken, Between, LocatedBy, GoesBack}
 
 -- the words that declare nothing
 abbrev pub noWords : List ℕ
@@ -56,10 +56,9 @@ pub record NothingDeclared : Type 0 where
       (s : Shape) × (c : ℕ) × (lastShape calls ≡ some s) × (afterCalls a calls (repair f) .answer ≡ columns c) ×
       MendedWhole s f c (afterCalls a calls (repair f))
   pub repair-exact :
-      (a : Arrays) (before between : List Call) (s : Shape) (f g : List ℕ) → lastShape before ≡ some s →
-      Taken (afterCalls a before (locate noWords g)) → Between (run a (before ++ (locate noWords g ∷ []))) between →
-      WellFormed s f →
-      (afterCalls a (before ++ (locate noWords g ∷ between)) (repair f) .answer ≡ refused 23) ↔ SumsDifferWhole s f g
+      (a : Arrays) (before locating between : List Call) (s : Shape) (f g : List ℕ) → lastShape before ≡ some s →
+      LocatedBy a before noWords g locating → Between (run a (before ++ locating)) between → WellFormed s f →
+      (afterCalls a (before ++ (locating ++ between)) (repair f) .answer ≡ refused 23) ↔ SumsDifferWhole s f g
   pub damage-mended :
       (a : Arrays) (before between : List Call) (s : Shape) (f g : List ℕ) → lastShape before ≡ some s → Legal s g →
       WellFormed s f → ((h : ℕ) → h < s .rows → 2 * distance s g f ≤ checksOf s h) →

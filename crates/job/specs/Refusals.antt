@@ -2,19 +2,22 @@
 -- Proved in proofs/Refusals.antt.
 use mathlib.Core.Path.{_≡_}
 use mathlib.Core.Logic.{_⊎_, _↔_}
-use mathlib.Core.Bool.{true, false}
+use mathlib.Core.Bool.{true, false, _&&_}
 use mathlib.Core.List.{List, [], _∷_, _++_}
 use Prim.Native.Nat.{ℕ, _<_}
 use lib.ListN.{getD}
-use Rattle.decoding.specs.Remaining.{readSequences}
+use Rattle.decoding.specs.Locating.{namesAll, namedColumns}
+use Rattle.decoding.specs.Remaining.{readSequences, meetingCompletable}
 use Rattle.frame.specs.DeclaredCells.{Declared, declaredBy, checksLeft, asRead, BadCells, readReasons, rereadReasons, distanceRead}
 use Rattle.frame.specs.Demands.{shapeReasons, encodeReasons}
-use Rattle.frame.specs.Frame.{Legal, heldSums}
+use Rattle.frame.specs.Frame.{Legal, heldSums, heldSequences}
 use Rattle.frame.specs.declared.Shape.{Shape}
 use Rattle.refusal.specs.Order.{Reason, First}
 use Rattle.register.specs.Register.{Generator, Shortest, Alone}
-use Rattle.job.specs.Calls.{Call, shape, encode, locate, repair, refused, Outcome, step, late}
-use Rattle.job.specs.Job.{Job, noColumns, isLocatedPhase, lengthOf, declaredIn, sound}
+use Rattle.slices.specs.Synthesis.{Synthesis, size, ended}
+use Rattle.job.specs.Calls.{Call, shape, encode, locate, repair, start, next, peek, refused, Outcome, step, late}
+use Rattle.job.specs.Calls.{heldTaps, heldMark, started, stepped}
+use Rattle.job.specs.Job.{Arrays, Job, noColumns, isLocatedPhase, isUnfinishedPhase, lengthOf, declaredIn, stepSound, sound}
 use Rattle.job.specs.Left.{LeftShaped}
 use Rattle.job.specs.declared.Phase.the-variants.{Empty}
 
@@ -79,6 +82,31 @@ sumsReason j f =
     let s : Shape = j .head .shape in
     record { number = 23; holds = SumsDiffer (heldSums s (asRead s (declaredIn j) f)) (j .arrays .sums) }
 
+-- the job is not unfinished, or holds arrays with which no call leaves it, and counts as shaped
+abbrev pub notUnfinishedReason : Job → Reason
+notUnfinishedReason j =
+    record {
+      number = 33;
+      holds = (isUnfinishedPhase (j .head .phase) ≡ false) ⊎ (stepSound (j .head .shape) (j .arrays) ≡ false);
+    }
+
+-- The refusals of a locate in slices that has come to the arrays a, by what these hold: all rounds are finished, and the register is not marked alone; or it is
+-- too long for some row; or it names too few columns, or some at which a row cannot be completed. Of a job that calls leave they are those of its locate
+-- (specs/Slices.antt).
+abbrev pub arrivesReasons : Shape → Arrays → List Reason
+arrivesReasons s a =
+    let x : Synthesis = a .synthesis in
+    let D : Declared = declaredBy (a .declared) in
+    record { number = 24; holds = (ended x ≡ true) × (heldMark s x ≡ false) } ∷
+    record { number = 25; holds = (ended x ≡ true) × ShortRow s D (size x) } ∷
+    record {
+      number = 26;
+      holds =
+          (ended x ≡ true) ×
+          ((namesAll s (heldTaps x) (size x) && meetingCompletable s D (namedColumns s (heldTaps x)) (heldSequences s (a .sums))) ≡ false);
+    } ∷
+    []
+
 -- the reasons of a call's refusals in their order: those that leave the job as it was, and after them those that leave it shaped
 pub record Reasons : Type 1 where
   pub keeping : List Reason
@@ -97,13 +125,35 @@ reasons j (repair f) =
           emptyReason j ∷ notLocatedReason j ∷ (rereadReasons (j .head .shape) (declaredIn j) f ++ (sumsReason j f ∷ []));
       shaping = [];
     }
+reasons j (start words f) =
+    let s : Shape = j .head .shape in
+    record { keeping = emptyReason j ∷ readReasons s (declaredBy words) f; shaping = arrivesReasons s (started s (j .arrays) words f) }
+reasons j next =
+    record {
+      keeping = emptyReason j ∷ notUnfinishedReason j ∷ [];
+      shaping = arrivesReasons (j .head .shape) (stepped (j .head .shape) (j .arrays));
+    }
+reasons j peek = record { keeping = emptyReason j ∷ notUnfinishedReason j ∷ []; shaping = [] }
 
--- the frame that is lent to a call, none to shape
+-- the frame that is lent to a call, none to shape, to a step and to a peek
 abbrev pub lentTo : Call → List ℕ
 lentTo (shape n checks b) = []
 lentTo (encode f) = f
 lentTo (locate words f) = f
 lentTo (repair f) = f
+lentTo (start words f) = f
+lentTo next = []
+lentTo peek = []
+
+-- the arrays that a refusal leaves which leaves the job shaped: a start and a step have written theirs
+abbrev pub arraysLeft : Job → Call → Arrays
+arraysLeft j (shape n checks b) = j .arrays
+arraysLeft j (encode f) = j .arrays
+arraysLeft j (locate words f) = j .arrays
+arraysLeft j (repair f) = j .arrays
+arraysLeft j (start words f) = started (j .head .shape) (j .arrays) words f
+arraysLeft j next = stepped (j .head .shape) (j .arrays)
+arraysLeft j peek = j .arrays
 
 -- a call refused by the number k leaves the frame as it was lent, marks nothing and tells of no column tried; the job is shaped after a late refusal, and as
 -- it was after any other
@@ -111,7 +161,7 @@ pub record Refused (j : Job) (c : Call) (k : ℕ) (o : Outcome) : Type 0 where
   pub frame : o .frame ≡ lentTo c
   pub marks : o .marks ≡ noColumns
   pub tried : o .tried ≡ 0
-  pub shaped : late k ≡ true → LeftShaped (j .head .shape) (j .arrays) (o .job)
+  pub shaped : late k ≡ true → LeftShaped (j .head .shape) (arraysLeft j c) (o .job)
   pub kept : late k ≡ false → o .job ≡ j
 
 pub record Demand1 : Type 0 where

@@ -31,7 +31,7 @@ use Rattle.job.specs.Job.{Job, emptyJob, shapedJob, noArrays, headSound, phaseS
 use Rattle.job.specs.NothingDeclared.{noWords}
 use Rattle.job.specs.Refusals.{emptyReason, registerReasons}
 use Rattle.job.proofs.Cases.{by-call}
-use Rattle.job.proofs.Reasons.{shaping-says}
+use Rattle.job.proofs.Reasons.{locate-says}
 use Rattle.job.proofs.Refusals as Refusals
 use Rattle.refusal.proofs.Orders.{by-tests, pass-none}
 use Rattle.refusal.specs.Order.{Reason, First, None}
@@ -202,7 +202,7 @@ module _ (n : ℕ) (checks f text : List ℕ) (output : text ≡ outputOf (frame
         (λ kept passed e. inr (
           none-append (readReasons s D f) (registerReasons s D f) (pass-none (readTests s D f) (readReasons s D f) (read-says s D f) (kept .1))
               (none-in-turn (registerTests s D (heldSequences s (heldSums s (asRead s D f)))) (registerReasons s D f)
-              (shaping-says j (locate noWords f) kept) passed),
+              (locate-says j noWords f kept) passed),
           columns-shown _ _ e refl,
         ))
         refl

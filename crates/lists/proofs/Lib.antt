@@ -11,6 +11,7 @@ pub mod Mapped
 pub mod Moving
 pub mod Padded
 pub mod Parts
+pub mod SameBlocks
 pub mod Summing
 pub mod Tabulated
 pub mod Testing

@@ -43,6 +43,7 @@ use Rattle.register.proofs.Ordering.{longest-least}
 use Rattle.register.proofs.Splitting.{split-first}
 use Rattle.remaining.specs.SequencesLeft.{SequencesLeft}
 use Rattle.remaining.specs.declared.rows.Left.{Left}
+use Rattle.sequences.specs.Places.{Sortable}
 use Rattle.sequences.specs.Tests.{tests}
 use Rattle.locating.specs.RegisterOf.{Findable, RegisterOf}
 
@@ -124,6 +125,21 @@ module _ {rows : ℕ} {lengths symbols : List ℕ} {ss : List (List ℕ)} (lent 
 
   pub lent-passed : outcome (tests 257 (take rows lengths) (take (total rows (λ h. getD lengths h 0)) symbols) 65) ≡ passed
   lent-passed = pass-otherwise refused passed (tests 257 first told 65) lent-passes
+
+  -- what a search in slices is lent
+  pub lent-split : split (take rows lengths) (take (total rows (λ h. getD lengths h 0)) symbols) ≡ ss
+  lent-split = split-lent
+
+  pub lent-sortable : Sortable (take rows lengths) (take (total rows (λ h. getD lengths h 0)) symbols)
+  lent-sortable =
+      record {
+        count = omega (arith, length-first, lent .rows-most);
+        few = omega (arith, length-told, lent-most);
+        whole = lent-total;
+      }
+
+  pub lent-short : (h : ℕ) → h < length (take rows lengths) → getD (take rows lengths) h 0 ≤ 64
+  lent-short = first-most
 
   -- ---- what it answers and leaves
 

@@ -1,4 +1,3 @@
-pub mod Completing
 pub mod Lending
 pub mod Locating
 pub mod Steps

@@ -14,7 +14,7 @@ ghost use Rattle.frame.specs.Shape.{checksOf, isShape};
 ghost use Rattle.lists.specs.Total.{total};
 
 // The number of check sums of all rows.
-fn sum_count(s: Shape) -> usize
+pub fn sum_count(s: Shape) -> usize
     requires { ⌜ isShape s ≡ true ⌝ }
     ensures { λ r. ⌜ r ≡ total (s .rows) (checksOf s) ⌝ }
 {

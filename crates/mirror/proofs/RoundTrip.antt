@@ -5,12 +5,14 @@ use Rattle.columns.specs.Columns.{columnsOf, number}
 use Rattle.frame.specs.Shape.{shapeOf}
 use Rattle.job.specs.Job.{noColumns}
 use Rattle.job.specs.declared.Phase.{Phase}
-use Rattle.job.specs.declared.Phase.the-variants.{Empty, Shaped, Located}
-use Rattle.mirror.specs.Mirror.{phaseOf, phaseNumber, phaseLength, phaseAlone, ThereAndBack, EmptyMirror, LocatedMirror, AnswerMirrors}
+use Rattle.job.specs.declared.Phase.the-variants.{Empty, Shaped, Unfinished, Located}
+use Rattle.mirror.specs.Mirror.{phaseOf, phaseNumber, phaseLength, phaseAlone, ThereAndBack, EmptyMirror, UnfinishedMirror, LocatedMirror}
+use Rattle.mirror.specs.Mirror.{AnswerMirrors}
 
 same-phase : (p : Phase) → phaseOf (phaseNumber p) (phaseLength p) (phaseAlone p) ≡ p
 same-phase Empty = refl
 same-phase Shaped = refl
+same-phase Unfinished = refl
 same-phase (Located c true) = refl
 same-phase (Located c false) = refl
 
@@ -22,10 +24,23 @@ pub empty-mirror : EmptyMirror
 unfolding noColumns columnsOf number
 empty-mirror = refl
 
+pub unfinished-mirror : UnfinishedMirror
+unfolding shapeOf noColumns columnsOf number
+unfinished-mirror = refl
+
 pub located-mirror : LocatedMirror
 unfolding shapeOf columnsOf number
 located-mirror = refl
 
 pub answer-mirrors : AnswerMirrors
 unfolding noColumns columnsOf number
-answer-mirrors = record { answered = λ c t j f. refl; refused = λ k j f. refl; searched = λ t. refl; search-refused = λ k. refl }
+answer-mirrors =
+    record {
+      answered = λ c t j f. refl;
+      unfinished = λ j f. refl;
+      refused = λ k j f. refl;
+      peeked = λ l. refl;
+      peek-refused = λ k. refl;
+      searched = λ t. refl;
+      search-refused = λ k. refl;
+    }

@@ -1,6 +1,7 @@
 -- The number that C reads is 0 exactly where nothing is refused: no test of an order has the number 0.
 use mathlib.Core.Path.{_≡_, refl, sym, ap, _∙_}
 use mathlib.Core.Logic.{inl, inr, _↔_}
+use mathlib.Core.Bool.{Bool, true, false, cond}
 use mathlib.Core.List.{List, [], _∷_}
 use Prim.Native.Nat.{ℕ, suc}
 use native.Mathlib.Omega.{arith}
@@ -8,8 +9,10 @@ use Rattle.finder.specs.Finder as Finder
 use Rattle.finder.specs.Finder.{answer}
 use Rattle.sequences.specs.Tests.{tests}
 use Rattle.frame.specs.Encode.{encodeTests}
-use Rattle.frame.specs.DeclaredCells.{readTests, rereadTests}
+use Rattle.frame.specs.DeclaredCells.{declaredBy, readTests, rereadTests}
+use Rattle.frame.specs.Frame.{heldSequences}
 use Rattle.frame.specs.Shape.{shapeTests}
+use Rattle.frame.specs.declared.Shape.{Shape}
 use Rattle.refusal.specs.Order.{Test}
 use Rattle.refusal.specs.Outcome as Tested
 use Rattle.refusal.specs.Outcome.{outcomeOf}
@@ -17,10 +20,12 @@ use Rattle.refusal.specs.declared.Checked.{Checked}
 use Rattle.refusal.specs.declared.Checked.the-variants.{Pass, Refuse}
 use Rattle.refusal.proofs.Orders.{Among, by-tests}
 use Rattle.search.specs.Search as Search
+use Rattle.slices.specs.Synthesis.{size, ended}
 use Rattle.search.specs.Search.{searchTests}
 use Rattle.job.specs.Answers.{checkedAnswer}
-use Rattle.job.specs.Calls.{Call, shape, encode, locate, repair, Answer, done, columns, refused, describe, registerTests, step}
-use Rattle.job.specs.Job.{Job}
+use Rattle.job.specs.Calls.{Call, shape, encode, locate, repair, start, next, peek, Answer, done, columns, unfinished, shortest, refused}
+use Rattle.job.specs.Calls.{describe, registerTests, byRegisterTests, heldTaps, heldMark, arrivesTests, started, stepped, step}
+use Rattle.job.specs.Job.{Arrays, Job}
 use Rattle.job.proofs.AfterRefusal.{same-number, gives-no-refusal}
 use Rattle.job.proofs.Cases.{by-call}
 use Rattle.mirror.specs.Mirror.{refusalOf, refusalNumber, registerOf, ZeroIsNoRefusal}
@@ -46,6 +51,18 @@ keeping-numbered j (shape n checks b) = (nonzero _, (nonzero _, (nonzero _, (non
 keeping-numbered j (encode f) = (nonzero _, (nonzero _, (nonzero _, tt)))
 keeping-numbered j (locate words f) = (nonzero _, (nonzero _, (nonzero _, (nonzero _, tt))))
 keeping-numbered j (repair f) = (nonzero _, (nonzero _, (nonzero _, (nonzero _, (nonzero _, tt)))))
+keeping-numbered j (start words f) = (nonzero _, (nonzero _, (nonzero _, (nonzero _, tt))))
+keeping-numbered j next = (nonzero _, (nonzero _, tt))
+keeping-numbered j peek = (nonzero _, (nonzero _, tt))
+
+arriving-numbered : (s : Shape) (a : Arrays) → Numbered (arrivesTests s a)
+unfolding arrivesTests byRegisterTests
+arriving-numbered s a = pick (ended (a .synthesis))
+  where
+    pick : (b : Bool) → Numbered (cond b (byRegisterTests s (declaredBy (a .declared)) (heldSequences s (a .sums)) (size (a .synthesis))
+        (heldTaps (a .synthesis)) (heldMark s (a .synthesis))) [])
+    pick true = (nonzero _, (nonzero _, (nonzero _, tt)))
+    pick false = tt
 
 shaping-numbered : (j : Job) (c : Call) → Numbered (describe j c .shaping)
 unfolding registerTests
@@ -53,6 +70,9 @@ shaping-numbered j (shape n checks b) = tt
 shaping-numbered j (encode f) = tt
 shaping-numbered j (locate words f) = (nonzero _, (nonzero _, (nonzero _, tt)))
 shaping-numbered j (repair f) = tt
+shaping-numbered j (start words f) = arriving-numbered (j .head .shape) (started (j .head .shape) (j .arrays) words f)
+shaping-numbered j next = arriving-numbered (j .head .shape) (stepped (j .head .shape) (j .arrays))
+shaping-numbered j peek = tt
 
 refused-nonzero : (j : Job) (c : Call) (k : ℕ) → step j c .answer ≡ refused k → k ≡ 0 → ⊥
 refused-nonzero j c k =
@@ -64,6 +84,8 @@ refused-nonzero j c k =
 not-refused : (x : Answer) → ((k : ℕ) → x ≡ refused k → ⊥) → refusalOf x ≡ 0
 not-refused done n = refl
 not-refused (columns c) n = refl
+not-refused unfinished n = refl
+not-refused (shortest l) n = refl
 not-refused (refused k) n = absurd (n k refl)
 
 -- ---- the finder

@@ -13,19 +13,20 @@ use Rattle.search.specs.Search as Search
 use Rattle.frame.specs.Shape.{shapeOf}
 use Rattle.job.specs.Calls.{Call, Outcome, step}
 use Rattle.job.specs.Runs.{IsRefused}
-use Rattle.job.specs.Job.{Job, emptyHead, locatedHead}
+use Rattle.job.specs.Job.{Job, noColumns, emptyHead, unfinishedHead, locatedHead}
 use Rattle.job.specs.declared.Head.{Head}
 use Rattle.job.specs.declared.Phase.{Phase}
-use Rattle.job.specs.declared.Phase.the-variants.{Empty, Shaped, Located}
+use Rattle.job.specs.declared.Phase.the-variants.{Empty, Shaped, Unfinished, Located}
 use Rattle.mirror.specs.declared.CAnswered.{CAnswered}
 use Rattle.mirror.specs.declared.CColumns.{CColumns}
 use Rattle.mirror.specs.declared.CHead.{CHead}
+use Rattle.mirror.specs.declared.CPeeked.{CPeeked}
 use Rattle.mirror.specs.declared.CRegister.{CRegister}
 use Rattle.mirror.specs.declared.CShaped.{CShaped}
 
--- 1 and 2 are shaped and located; every other number is empty. The register is alone where the mark is 1.
+-- 1, 2 and 3 are shaped, located and unfinished; every other number is empty. The register is alone where the mark is 1.
 abbrev pub phaseOf : (phase length alone : ℕ) → Phase
-phaseOf k c a = cond (eqb k 1) Shaped (cond (eqb k 2) (Located c (eqb a 1)) Empty)
+phaseOf k c a = cond (eqb k 1) Shaped (cond (eqb k 2) (Located c (eqb a 1)) (cond (eqb k 3) Unfinished Empty))
 
 -- the head that a struct of C stands for, whatever its numbers are
 abbrev pub headOf : CHead → Head
@@ -45,16 +46,19 @@ markOf false = 0
 abbrev pub phaseNumber : Phase → ℕ
 phaseNumber Empty = 0
 phaseNumber Shaped = 1
+phaseNumber Unfinished = 3
 phaseNumber (Located c a) = 2
 
 abbrev pub phaseLength : Phase → ℕ
 phaseLength Empty = 0
 phaseLength Shaped = 0
+phaseLength Unfinished = 0
 phaseLength (Located c a) = c
 
 abbrev pub phaseAlone : Phase → ℕ
 phaseAlone Empty = 0
 phaseAlone Shaped = 0
+phaseAlone Unfinished = 0
 phaseAlone (Located c a) = markOf a
 
 -- the struct of C that stands for a head
@@ -71,7 +75,7 @@ mirrorOf j =
       exponent = j .shape .exponent;
     }
 
--- A head that goes through the C interface and comes back is the same head, whatever it holds. Proved, as the two mirrors below, in proofs/RoundTrip.antt.
+-- A head that goes through the C interface and comes back is the same head, whatever it holds. Proved, as the three mirrors below, in proofs/RoundTrip.antt.
 abbrev pub ThereAndBack : Type 0
 ThereAndBack = (j : Head) → headOf (mirrorOf j) ≡ j
 
@@ -88,6 +92,21 @@ EmptyMirror =
       marks = 0 ∷ 0 ∷ 0 ∷ 0 ∷ [];
       checks = 0 ∷ 0 ∷ 0 ∷ 0 ∷ 0 ∷ 0 ∷ 0 ∷ 0 ∷ [];
       exponent = 0;
+    }
+
+-- of one row and 20 columns, of a job with an unfinished locate
+abbrev pub UnfinishedMirror : Type 0
+UnfinishedMirror =
+    mirrorOf (unfinishedHead (shapeOf 20 (6 ∷ []) 1)) ≡
+    record {
+      phase = 3;
+      alone = 0;
+      length = 0;
+      rows = 1;
+      columns = 20;
+      marks = 0 ∷ 0 ∷ 0 ∷ 0 ∷ [];
+      checks = 6 ∷ 0 ∷ 0 ∷ 0 ∷ 0 ∷ 0 ∷ 0 ∷ 0 ∷ [];
+      exponent = 1;
     }
 
 -- a head of two rows and 256 columns whose check sums begin at the exponent 7, located at the columns 0, 65 and 255
@@ -109,6 +128,8 @@ LocatedMirror =
 abbrev pub refusalOf : Calls.Answer → ℕ
 refusalOf Calls.done = 0
 refusalOf (Calls.columns c) = 0
+refusalOf Calls.unfinished = 0
+refusalOf (Calls.shortest l) = 0
 refusalOf (Calls.refused k) = k
 
 -- the same of tests alone
@@ -120,7 +141,25 @@ refusalNumber (Tested.refused k) = k
 abbrev pub countOf : Calls.Answer → ℕ
 countOf Calls.done = 0
 countOf (Calls.columns c) = c
+countOf Calls.unfinished = 0
+countOf (Calls.shortest l) = 0
 countOf (Calls.refused k) = 0
+
+-- 1 where a locate is answered to be unfinished
+abbrev pub unfinishedOf : Calls.Answer → ℕ
+unfinishedOf Calls.done = 0
+unfinishedOf (Calls.columns c) = 0
+unfinishedOf Calls.unfinished = 1
+unfinishedOf (Calls.shortest l) = 0
+unfinishedOf (Calls.refused k) = 0
+
+-- the length of a shortest register, and 0 where none is answered
+abbrev pub shortestOf : Calls.Answer → ℕ
+shortestOf Calls.done = 0
+shortestOf (Calls.columns c) = 0
+shortestOf Calls.unfinished = 0
+shortestOf (Calls.shortest l) = l
+shortestOf (Calls.refused k) = 0
 
 -- what the finder returns
 abbrev pub registerOf : Finder.Answer → CRegister
@@ -136,25 +175,43 @@ columnsFor a =
 abbrev pub shapedOf : Outcome → CShaped
 shapedOf o = record { refusal = refusalOf (o .answer); head = mirrorOf (o .job .head) }
 
--- what locate and repair return
+-- what peek returns
+abbrev pub peekedOf : Calls.Answer → CPeeked
+peekedOf a = record { refusal = refusalOf a; length = shortestOf a }
+
+-- what start, step, locate and repair return
 abbrev pub answeredOf : Outcome → CAnswered
 answeredOf o =
     record {
-      answer = record { refusal = refusalOf (o .answer); count = countOf (o .answer); tried = o .tried; marks = o .marks .words };
+      answer = record {
+        refusal = refusalOf (o .answer);
+        unfinished = unfinishedOf (o .answer);
+        count = countOf (o .answer);
+        tried = o .tried;
+        marks = o .marks .words;
+      };
       head = mirrorOf (o .job .head);
     }
 
--- What stands in the struct of an answer, whatever is counted and tried, and whatever job and frame are left: of the columns 0, 65 and 255, of a search that
--- finds these, and of a call or a search refused by k, which carries the number alone. Proved in proofs/RoundTrip.antt.
+-- What stands in the struct of an answer, whatever is counted and tried, and whatever job and frame are left: of the columns 0, 65 and 255, of a locate
+-- that is unfinished, of a length, of a search that finds these columns, and of a call or a search refused by k, which carries the number alone. Proved in
+-- proofs/RoundTrip.antt.
 pub record AnswerMirrors : Type 0 where
   pub answered :
       (c t : ℕ) (j : Job) (f : List ℕ) →
       answeredOf
       (record { answer = Calls.columns c; marks = columnsOf (λ i. eqb i 0 || (eqb i 65 || eqb i 255)); tried = t; job = j; frame = f }) .answer ≡
-      record { refusal = 0; count = c; tried = t; marks = 1 ∷ 2 ∷ 0 ∷ 9223372036854775808 ∷ [] }
+      record { refusal = 0; unfinished = 0; count = c; tried = t; marks = 1 ∷ 2 ∷ 0 ∷ 9223372036854775808 ∷ [] }
+  pub unfinished :
+      (j : Job) (f : List ℕ) →
+      answeredOf (record { answer = Calls.unfinished; marks = noColumns; tried = 0; job = j; frame = f }) .answer ≡
+      record { refusal = 0; unfinished = 1; count = 0; tried = 0; marks = 0 ∷ 0 ∷ 0 ∷ 0 ∷ [] }
   pub refused :
       (k : ℕ) (j : Job) (f : List ℕ) →
-      answeredOf (Calls.refusing j f k) .answer ≡ record { refusal = k; count = 0; tried = 0; marks = 0 ∷ 0 ∷ 0 ∷ 0 ∷ [] }
+      answeredOf (Calls.refusing j f k) .answer ≡
+      record { refusal = k; unfinished = 0; count = 0; tried = 0; marks = 0 ∷ 0 ∷ 0 ∷ 0 ∷ [] }
+  pub peeked : (l : ℕ) → peekedOf (Calls.shortest l) ≡ record { refusal = 0; length = l }
+  pub peek-refused : (k : ℕ) → peekedOf (Calls.refused k) ≡ record { refusal = k; length = 0 }
   pub searched :
       (t : ℕ) →
       columnsFor (record { outcome = Tested.passed; sought = record { columns = columnsOf (λ i. eqb i 0 || (eqb i 65 || eqb i 255)); tried = t } }) ≡

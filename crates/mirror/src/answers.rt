@@ -2,11 +2,13 @@
 use crate::CAnswer;
 use crate::CAnswered;
 use crate::CColumns;
+use crate::CPeeked;
 use crate::CRegister;
 use crate::head::mark_of;
 use crate::head::mirror_of;
 use finder::Found;
 use job::Answered;
+use job::Peeked;
 use job::Reply;
 use refusal::Checked;
 use refusal::number_of;
@@ -15,10 +17,10 @@ ghost use mathlib.Core.List.{List};
 ghost use mathlib.Core.Path.{_≡_};
 ghost use Prim.Native.Nat.{ℕ};
 ghost use Rattle.finder.specs.Finder.{answerOf as Finder·answerOf};
-ghost use Rattle.job.specs.Answers.{checkedAnswer, replyAnswer, answeredOutcome};
+ghost use Rattle.job.specs.Answers.{checkedAnswer, replyAnswer, peekedAnswer, answeredOutcome};
 ghost use Rattle.job.specs.Job.{Arrays};
 ghost use Rattle.search.specs.Search.{answerOf as Search·answerOf};
-ghost use Rattle.mirror.specs.Mirror.{refusalOf, countOf, registerOf, columnsFor, answeredOf};
+ghost use Rattle.mirror.specs.Mirror.{refusalOf, unfinishedOf, countOf, registerOf, columnsFor, peekedOf, answeredOf};
 
 // 0 where nothing is refused.
 pub fn refusal_of(v: Checked) -> u32
@@ -66,7 +68,18 @@ fn reply_refusal(reply: Reply) -> u32
 {
     match reply {
         Reply::Count(_) => 0,
+        Reply::Unfinished => 0,
         Reply::Refused(why) => number_of(why),
+    }
+}
+
+fn reply_unfinished(reply: Reply) -> u32
+    ensures { λ r. ⌜ r ≡ unfinishedOf (replyAnswer reply) ⌝ }
+{
+    match reply {
+        Reply::Count(_) => 0,
+        Reply::Unfinished => 1,
+        Reply::Refused(_) => 0,
     }
 }
 
@@ -75,7 +88,20 @@ fn reply_count(reply: Reply) -> usize
 {
     match reply {
         Reply::Count(c) => c,
+        Reply::Unfinished => 0,
         Reply::Refused(_) => 0,
+    }
+}
+
+pub fn peeked_of(p: Peeked) -> CPeeked
+    ensures { λ r. ⌜ r ≡ peekedOf (peekedAnswer p) ⌝ }
+{
+    match p {
+        Peeked::Length(length) => CPeeked { refusal: 0, length },
+        Peeked::Refused(why) => CPeeked {
+            refusal: number_of(why),
+            length: 0,
+        },
     }
 }
 
@@ -87,6 +113,7 @@ pub fn answered_of(a: Answered) -> CAnswered
     let reply = a.reply;
     let answer = CAnswer {
         refusal: reply_refusal(reply),
+        unfinished: reply_unfinished(reply),
         count: reply_count(reply),
         tried: a.tried,
         marks,

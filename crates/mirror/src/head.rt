@@ -19,6 +19,9 @@ fn phase_of(phase: u32, length: usize, alone: u32) -> Phase
             alone: alone == 1,
         };
     }
+    if phase == 3 {
+        return Phase::Unfinished;
+    }
     Phase::Empty
 }
 
@@ -48,6 +51,7 @@ fn phase_number(p: Phase) -> u32
     match p {
         Phase::Empty => 0,
         Phase::Shaped => 1,
+        Phase::Unfinished => 3,
         Phase::Located {
             length: _,
             alone: _,
@@ -61,6 +65,7 @@ fn phase_length(p: Phase) -> usize
     match p {
         Phase::Empty => 0,
         Phase::Shaped => 0,
+        Phase::Unfinished => 0,
         Phase::Located { length, alone: _ } => length,
     }
 }
@@ -81,6 +86,7 @@ fn phase_alone(p: Phase) -> u32
     match p {
         Phase::Empty => 0,
         Phase::Shaped => 0,
+        Phase::Unfinished => 0,
         Phase::Located { length: _, alone } => mark_of(alone),
     }
 }

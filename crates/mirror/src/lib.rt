@@ -38,9 +38,16 @@ pub struct CShaped {
 #[repr(C)]
 pub struct CAnswer {
     pub refusal: u32,
+    pub unfinished: u32,
     pub count: usize,
     pub tried: usize,
     pub marks: [u64; 4],
+}
+
+#[repr(C)]
+pub struct CPeeked {
+    pub refusal: u32,
+    pub length: usize,
 }
 
 #[repr(C)]

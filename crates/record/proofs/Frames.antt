@@ -25,10 +25,11 @@ use Rattle.job.specs.NothingDeclared.{noWords}
 use Rattle.job.specs.declared.Answered.{Answered}
 use Rattle.job.specs.declared.Head.{Head}
 use Rattle.job.specs.declared.Reply.{Reply}
-use Rattle.job.specs.declared.Reply.the-variants.{Count, Refused}
+use Rattle.job.specs.declared.Reply.the-variants.{Count, Unfinished, Refused}
 use Rattle.job.specs.declared.Reshaped.{Reshaped}
 use Rattle.job.proofs.Cases.{by-call}
-use Rattle.job.proofs.Forms.{Locates, has-shape, register-passes}
+use Rattle.job.proofs.Emptiness.{has-shape}
+use Rattle.job.proofs.Forms.{Locates, register-passes}
 use Rattle.job.proofs.Soundness.{marked-number}
 use Rattle.refusal.specs.Number.{number}
 use Rattle.refusal.specs.declared.Refusal.{Refusal}
@@ -44,6 +45,8 @@ use Rattle.record.specs.Record.{frame}
 abbrev counted : Answer → ℕ
 counted Calls.done = 0
 counted (Calls.columns c) = c
+counted Calls.unfinished = 0
+counted (Calls.shortest l) = 0
 counted (Calls.refused k) = 0
 
 abbrev Few : Outcome → Type 0
@@ -73,6 +76,7 @@ few-located j words f =
 
 reply-count : (r : Reply) → counted (replyAnswer r) ≡ columnCount r
 reply-count (Count c) = refl
+reply-count Unfinished = refl
 reply-count (Refused k) = refl
 
 pub few-marks : (j : Job) (b : Arrays) (words f : List ℕ) (a : Answered) → answeredOutcome a b f ≡ step j (locate words f)

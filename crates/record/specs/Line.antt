@@ -15,6 +15,8 @@ use Rattle.text.specs.Line.{refusalLine, registerLine, columnsLine}
 unfoldable pub frameLine : Calls.Answer → (shaped located : Outcome) → List ℕ
 frameLine Calls.done shaped located = columnsLine (located .answer) (located .marks)
 frameLine (Calls.columns c) shaped located = []
+frameLine Calls.unfinished shaped located = []
+frameLine (Calls.shortest l) shaped located = []
 frameLine (Calls.refused k) shaped located = refusalLine k
 
 -- The finder's tap buffer has room for the longest length taken, 129 entries, so refusal 8 does not occur.

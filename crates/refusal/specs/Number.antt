@@ -19,6 +19,7 @@ use Rattle.refusal.specs.declared.Refusal.the-variants.{
   NoFrame,
   BadCells,
   Exponent,
+  NotUnfinished,
 }
 
 abbrev pub number : Refusal → ℕ
@@ -39,3 +40,4 @@ number ShortRow = 25
 number NoFrame = 26
 number BadCells = 31
 number Exponent = 32
+number NotUnfinished = 33

@@ -20,6 +20,7 @@ pub enum Refusal {
     NoFrame,
     BadCells,
     Exponent,
+    NotUnfinished,
 }
 
 // What a test of the input finds: nothing to refuse, or the refusal.
@@ -50,5 +51,6 @@ pub fn number_of(r: Refusal) -> u32
         Refusal::NoFrame => 26,
         Refusal::BadCells => 31,
         Refusal::Exponent => 32,
+        Refusal::NotUnfinished => 33,
     }
 }

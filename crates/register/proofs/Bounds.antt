@@ -1,6 +1,7 @@
 -- How large the state of Algorithm 4 gets: after round n, or inside it, the register has at most n taps after the first, each a
 -- residue, and what is saved was saved no later than in round n. So nothing that the code computes overflows.
-use mathlib.Core.Path.{_≡_, refl}
+use mathlib.Core.Path.{_≡_, refl, ap, _∙_}
+use mathlib.Core.Logic.{_≢_}
 use mathlib.Core.List.{List, [], _∷_}
 use Prim.Native.Nat.{ℕ, zero, suc, _+_, _-_, _*_, _≤_, _<_, max}
 use native.Mathlib.Nat.{mod-lt}
@@ -12,7 +13,7 @@ use Rattle.field.proofs.Coefficients.{length-reduced, reduced-residues}
 use Rattle.register.specs.Algorithm4.{Saved, State, start, withSaved, step, turn, rounds}
 use Rattle.register.specs.Register.{discrepancy}
 use Rattle.register.specs.Sequences.{symbol}
-use Rattle.register.proofs.Cases.{cond-cases, grown, stayed, changed-cases, step-cases}
+use Rattle.register.proofs.Cases.{cond-cases, grown, stayed, saved-beside, changed-cases, step-cases}
 
 -- the state in or after round n of N
 pub record Bounded (p N : ℕ) (ss : List (List ℕ)) (n : ℕ) (st : State) : Type 0 where
@@ -33,7 +34,7 @@ unfolding discrepancy
 discrepancy-less p l σ s j pos = mod-lt (total (suc l) (λ i. getD σ i 0 * symbol s (j - i))) pos
 
 -- what holds of what is put in and of what was there holds of all that is kept
-with-saved-all : (P : Saved → Type 0) (saved : ℕ → Saved) (h : ℕ) (v : Saved) (g : ℕ) → P v → P (saved g) → P (withSaved saved h v g)
+pub with-saved-all : (P : Saved → Type 0) (saved : ℕ → Saved) (h : ℕ) (v : Saved) (g : ℕ) → P v → P (saved g) → P (withSaved saved h v g)
 unfolding withSaved
 with-saved-all P saved h v g new old = cond-cases P (eqb g h) v (saved g) (λ _. new) (λ _. old)
 
@@ -102,3 +103,26 @@ module _ (p N : ℕ) (ss : List (List ℕ)) (two : 2 ≤ p) where
   bounded-rounds zero = bounded-start
   bounded-rounds (suc n) =
       bounded-turn (suc n) (length ss) (rounds p N ss n) (bounded-later n (suc n) (rounds p N ss n) (omega arith) (bounded-rounds n))
+
+-- ---- inside a round
+
+module _ (p N : ℕ) (ss : List (List ℕ)) (n : ℕ) where
+  step-beside : (s : List ℕ) (h : ℕ) (st : State) (g : ℕ) → g ≢ h → step p N s n h st .saved g ≡ st .saved g
+  step-beside s h st g other =
+      let d : ℕ = discrepancy p (st .size) (st .taps) s (n + length s - N) in
+      let Same : State → Type 0 = λ t. t .saved g ≡ st .saved g in
+      step-cases p N s n h st Same (λ _. refl) (λ _ _. refl)
+      (λ _ _. changed-cases p n h d st Same (λ _. saved-beside (st .saved) h _ g other) (λ _. refl))
+
+  -- the steps before that of sequence g leave what is saved for g
+  pub not-yet : (h : ℕ) (st : State) (g : ℕ) → h ≤ g → turn p N ss n h st .saved g ≡ st .saved g
+  unfolding turn
+  not-yet zero st g le = refl
+  not-yet (suc h) st g le =
+      step-beside (getD ss h []) h (turn p N ss n h st) g (λ e. let z : ⊥ = omega (arith, e) in z) ∙ not-yet h st g (omega arith)
+
+-- so the place that the step of sequence h finds in round n + 1 is that of a round before, or the first one
+pub place-before : (p N : ℕ) (ss : List (List ℕ)) → 2 ≤ p → (n h : ℕ) →
+    turn p N ss (suc n) h (rounds p N ss n) .saved h .place ≤ max n (N - length (getD ss h []))
+place-before p N ss two n h =
+    rw (ap (λ (v : Saved). v .place) (not-yet p N ss (suc n) h (rounds p N ss n) h (omega arith))) (bounded-rounds p N ss two n .place h)

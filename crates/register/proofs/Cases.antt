@@ -6,16 +6,25 @@ use mathlib.Core.List.{List}
 use Prim.Native.Nat.{ℕ, _+_, _-_, _≤_, _<_}
 use lib.Dec.{ltb, eqb}
 use lib.ListN.{length}
-use borrow.Author.Tests.{ltb-true, ltb-false, eqb-true, eqb-false}
+use borrow.Author.Tests.{ltb-true, ltb-false, eqb-true, eqb-false, eq-eqb, ne-eqb}
 use Rattle.field.specs.Coefficients.{reduced}
 use Rattle.field.specs.Residue.{quotient}
-use Rattle.register.specs.Algorithm4.{State, withSaved, changed, step}
+use Rattle.register.specs.Algorithm4.{Saved, State, withSaved, changed, step}
 use Rattle.register.specs.Register.{discrepancy}
 
 -- what holds of both values holds of the one that a test picks
 pub cond-cases {ℓ κ} : {A : Type ℓ} (P : A → Type κ) (b : Bool) (x y : A) → (b ≡ true → P x) → (b ≡ false → P y) → P (cond b x y)
 cond-cases P true x y f g = f refl
 cond-cases P false x y f g = g refl
+
+-- what is kept for h, and for another
+pub saved-at : (saved : ℕ → Saved) (h : ℕ) (v : Saved) → withSaved saved h v h ≡ v
+unfolding withSaved
+saved-at saved h v = rw (eq-eqb h h refl)
+
+pub saved-beside : (saved : ℕ → Saved) (h : ℕ) (v : Saved) (k : ℕ) → k ≢ h → withSaved saved h v k ≡ saved k
+unfolding withSaved
+saved-beside saved h v k ne = rw (ne-eqb k h ne)
 
 module _ (p n h d : ℕ) (st : State) where
   abbrev pub changedTaps : ℕ → List ℕ

@@ -6,6 +6,7 @@ pub mod Cases
 pub mod EachRound
 pub mod FieldStep
 pub mod Generators
+pub mod Inside
 pub mod InOrder
 pub mod Largest
 pub mod Lent

@@ -2,25 +2,25 @@
 -- same as at the new length since the entries past the register are 0, and one block of the saved registers is replaced.
 use mathlib.Core.Path.{_≡_, refl, sym, ap, ap₂, subst, _∙_}
 use mathlib.Core.Logic.{_≢_}
-use mathlib.Core.List.{List, []}
+use mathlib.Core.List.{List}
 use Prim.Native.Nat.{ℕ, suc, _+_, _-_, _*_, _%_, _^_, _≤_, _<_}
 use native.Mathlib.Decide.{decLt, decLe, ℕ-discrete}
 use native.Mathlib.Nat.{mod-lt}
 use native.Mathlib.Omega.{arith}
-use borrow.Author.Tests.{eq-eqb, ne-eqb, lt-ltb, le-ltb}
+use borrow.Author.Tests.{lt-ltb, le-ltb}
 use lib.ListN.{length, getD, take, set, length-take, length-set}
 use lib.Seq.{ext-getD, getD-take, getD-set-same, getD-set-other, length-take-le}
 use Rattle.field.specs.Coefficients.{reduced, shifted}
 use Rattle.field.specs.Residue.{minus, times, quotient}
-use Rattle.field.proofs.Coefficients.{length-reduced, getD-reduced, getD-reduced-past}
+use Rattle.field.proofs.Coefficients.{minus-zero, length-reduced, getD-reduced, getD-reduced-past}
 use Rattle.lists.proofs.Entries.{getD-take-past}
 use Rattle.lists.specs.Parts.{replaced}
-use Rattle.register.proofs.Cases.{changed-cases, grown, stayed}
+use Rattle.register.proofs.Cases.{changed-cases, grown, stayed, saved-at, saved-beside}
 use Rattle.register.specs.Algorithm4.{Saved, State, changed, withSaved}
-use Rattle.register_step.specs.Parts.{Parts, parts, Whole, stateOf, reducedTaps, stayedParts, grownParts, changedParts, Ended, Changeable, Stepped}
+use Rattle.register_step.specs.Parts.{Parts, parts, stateOf, reducedTaps, stayedParts, grownParts, changedParts, Ended, Changeable, Stepped}
 use Rattle.reduction.specs.Reductions.{Reducible, ZerosAfter, block}
 use Rattle.reduction.proofs.Blocks.{block-replaced, block-other, replaced-whole, replaced-entry, other-entry}
-use Rattle.discrepancy.proofs.Reduction.{minus-zero, shifted-past}
+use Rattle.discrepancy.proofs.Reduction.{shifted-past}
 
 -- ---- the taps
 
@@ -128,14 +128,6 @@ savedOf x h =
 
 pub saved-path : {v w : Saved} → v .place ≡ w .place → v .size ≡ w .size → v .disc ≡ w .disc → v .taps ≡ w .taps → v ≡ w
 saved-path a b c t = λ i. record { place = a i; size = b i; disc = c i; taps = t i }
-
-saved-at : (saved : ℕ → Saved) (h : ℕ) (v : Saved) → withSaved saved h v h ≡ v
-unfolding withSaved
-saved-at saved h v = rw (eq-eqb h h refl)
-
-saved-beside : (saved : ℕ → Saved) (h : ℕ) (v : Saved) (k : ℕ) → k ≢ h → withSaved saved h v k ≡ saved k
-unfolding withSaved
-saved-beside saved h v k ne = rw (ne-eqb k h ne)
 
 module _ {p n h d : ℕ} {x : Parts} (positive : 0 < p) (c : Changeable p n h d x) (z : Ended p x) where
   abbrev place : ℕ

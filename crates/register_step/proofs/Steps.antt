@@ -46,7 +46,7 @@ module _ {p h : ℕ} {x : Parts} (r : Readable p h x) where
   ending = record { width = r .width; residues = λ i _. r .residues i; zeros = r .zeros }
 
 -- what is not 0 was asked for
-asked : (p N l : ℕ) (σ s : List ℕ) (n : ℕ) {d : ℕ} → d ≡ dueAt p N l σ s n → d ≢ 0 → l + (N - length s) < n
+pub asked : (p N l : ℕ) (σ s : List ℕ) (n : ℕ) {d : ℕ} → d ≡ dueAt p N l σ s n → d ≢ 0 → l + (N - length s) < n
 unfolding dueAt
 asked p N l σ s n due some = pick (decLt (l + (N - length s)) n)
   where

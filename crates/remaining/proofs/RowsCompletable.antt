@@ -8,7 +8,7 @@ use native.Mathlib.Omega.{arith}
 use lib.ListN.{length, getD}
 use borrow.Author.Tests.{leb-true}
 use borrow.Rule.Slice.PartMut.{midOf, putMid}
-use Rattle.columns.specs.Columns.{has, either, members}
+use Rattle.columns.specs.Columns.{either, members}
 use Rattle.columns.specs.declared.Columns.{Columns}
 use Rattle.columns.proofs.Joined.{size-either}
 use Rattle.decoding.specs.Remaining.{remaining, leftReach}
@@ -27,7 +27,7 @@ use Rattle.lists.proofs.Tabulated.{every-at}
 use Rattle.lists.proofs.Testing.{Tested, tested-none}
 use Rattle.lists.proofs.Totals.{total-zero, total-suc}
 use Rattle.lists.proofs.Zeros.{zeros}
-use Rattle.remaining.specs.Testable.{completableAt, Testable, TestableRow}
+use Rattle.remaining.specs.Testable.{passesRow, Testable, TestableAt}
 
 -- ---- a row
 
@@ -48,11 +48,11 @@ module _ (J : Columns) (x y : List ℕ) (m : ℕ) (few : length x ≤ 64) (e : m
 -- ---- the rows
 
 module _ (s : Shape) (D : Declared) (M : Columns) (sums : List ℕ) where
-  -- whether row h can be completed at its marked and declared columns
+  -- whether row h passes
   abbrev pub rowTest : ℕ → Bool
-  rowTest h = completableAt (either M (D h)) (getD (heldSequences s sums) h [])
+  rowTest h = passesRow M (D h) (getD (heldSequences s sums) h [])
 
-  -- the rows before h can be completed; their sums stand in `at` places
+  -- the rows before h pass; their sums stand in `at` places
   pub record TestedBefore (h at : ℕ) : Type 0 where
     pub sums-passed : at ≡ sumsBefore s h
     pub tested : Tested (s .rows) rowTest h true
@@ -87,24 +87,19 @@ module _ (s : Shape) (D : Declared) (M : Columns) (sums : List ℕ) where
       lent-held : lent ≡ getD (heldSequences s sums) h []
       lent-held = part-lent s sums h at c passed e ∙ sym (part-held s sums h l)
 
-      pub row-testable : (powers : List ℕ) → powers ≡ table → TestableRow powers M J lent
+      pub row-testable : (powers : List ℕ) → powers ≡ table → TestableAt powers (either M J) lent
       row-testable powers known =
           let size : length lent ≡ checksOf s h = ap length (part-lent s sums h at c passed e) ∙ length-part s (asked .shape) sums sized h l in
           record {
-            lent = record {
-              powers-known = known;
-              few = subst⁻¹ (λ (K : Columns). length (members (either M K)) ≤ length lent) same (let f = few in omega arith);
-              sums-few = (let m = row-lent .most in omega arith);
-              sums-small = part-below sums (asked .sums-small) at (at + c - at);
-            };
-            apart = λ a.
-                ap₂ (λ (K : Columns) (x : List ℕ). completableAt (either M K) x) same lent-held
-                ∙ asked .apart h l (λ i b m. ap (λ (K : Columns). has K i) (sym same) ∙ a i b m);
+            powers-known = known;
+            few = subst⁻¹ (λ (K : Columns). length (members (either M K)) ≤ length lent) same (let f = few in omega arith);
+            sums-few = (let m = row-lent .most in omega arith);
+            sums-small = part-below sums (asked .sums-small) at (at + c - at);
           }
 
       -- what is answered of the lent sums is the test of the row
-      pub row-tested : (b : Bool) → b ≡ completableAt (either M J) lent → rowTest h ≡ b
-      row-tested b r = sym (r ∙ ap₂ (λ (K : Columns) (x : List ℕ). completableAt (either M K) x) same lent-held)
+      pub row-tested : (b : Bool) → b ≡ passesRow M J lent → rowTest h ≡ b
+      row-tested b r = sym (r ∙ ap₂ (λ (K : Columns) (x : List ℕ). passesRow M K x) same lent-held)
 
       pub passed-more : at + c ≡ sumsBefore s (h + 1)
       passed-more = ap₂ _+_ passed e ∙ sym (ap (sumsBefore s) (add-one h) ∙ total-suc h (checksOf s))

@@ -1,15 +1,14 @@
 -- Whether rows can be completed, row by row, and what testing it asks (SPECIFICATION.md, "Declared cells").
 use mathlib.Core.Path.{_≡_}
-use mathlib.Core.Bool.{Bool, true}
-use mathlib.Core.List.{List, []}
+use mathlib.Core.Bool.{Bool, true, not, _||_}
+use mathlib.Core.List.{List}
 use Prim.Native.Nat.{ℕ, _≤_, _<_}
 use lib.ListN.{length, getD}
-use Rattle.columns.specs.Columns.{Apart, either, members}
+use Rattle.columns.specs.Columns.{either, members}
 use Rattle.columns.specs.declared.Columns.{Columns}
-use Rattle.decoding.specs.Remaining.{remaining, leftReach}
+use Rattle.decoding.specs.Remaining.{remaining, leftReach, meets}
 use Rattle.field257.specs.Table.{table}
 use Rattle.frame.specs.DeclaredCells.{Declared, declarable}
-use Rattle.frame.specs.Frame.{heldSequences}
 use Rattle.frame.specs.Shape.{isShape}
 use Rattle.frame.specs.declared.Shape.{Shape}
 use Rattle.sequences.specs.Zeros.{allZero}
@@ -25,10 +24,9 @@ pub record TestableAt (powers : List ℕ) (set : Columns) (sums : List ℕ) : Ty
   pub sums-few : length sums ≤ 64
   pub sums-small : (k : ℕ) → getD sums k 0 < 257
 
--- the marked and declared columns of a row are tested; where they are apart, it is known that the row can be completed there
-pub record TestableRow (powers : List ℕ) (marked cells : Columns) (sums : List ℕ) : Type 0 where
-  pub lent : TestableAt powers (either marked cells) sums
-  pub apart : Apart marked cells → completableAt (either marked cells) sums ≡ true
+-- a row with the sums x passes: no marked column is declared, or it can be completed
+abbrev pub passesRow : (M J : Columns) (x : List ℕ) → Bool
+passesRow M J x = not (meets M J) || completableAt (either M J) x
 
 -- the marked and declared columns of each row are tested, against the sums that are held
 pub record Testable (s : Shape) (D : Declared) (marked : Columns) (sums : List ℕ) : Type 0 where
@@ -36,4 +34,3 @@ pub record Testable (s : Shape) (D : Declared) (marked : Columns) (sums : List �
   pub declared : declarable s D ≡ true
   pub reach : leftReach s D (length (members marked)) ≡ true
   pub sums-small : (k : ℕ) → getD sums k 0 < 257
-  pub apart : (h : ℕ) → h < s .rows → Apart marked (D h) → completableAt (either marked (D h)) (getD (heldSequences s sums) h []) ≡ true

@@ -1,4 +1,4 @@
-// Whether each row can be completed at its marked and declared columns: with these taken out, what is left of its check sums is 0.
+// Whether rows can be completed at their marked and declared columns: with these taken out, what is left of the check sums is 0.
 use crate::row::remaining;
 use columns::Columns;
 use columns::either;
@@ -10,10 +10,10 @@ use frame::Shape;
 use sequences::zeros::all_zero;
 ghost use mathlib.Core.Path.{_≡_};
 ghost use Rattle.columns.specs.Columns.{either};
-ghost use Rattle.decoding.specs.Remaining.{completable};
+ghost use Rattle.decoding.specs.Remaining.{meetingCompletable};
 ghost use Rattle.frame.specs.DeclaredCells.{declaredBy};
 ghost use Rattle.frame.specs.Frame.{heldSequences};
-ghost use Rattle.remaining.specs.Testable.{completableAt, Testable, TestableAt, TestableRow};
+ghost use Rattle.remaining.specs.Testable.{completableAt, passesRow, Testable, TestableAt};
 
 // Whether a row with these check sums can be completed at the set.
 fn completable_at(powers: &[u16; 256], set: Columns, sums: &[u16]) -> bool
@@ -26,10 +26,10 @@ fn completable_at(powers: &[u16; 256], set: Columns, sums: &[u16]) -> bool
     all_zero(&left[0..n])
 }
 
-// The same at marked and declared columns. A row in which no marked column is declared can be completed; the sizes tell whether one is.
+// The same at marked and declared columns, of a row in which some marked column is declared; the sizes tell whether one is.
 fn row_completable(powers: &[u16; 256], marked: Columns, cells: Columns, sums: &[u16]) -> bool
-    requires { ⌜ TestableRow (now powers) marked cells (now sums) ⌝ }
-    ensures { λ r. ⌜ r ≡ completableAt (either marked cells) (now (sums .entry)) ⌝ }
+    requires { ⌜ TestableAt (now powers) (either marked cells) (now sums) ⌝ }
+    ensures { λ r. ⌜ r ≡ passesRow marked cells (now (sums .entry)) ⌝ }
 {
     let set = either(marked, cells);
     if size(set) < size(marked) + size(cells) {
@@ -38,10 +38,10 @@ fn row_completable(powers: &[u16; 256], marked: Columns, cells: Columns, sums: &
     true
 }
 
-// Whether each row can be completed, given the check sums that are held of the frame.
+// Whether each row in which some marked column is declared can be completed, given the check sums that are held.
 pub fn is_completable(s: Shape, declared: &[u64; 32], marked: Columns, sums: &[u16; 512]) -> bool
     requires { ⌜ Testable s (declaredBy (now declared)) marked (now sums) ⌝ }
-    ensures { λ r. ⌜ r ≡ completable s (declaredBy (now (declared .entry))) marked (heldSequences s (now (sums .entry))) ⌝ }
+    ensures { λ r. ⌜ r ≡ meetingCompletable s (declaredBy (now (declared .entry))) marked (heldSequences s (now (sums .entry))) ⌝ }
 {
     let powers = powers();
     let rows = s.rows;

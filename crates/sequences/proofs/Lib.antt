@@ -1,3 +1,5 @@
 pub mod Checks
 pub mod Insertion
+pub mod Reversing
 pub mod Sorting
+pub mod Standing

@@ -1,3 +1,4 @@
+pub mod Backwards
 pub mod Places
 pub mod Tests
 pub mod Zeros

@@ -1,4 +1,5 @@
-// The sequences lent to the finder: the tests of what is lent, and the order by falling length.
+// The sequences lent to the finder: the tests of what is lent, the order by falling length, and the sequences backwards in blocks.
+pub mod backwards;
 pub mod check;
 pub mod sort;
 pub mod zeros;

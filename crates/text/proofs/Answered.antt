@@ -1,7 +1,7 @@
 -- The lines of what the functions answer, by cases.
 use mathlib.Core.Path.{_≡_, sym, ap, _∙_, subst}
 use mathlib.Core.Bool.{Bool}
-use mathlib.Core.List.{List}
+use mathlib.Core.List.{List, []}
 use Prim.Native.Nat.{ℕ, _+_, _-_, _≤_}
 use native.Mathlib.Nat.{sub-zero}
 use lib.ListN.{take}
@@ -14,7 +14,7 @@ use Rattle.job.specs.Answers.{replyAnswer}
 use Rattle.job.specs.Calls as Calls
 use Rattle.job.specs.declared.Reply.{Reply}
 use Rattle.job.specs.declared.Reply.the-variants as Reply
-use Rattle.job.specs.declared.Reply.the-variants.{Count}
+use Rattle.job.specs.declared.Reply.the-variants.{Count, Unfinished}
 use Rattle.refusal.specs.Number.{number}
 use Rattle.refusal.specs.declared.Refusal.{Refusal}
 use Rattle.text.specs.Answered.{columnCount, tapCount, foundLine}
@@ -25,6 +25,10 @@ module _ (reply : Reply) (marks : Columns) where
   pub refusal-replied : (k : Refusal) → reply ≡ Reply.Refused k → refusalLine (number k) ≡ columnsLine (replyAnswer reply) marks
   unfolding columnsLine
   refusal-replied k e = ap (λ (x : Reply). columnsLine (replyAnswer x) marks) (sym e)
+
+  pub unfinished-replied : reply ≡ Unfinished → [] ≡ columnsLine (replyAnswer reply) marks
+  unfolding columnsLine
+  unfinished-replied e = ap (λ (x : Reply). columnsLine (replyAnswer x) marks) (sym e)
 
   module _ (c : ℕ) (e : reply ≡ Count c) where
     pub columns-replied : columnsLine (Calls.columns c) marks ≡ columnsLine (replyAnswer reply) marks

@@ -9,7 +9,7 @@ use Rattle.finder.specs.declared.Found.{Found}
 use Rattle.finder.specs.declared.Found.the-variants.{Register, Refused}
 use Rattle.job.specs.declared.Reply.{Reply}
 use Rattle.job.specs.declared.Reply.the-variants as Reply
-use Rattle.job.specs.declared.Reply.the-variants.{Count}
+use Rattle.job.specs.declared.Reply.the-variants.{Count, Unfinished}
 use Rattle.refusal.specs.Number.{number}
 use Rattle.text.specs.Line.{refusalLine, registerLine}
 
@@ -25,6 +25,7 @@ foundLine (Refused k) left = refusalLine (number k)
 -- the number of columns to mend
 abbrev pub columnCount : Reply → ℕ
 columnCount (Count c) = c
+columnCount Unfinished = 0
 columnCount (Reply.Refused k) = 0
 
 -- a line of columns fits after `at`: there is room for 1024 bytes, and neither the number of columns nor the columns are more than 64

@@ -25,4 +25,6 @@ registerLine (Finder.refused k) taps = refusalLine k
 unfoldable pub columnsLine : Calls.Answer → Columns → List ℕ
 columnsLine Calls.done J = []
 columnsLine (Calls.columns c) J = line 70 (c ∷ members J)
+columnsLine Calls.unfinished J = []
+columnsLine (Calls.shortest l) J = []
 columnsLine (Calls.refused k) J = refusalLine k

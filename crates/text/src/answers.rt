@@ -50,6 +50,7 @@ fn columns_line(out: &mut [u8], at: usize, count: usize, marks: Columns) -> usiz
     put_byte(out, end, b'\n')
 }
 
+// Nothing is written of a locate that is unfinished.
 pub fn reply_line(out: &mut [u8], at: usize, reply: Reply, marks: Columns) -> usize
     requires { ⌜ FewColumns (now out) at (columnCount reply) marks ⌝ }
     ensures { λ r. ⌜ Written (now (out .entry)) at (columnsLine (replyAnswer reply) marks) (now (out .exit)) r ⌝ }
@@ -58,6 +59,7 @@ pub fn reply_line(out: &mut [u8], at: usize, reply: Reply, marks: Columns) -> us
     match reply {
         Reply::Refused(k) => refusal_line(out, at, k),
         Reply::Count(c) => columns_line(out, at, c, marks),
+        Reply::Unfinished => at,
     }
 }
 

@@ -7,12 +7,13 @@ use crate::tallies::FOUND;
 use crate::tallies::MENDED;
 use crate::tallies::RESHAPED;
 use columns::Columns;
-use job::Phase;
 use plain::tally::count;
 use plain::values::copy;
 use plain::values::part;
 use plain_frames::answers::columns_of;
+use plain_frames::answers::length_of;
 use plain_frames::answers::of_checked;
+use plain_frames::answers::of_phase;
 use plain_frames::answers::of_reply;
 use plain_frames::compare::differ_in;
 use plain_frames::compare::same;
@@ -41,25 +42,6 @@ pub(crate) fn start(planted: bool) -> Pair {
     }
 }
 
-fn phase_number(phase: Phase) -> u16 {
-    match phase {
-        Phase::Empty => 0,
-        Phase::Shaped => 1,
-        Phase::Located {
-            length: _,
-            alone: _,
-        } => 2,
-    }
-}
-
-fn found_length(phase: Phase) -> usize {
-    match phase {
-        Phase::Empty => 0,
-        Phase::Shaped => 0,
-        Phase::Located { length, alone: _ } => length,
-    }
-}
-
 // These are c columns, those that the model holds.
 fn same_found(c: usize, columns: Columns, found: Model) -> bool {
     let named = found.named;
@@ -83,13 +65,13 @@ fn same_findings(c: usize, job: Job, model: Model) -> bool {
 fn same_state(job: Job, model: Model) -> bool {
     let head = job.head;
     let phase = head.phase;
-    if phase_number(phase) != model.phase {
+    if of_phase(phase) != model.phase {
         return false;
     }
     if model.phase != LOCATED {
         return true;
     }
-    same_findings(found_length(phase), job, model)
+    same_findings(length_of(phase), job, model)
 }
 
 // The number that is answered and the job that is left are those of the model.

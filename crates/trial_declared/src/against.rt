@@ -3,11 +3,13 @@ use crate::model;
 use crate::model::LOCATED;
 use crate::model::Model;
 use columns::Columns;
-use job::Phase;
+use lost::cells::same_words;
 use plain::values::copy;
 use plain::values::part;
 use plain_frames::answers::columns_of;
+use plain_frames::answers::length_of;
 use plain_frames::answers::of_checked;
+use plain_frames::answers::of_phase;
 use plain_frames::answers::of_reply;
 use plain_frames::compare::differ_in;
 use plain_frames::compare::same;
@@ -55,34 +57,6 @@ pub(crate) fn shape(
     }
 }
 
-fn phase_number(phase: Phase) -> u16 {
-    match phase {
-        Phase::Empty => 0,
-        Phase::Shaped => 1,
-        Phase::Located {
-            length: _,
-            alone: _,
-        } => 2,
-    }
-}
-
-fn found_length(phase: Phase) -> usize {
-    match phase {
-        Phase::Empty => 0,
-        Phase::Shaped => 0,
-        Phase::Located { length, alone: _ } => length,
-    }
-}
-
-fn same_words(a: &[u64; 32], b: &[u64; 32]) -> bool {
-    for k in 0..32 {
-        if a[k] != b[k] {
-            return false;
-        }
-    }
-    true
-}
-
 // These are c columns, those that the model holds.
 fn same_found(c: usize, columns: Columns, found: Model) -> bool {
     let named = found.named;
@@ -108,7 +82,7 @@ fn same_cells(job: Job, model: Model) -> bool {
 fn same_state(job: Job, model: Model) -> bool {
     let head = job.head;
     let phase = head.phase;
-    if phase_number(phase) != model.phase {
+    if of_phase(phase) != model.phase {
         return false;
     }
     if model.phase != LOCATED {
@@ -120,7 +94,7 @@ fn same_state(job: Job, model: Model) -> bool {
     if !same_cells(job, model) {
         return false;
     }
-    same_found(found_length(phase), head.columns, model)
+    same_found(length_of(phase), head.columns, model)
 }
 
 // What is returned is that of the model; where it is no refusal, the columns are those that `found` holds.

@@ -2,7 +2,6 @@
 // size or a symbol above 256.
 use crate::against;
 use crate::against::Pair;
-use crate::cells;
 use crate::disagreement::show_unless;
 use crate::model::EMPTY;
 use crate::model::Model;
@@ -14,6 +13,7 @@ use crate::tallies::LISTS;
 use crate::tallies::MENDED;
 use crate::tallies::RENEWED;
 use crate::tallies::tally;
+use lost::cells;
 use plain::random::draw;
 use plain::random::draw_from;
 use plain::tally::count;

@@ -1,8 +1,8 @@
 // Calls with declared cells at the edges (SPECIFICATION.md, "Declared cells"): what is just taken and what is just refused, which of two reasons comes first,
 // and the state that is left. The shape has four columns, the checks 3 and 2 and mostly the exponent 1; the frame of zeros is legal. The cell of
 // column i in row h has mark 256·h + i.
-use crate::cells::declare;
 use crate::tallies::EDGES;
+use lost::cells::declare;
 use plain::tally::count;
 use plain::tally::print_list;
 use plain::values::first;

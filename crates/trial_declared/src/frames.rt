@@ -2,7 +2,6 @@
 // the smallest by all legal frames; damage in reach of the checks that are left must be mended.
 use crate::against;
 use crate::against::Pair;
-use crate::cells;
 use crate::disagreement::show_unless;
 use crate::model;
 use crate::model::Model;
@@ -16,6 +15,7 @@ use crate::tallies::FOUND;
 use crate::tallies::IN_REACH;
 use crate::tallies::PAST_REACH;
 use crate::tallies::tally;
+use lost::cells;
 use plain::random::draw;
 use plain::tally::count;
 use plain::values::copy;

@@ -3,7 +3,6 @@
 // three planted models that are wrong, and must disagree with each.
 mod against;
 mod call_lists;
-mod cells;
 mod disagreement;
 mod edges;
 mod frames;

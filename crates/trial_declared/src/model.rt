@@ -1,8 +1,8 @@
 // A simple model of a job that is shaped well: what locate and repair must answer, and the state that they leave. It shares no code with the library.
-use crate::cells::declarable;
 use crate::search::all_completable;
 use crate::search::named_by;
 use brute::locator::Expected;
+use lost::cells::declarable;
 use plain::values::copy;
 use plain::values::get;
 use plain::values::part;

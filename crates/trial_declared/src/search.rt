@@ -1,44 +1,12 @@
 // The second locator with declared cells: their columns are taken out of the check sums, one after the other, the shortest register of what is left names
 // columns, and elimination tells whether each row can be completed at its named and declared columns.
-use crate::cells::list;
 use brute::erasures::completable;
-use brute::erasures::take_out_all;
 use brute::locator::Expected;
 use brute::locator::locate;
+use lost::cells::list;
+use lost::left::all_left;
 use plain::sequences::sequence;
-use plain::values::copy;
-use plain::values::minus;
 use plain::values::part;
-use plain::values::put;
-
-// Puts what is left of the check sums of row h behind what is left of those before it, and answers how much that is.
-fn row_left(words: &[u64; 32], h: usize, sums: &[u16], left: &mut [u16], at: usize) -> usize {
-    let none = [0u16; 0];
-    let mut columns = [0u16; 256];
-    let n = list(words, h, &none, &mut columns);
-    let mut room = [0u16; 64];
-    copy(sums, &mut room, 0);
-    take_out_all(&mut room, sums.len(), part(&columns, 0, n));
-    let m = minus(sums.len(), n);
-    copy(part(&room, 0, m), left, at);
-    m
-}
-
-// What is left of the check sums of each row, and how much.
-fn all_left(
-    words: &[u64; 32],
-    checks: &[u16],
-    sums: &[u16],
-    left: &mut [u16],
-    lengths: &mut [u16],
-) {
-    let mut at: usize = 0;
-    for h in 0..checks.len() {
-        let n = row_left(words, h, sequence(checks, sums, h), left, at);
-        put(lengths, h, (n % 65536) as u16);
-        at = std::num::wrapping_add_usize(at, n);
-    }
-}
 
 fn row_completable(
     exponent: u32,

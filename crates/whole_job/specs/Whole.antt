@@ -5,10 +5,17 @@ use Rattle.job.specs.declared.Answered as Library
 use Rattle.job.specs.declared.Reshaped as Shaped
 use Rattle.whole_job.specs.declared.Answered.{Answered}
 use Rattle.whole_job.specs.declared.Job.{Job}
+use Rattle.slices.specs.Synthesis as Slices
+use Rattle.slices.specs.Synthesis.{synthesis}
 use Rattle.whole_job.specs.declared.Reshaped.{Reshaped}
+use Rattle.whole_job.specs.declared.Synthesis.{Synthesis}
+
+abbrev pub synthesisOf : Synthesis → Slices.Synthesis
+synthesisOf x =
+    synthesis (x .counts) (x .lengths) (x .symbols) (x .places) (x .sizes) (x .discs) (x .quotients) (x .register) (x .saved)
 
 abbrev pub arraysOf : Job → Arrays
-arraysOf j = record { sums = j .sums; taps = j .taps; declared = j .declared }
+arraysOf j = record { sums = j .sums; taps = j .taps; declared = j .declared; synthesis = synthesisOf (j .synthesis) }
 
 abbrev pub jobOf : Job → Model.Job
 jobOf j = beside (j .head) (arraysOf j)

@@ -10,7 +10,9 @@ pub mod search;
 
 use std::sync::LazyLock;
 
-use common::interface::{Answer, Calls, Columns, Declared, Head, Job, LOCATED, Register, SHAPED};
+use common::interface::{
+    Answer, Calls, Columns, Declared, Head, Job, LOCATED, Register, SHAPED, UNFINISHED,
+};
 
 use frames::{Shape, as_read, cells_of, columns_of, marks_of, open_columns};
 use search::{locator_polynomial, named, tried};
@@ -97,7 +99,12 @@ pub fn shape_of(head: &Head) -> Option<Shape> {
         && marked.len() as u64 == head.length
         && marked.iter().all(|&i| i < columns)
         && shape.least_checks() >= marked.len();
-    (shaped && (head.phase == SHAPED || head.phase == LOCATED && found)).then_some(shape)
+    let stands = match head.phase {
+        SHAPED | UNFINISHED => true,
+        LOCATED => found,
+        _ => false,
+    };
+    (shaped && stands).then_some(shape)
 }
 
 fn held_sums(shape: &Shape, frame: &[u16]) -> [u16; 512] {
@@ -133,16 +140,19 @@ fn remaining(sums: &[u64], columns: &[usize]) -> Vec<u64> {
         .collect()
 }
 
-/// The register of what remains of a frame's check sums, if it is alone.
-pub fn register_of(shape: &Shape, declared: &Declared, frame: &[u16]) -> Option<Vec<u64>> {
+/// What remains of a frame's check sums, for each row.
+pub fn sequences(shape: &Shape, declared: &Declared, frame: &[u16]) -> Vec<Vec<u64>> {
     let sums = frames::check_sums(shape, &as_read(shape, declared, frame));
     let rows = registers::split(&shape.checks, &sums)
         .into_iter()
         .enumerate();
-    let sequences: Vec<_> = rows
-        .map(|(h, sums)| remaining(&sums, &cells_of(declared, h)))
-        .collect();
-    registers::shortest(257, &sequences).1
+    rows.map(|(h, sums)| remaining(&sums, &cells_of(declared, h)))
+        .collect()
+}
+
+/// The register of these, if it is alone.
+pub fn register_of(shape: &Shape, declared: &Declared, frame: &[u16]) -> Option<Vec<u64>> {
+    registers::shortest(257, &sequences(shape, declared, frame)).1
 }
 
 /// More declared cells than checks in a row, or a mark past the last column or row.
@@ -301,6 +311,7 @@ impl Calls for Independent {
         job.head = job.head.reshaped();
         Answer {
             refusal: 0,
+            unfinished: 0,
             count: length,
             tried: 0,
             marks,

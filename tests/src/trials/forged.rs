@@ -2,7 +2,7 @@
 //! empty but where the numbers of the head are in their ranges. The arrays do not matter for that;
 //! but a located job counts as shaped where no locate leaves it with the declared cells that it holds.
 
-use common::interface::{Declared, EMPTY, Job, LOCATED, SHAPED};
+use common::interface::{Declared, EMPTY, Job, LOCATED, SHAPED, UNFINISHED};
 use common::random::Random;
 
 use crate::independent::frames::{Shape, as_read, marks_of};
@@ -109,7 +109,7 @@ fn some_number(random: &mut Random) -> u64 {
 fn forge(random: &mut Random, job: &mut Job, shape: &Shape) {
     let number = some_number(random);
     match random.below(18) {
-        0 => job.head.phase = random.pick(&[EMPTY, SHAPED, LOCATED]),
+        0 => job.head.phase = random.pick(&[EMPTY, SHAPED, LOCATED, UNFINISHED]),
         1 => job.head.phase = number as u32,
         2 => job.head.alone = number as u32,
         3 => job.head.length = number,

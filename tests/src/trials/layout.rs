@@ -3,7 +3,7 @@
 
 use std::mem::{align_of, offset_of, size_of};
 
-use common::interface::{Answer, Columns, Head, Job, Register};
+use common::interface::{Answer, Columns, Head, Job, Peeked, Register};
 
 use crate::judge::Judge;
 
@@ -26,7 +26,7 @@ unsafe extern "C" {
     static tomkhadi_layout: [usize; RUST.len()];
 }
 
-const RUST: [usize; 40] = [
+const RUST: [usize; 54] = [
     size_of::<Register>(),
     align_of::<Register>(),
     offset_of!(Register, refusal),
@@ -53,12 +53,26 @@ const RUST: [usize; 40] = [
     offset_of!(Job, declared),
     offset_of!(Job, sums),
     offset_of!(Job, taps),
+    offset_of!(Job, counts),
+    offset_of!(Job, lengths),
+    offset_of!(Job, places),
+    offset_of!(Job, sizes),
+    offset_of!(Job, discs),
+    offset_of!(Job, quotients),
+    offset_of!(Job, current),
+    offset_of!(Job, symbols),
+    offset_of!(Job, saved),
     size_of::<Answer>(),
     align_of::<Answer>(),
     offset_of!(Answer, refusal),
+    offset_of!(Answer, unfinished),
     offset_of!(Answer, count),
     offset_of!(Answer, tried),
     offset_of!(Answer, marks),
+    size_of::<Peeked>(),
+    align_of::<Peeked>(),
+    offset_of!(Peeked, refusal),
+    offset_of!(Peeked, length),
     size_of::<HeadShaped>(),
     align_of::<HeadShaped>(),
     offset_of!(HeadShaped, refusal),

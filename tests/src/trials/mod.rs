@@ -12,6 +12,7 @@ pub mod program;
 pub mod prototypes;
 pub mod search;
 pub mod shapes;
+pub mod slices;
 pub mod vectors;
 
 use common::interface::{Calls, Declared, Job};

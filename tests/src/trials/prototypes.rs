@@ -61,6 +61,7 @@ fn c_type(of: &str) -> &str {
         "CHead" => "tomkhadi_head",
         "CShaped" => "tomkhadi_head_shaped",
         "CAnswered" => "tomkhadi_head_answered",
+        "CPeeked" => "tomkhadi_peek_answer",
         _ => panic!("a type that the header does not have: {of}"),
     }
 }

@@ -9,7 +9,7 @@ shape-requires c κs = search needs
 
 returns : tie.Need-returns
 returns c =
-    let shaped = c .before .before .before .before in
+    let shaped = c .before .before .before .before .before in
     shaped .shape .ensures (arraysOf (shaped .before .before .args .j))
 
 pub shape-spec : {M : Type 1} → statement M

@@ -2,7 +2,7 @@
 use mathlib.Core.Path.{_≡_, sym, _∙_}
 use mathlib.Core.Bool.{false}
 use Rattle.job.specs.Job.{countsEmpty}
-use Rattle.job.proofs.Forms.{has-shape}
+use Rattle.job.proofs.Emptiness.{has-shape}
 use Rattle.locating.proofs.Steps.{encode-empty, encode-given}
 use borrow.Author.Needs.{needs}
 use Rattle.calls.proofs.encode.encode.Statement.{statement}

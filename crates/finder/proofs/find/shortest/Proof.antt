@@ -9,7 +9,7 @@ use Rattle.refusal.specs.Outcome.{passed, outcome}
 use Rattle.sequences.specs.Tests.{tests}
 use Rattle.finder.proofs.Accepted.{Accepted, accepted}
 use Rattle.rounds.proofs.Starting.{reached-start}
-use Rattle.finder.proofs.Synthesis.{sortable, startable, reversible, taken, running, size-within, taps-room, buffer-room, markable, finds, finds-same}
+use Rattle.finder.proofs.Synthesis.{sortable, startable, reversible, taken, running, size-within, taps-room, buffer-room, finds, finds-same}
 use Rattle.finder.proofs.find.shortest.Statement.{statement}
 use Rattle.finder.proofs.find.shortest.Tie as tie
 
@@ -18,14 +18,14 @@ use Rattle.finder.proofs.find.shortest.Tie as tie
 abbrev start-of : tie.After-worked-out → tie.Start
 start-of c = c .before .before .before .before
 
-abbrev longest-before : tie.After-rounds → tie.After-longest
-longest-before c = c .before .before .before .before .before .before .before .before .before .before .before .before .before .before .before .before
+abbrev turned-before : tie.After-rounds → tie.After-all-backwards
+turned-before c = c .before .before .before .before .before .before .before .before .before .before .before .before .before .before .before
 
 abbrev sorted-before : tie.After-rounds → tie.After-by-length
-sorted-before c = c .before .before .before .before .before .before .before .before .before .before .before .before .before .before .before
+sorted-before c = turned-before c .before .before
 
-abbrev turned-before : tie.After-rounds → tie.After-all-backwards
-turned-before c = c .before .before .before .before .before .before .before .before .before .before .before .before .before .before
+abbrev longest-before : tie.After-rounds → tie.After-longest
+longest-before c = sorted-before c .before
 
 -- ---- what is known of the input, of the modulus as it is worked out
 
@@ -49,24 +49,28 @@ by-length-requires : tie.Need-by-length-requires
 by-length-requires c κs = sortable (fine-at (c .before))
 
 all-backwards-requires : tie.Need-all-backwards-requires
-all-backwards-requires c κs = reversible (fine-at (c .before .before)) (c .before .longest .ensures) (c .by-length .ensures)
+all-backwards-requires c κs =
+    let sorted = c .before in
+    (reversible (fine-at (sorted .before .before)) (sorted .before .longest .ensures) (sorted .by-length .ensures), length-replicate {A = ℕ} 1152 0)
 
 start-requires : tie.Need-start-requires
-start-requires c κs = startable (fine-at (c .before .before .before .before .before)) (c .before .before .before .before .longest .ensures) (c .before .before .before .by-length .ensures)
+start-requires c κs =
+    let sorted = c .before .before .before .before .before in
+    startable (fine-at (sorted .before .before)) (sorted .before .longest .ensures) (sorted .by-length .ensures)
 
 cast-quotients : tie.Need-cast-quotients
 cast-quotients c =
-    let worked = c .before .before .before .before .before .before .before .worked-out in
+    let worked = c .before .before .before .before .before .before .before .before .before .worked-out in
     let t = worked .ensures .1 .taken in
     let positive : 0 < worked .result .p = omega (arith, t .two-or-more) in
     record { fits = rw (worked .ensures .1 .unit) (omega (arith, mod-lt 65536 positive, t .modulus)) }
 
 rounds-requires : tie.Need-rounds-requires
 rounds-requires c κs =
-    let turned = c .before .before .before .before .before .before .before .before .before .before .before .before .before in
-    let sorted = turned .before in
+    let turned = c .before .before .before .before .before .before .before .before .before .before .before .before .before .before in
+    let sorted = turned .before .before in
     let worked = sorted .before .before in
-    let r = running (fine-at worked) (sorted .before .longest .ensures) (sorted .by-length .ensures) (turned .all-backwards .ensures) in
+    let r = running (fine-at worked) (sorted .before .longest .ensures) (sorted .by-length .ensures) _ (turned .all-backwards .ensures) in
     let known = worked .worked-out .ensures in
     let p = start-of worked .args .p in (
       known .1,
@@ -79,25 +83,26 @@ rounds-requires c κs =
 add-e : tie.Need-add-e
 add-e c =
     let fine = fine-at (longest-before c .before) in
-    let size = size-within fine (longest-before c .longest .ensures) (sorted-before c .by-length .ensures) (turned-before c .all-backwards .ensures) (c .rounds .ensures) in
-    record { fits = omega (arith, startable fine (longest-before c .longest .ensures) (sorted-before c .by-length .ensures) .longest) }
+    let most = longest-before c .longest .ensures in
+    let stands = sorted-before c .by-length .ensures in
+    let size = size-within fine most stands _ (turned-before c .all-backwards .ensures) (c .rounds .ensures) in
+    record { fits = omega (arith, startable fine most stands .longest) }
 
 part-copy-end : tie.Need-part-copy-end
 part-copy-end c =
     buffer-room (fine-at (longest-before c .before)) (longest-before c .longest .ensures) (sorted-before c .by-length .ensures)
-    (turned-before c .all-backwards .ensures) (c .rounds .ensures)
+    _ (turned-before c .all-backwards .ensures) (c .rounds .ensures)
 
 part-copy-end-2 : tie.Need-part-copy-end-2
 part-copy-end-2 c =
     let ran = c .before .before in
     taps-room (fine-at (longest-before ran .before)) (longest-before ran .longest .ensures) (sorted-before ran .by-length .ensures)
-    (turned-before ran .all-backwards .ensures) (ran .rounds .ensures)
+    _ (turned-before ran .all-backwards .ensures) (ran .rounds .ensures)
 
 alone-requires : tie.Need-alone-requires
 alone-requires c κs =
     let ran = c .before .before .before .before .before .before .before .before .before in
-    markable (fine-at (longest-before ran .before)) (longest-before ran .longest .ensures) (sorted-before ran .by-length .ensures)
-    (turned-before ran .all-backwards .ensures) (ran .rounds .ensures)
+    startable (fine-at (longest-before ran .before)) (longest-before ran .longest .ensures) (sorted-before ran .by-length .ensures)
 
 returns : tie.Need-returns
 returns c =
@@ -105,10 +110,13 @@ returns c =
     let worked = longest-before ran .before in
     let at = start-of worked in
     let same = worked .worked-out .ensures .0 in
-    let passes = subst (λ (q : ℕ). outcome (tests q (at .args .lengths .now) (at .args .symbols .now) (length (at .args .taps .now))) ≡ passed) (sym same) (at .pre) in
+    let passes =
+    subst (λ (q : ℕ). outcome (tests q (at .args .lengths .now) (at .args .symbols .now) (length (at .args .taps .now))) ≡ passed) (sym same) (at .pre)
+    in
     finds-same same
-    (finds (fine-at worked) (longest-before ran .longest .ensures) (sorted-before ran .by-length .ensures) (turned-before ran .all-backwards .ensures)
-    (ran .rounds .ensures) passes (ran .rounds .result + 1 - 0) (c .alone .ensures) (omega arith) (c .before .before .before .before .before .before .copy .ensures))
+    (finds (fine-at worked) (longest-before ran .longest .ensures) (sorted-before ran .by-length .ensures) _ (turned-before ran .all-backwards .ensures)
+    (ran .rounds .ensures) passes (ran .rounds .result + 1 - 0) (c .alone .ensures) (omega arith)
+    (c .before .before .before .before .before .before .copy .ensures))
 
 pub shortest-spec : {M : Type 1} → statement M
 shortest-spec =
@@ -118,6 +126,7 @@ shortest-spec =
     cast-moduli
     (λ c κs. search needs)
     by-length-requires
+    (λ c. search needs)
     all-backwards-requires
     start-requires
     cast-quotients

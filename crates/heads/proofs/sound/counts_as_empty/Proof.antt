@@ -23,6 +23,9 @@ returns-3 c = sym (sound-empty _ (is-sound (c .before .before)) ∙ ap isEmptyPh
 returns-4 : tie.Need-returns-4
 returns-4 c = sym (sound-empty _ (is-sound (c .before .before)) ∙ ap isEmptyPhase (c .enum-told3 .given .1))
 
+returns-5 : tie.Need-returns-5
+returns-5 c = sym (sound-empty _ (is-sound (c .before .before)) ∙ ap isEmptyPhase (c .enum-told4 .given .1))
+
 pub counts-as-empty-spec : {M : Type 1} → statement M
 counts-as-empty-spec =
     tie.close
@@ -32,6 +35,8 @@ counts-as-empty-spec =
     (λ c. search needs)
     (λ c. search needs)
     (λ c. search needs)
+    (λ c. search needs)
     returns-2
     returns-3
-    returns-4)
+    returns-4
+    returns-5)

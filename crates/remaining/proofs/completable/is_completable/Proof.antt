@@ -5,7 +5,7 @@ use Prim.Native.Nat.{_-_}
 use native.Mathlib.Omega.{arith}
 use lib.ListN.{length}
 use borrow.Author.Tests.{not-true, not-false}
-use Rattle.decoding.specs.Remaining.{completable}
+use Rattle.decoding.specs.Remaining.{meetingCompletable}
 use Rattle.frame.specs.DeclaredCells.{declaredBy}
 use Rattle.lists.proofs.Testing.{tested-out, tested-pass, tested-all}
 use Rattle.remaining.proofs.RowsCompletable.{rowTest, TestedBefore, RowLent, before-none, row-lent, row-testable, row-tested, passed-more}
@@ -85,7 +85,7 @@ tested c =
     (counted read .wide .result) (read .cells-of .result) (counted read .wide .ensures .0) (read .cells-of .ensures) _ (c .row-completable .ensures)
 
 returns : tie.Need-returns Inv-loop μ-loop
-unfolding completable
+unfolding meetingCompletable
 returns c =
     let inside = in-loop (counted (read-before (c .before))) in
     tested-out _ _ (inside .before .loop .h) (inside .loop-test .taken) (tested (c .before) ∙ not-true _ (c .if1 .taken))
@@ -103,7 +103,7 @@ loop-again c =
     }
 
 returns-2 : tie.Need-returns-2 Inv-loop μ-loop
-unfolding completable
+unfolding meetingCompletable
 returns-2 c = tested-all _ _ _ _ (c .before .loop .inv .tested) (c .loop-test .left)
 
 pub is-completable-spec : {M : Type 1} → statement M

@@ -1,7 +1,8 @@
 -- `text::answers::reply_line` meets its contract.
+use native.Mathlib.Omega.{arith}
 use borrow.Author.Needs.{needs}
-use Rattle.text.proofs.Answered.{refusal-replied, columns-replied, count-replied}
-use Rattle.text.proofs.Writing.{line-as}
+use Rattle.text.proofs.Answered.{refusal-replied, unfinished-replied, columns-replied, count-replied}
+use Rattle.text.proofs.Writing.{line-as, written-nothing}
 use Rattle.text.proofs.answers.reply_line.Statement.{statement}
 use Rattle.text.proofs.answers.reply_line.Tie as tie
 
@@ -31,6 +32,11 @@ returns-2 c =
     let start = counted c .before .before .before in
     line-as _ _ _ _ _ _ (columns-replied (start .args .reply) _ _ (counted c .reply2 .given .1)) (c .before .before .columns-line .ensures)
 
+returns-3 : tie.Need-returns-3
+returns-3 c =
+    let start = c .before .before .before in
+    line-as _ _ _ _ _ _ (unfinished-replied (start .args .reply) _ (c .enum-told .given .1)) (written-nothing _ _, omega arith)
+
 pub reply-line-spec : {M : Type 1} → statement M
 reply-line-spec =
     tie.close
@@ -40,6 +46,8 @@ reply-line-spec =
     (λ c. search needs)
     columns-line-requires
     (λ c. search needs)
+    (λ c. search needs)
     returns
     (λ c. search needs)
-    returns-2)
+    returns-2
+    returns-3)

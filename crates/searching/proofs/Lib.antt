@@ -1,0 +1,4 @@
+pub mod Arriving
+pub mod Beginning
+pub mod Calling
+pub mod Turning

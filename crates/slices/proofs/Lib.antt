@@ -1,0 +1,13 @@
+pub mod Advancing
+pub mod Answers
+pub mod Beginning
+pub mod Ending
+pub mod Leaving
+pub mod Peeking
+pub mod SameSearch
+pub mod SameTest
+pub mod Soundness
+pub mod Starting
+pub mod Stepping
+pub mod Tests
+pub mod Writing

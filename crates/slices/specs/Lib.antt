@@ -1,0 +1,4 @@
+pub mod Kept
+pub mod Lent
+pub mod Same
+pub mod Synthesis

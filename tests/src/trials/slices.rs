@@ -1,0 +1,334 @@
+//! Locating in slices against locating at once: how many steps there are, what each answers, what the
+//! last one leaves, each peek against elimination; calls between steps that drop nothing, calls that
+//! drop the unfinished locate; frames with nothing to step; and jobs that no call left.
+
+use common::interface::{Answer, Declared, Job, LOCATED, Peeked, SHAPED, Slices, UNFINISHED};
+use common::random::Random;
+
+use crate::independent::frames::{Shape, cells_of, declaring};
+use crate::independent::registers::shortest;
+use crate::independent::{Independent, frame_refusal, sequences};
+use crate::judge::{FILLED, Judge};
+use crate::trials::{
+    bad_cells, damaged, malformed, refilled, shaped, some_cells, some_legal_frame, some_shape,
+};
+use common::interface::Calls;
+
+/// A frame that was lent to a start, and what locate would have done with it.
+struct Started {
+    declared: Declared,
+    frame: Vec<u16>,
+    sequences: Vec<Vec<u64>>,
+    answer: Answer,
+    left: Job,
+}
+
+struct Slicer<'a, 'b> {
+    judge: &'a mut Judge<'b>,
+    slices: &'b dyn Slices,
+    random: &'a mut Random,
+    shape: Shape,
+    job: Job,
+}
+
+pub fn run(judge: &mut Judge) {
+    let Some(slices) = judge.slices() else { return };
+    let mut random = Random::new(17);
+    for most in [vec![7; 1_200], vec![40; 60], vec![256; 6]].concat() {
+        let shape = some_shape(&mut random, most);
+        let job = shaped(&shape);
+        let mut slicer = Slicer {
+            judge,
+            slices,
+            random: &mut random,
+            shape,
+            job,
+        };
+        slicer.empty();
+        slicer.whole();
+        slicer.dropped();
+        slicer.forged();
+    }
+}
+
+impl Slicer<'_, '_> {
+    /// A frame with declared cells and damage, now and then with a row or all rows declared as far as
+    /// they have checks.
+    fn some_frame(&mut self) -> (Declared, Vec<u16>) {
+        let shape = &self.shape;
+        let sent = some_legal_frame(self.random, shape);
+        let mut declared = some_cells(self.random, shape);
+        if self.random.once_in(6) {
+            let all = self.random.once_in(2);
+            let cells = |(h, &checks): (usize, &u16)| {
+                if all || self.random.once_in(2) {
+                    return self.random.subset(shape.columns, usize::from(checks));
+                }
+                cells_of(&declared, h)
+            };
+            declared = declaring(
+                &shape
+                    .checks
+                    .iter()
+                    .enumerate()
+                    .map(cells)
+                    .collect::<Vec<_>>(),
+            );
+        }
+        let left = shape.least_left(&declared);
+        let count = self.random.below(shape.columns.min(left + 2) + 1);
+        let frame = damaged(self.random, shape, &sent, count);
+        (declared, refilled(self.random, shape, &declared, &frame))
+    }
+
+    fn started(&self, declared: Declared, frame: Vec<u16>) -> Started {
+        let mut left = self.job;
+        let answer = Independent.locate(&mut left, &declared, &frame);
+        Started {
+            sequences: sequences(&self.shape, &declared, &frame),
+            declared,
+            frame,
+            answer,
+            left,
+        }
+    }
+
+    fn start(&mut self, started: &Started) -> Answer {
+        let answer = self
+            .slices
+            .start(&mut self.job, &started.declared, &started.frame);
+        self.judge.answered("start", answer.refusal);
+        answer
+    }
+
+    fn step(&mut self) -> Answer {
+        let answer = self.slices.step(&mut self.job);
+        self.judge.answered("step", answer.refusal);
+        answer
+    }
+
+    fn peek(&mut self) -> Peeked {
+        let before = self.job;
+        let peeked = self.slices.peek(&self.job);
+        self.judge.answered("peek", peeked.refusal);
+        self.judge
+            .compare("a peek leaves the job", &before.head, before, self.job);
+        peeked
+    }
+
+    fn expect(&mut self, what: &str, started: &Started, holds: bool) {
+        let inputs = (&self.shape, &started.declared, &started.frame);
+        self.judge.expect(what, &inputs, holds);
+    }
+
+    /// An empty job meets 21, one with nothing unfinished 33.
+    fn empty(&mut self) {
+        let (declared, frame) = self.some_frame();
+        let job = std::mem::replace(&mut self.job, FILLED);
+        for number in [21, 33] {
+            let step = self.step();
+            self.judge
+                .compare("a step with none", &number, Answer::refused(number), step);
+            let peek = self.peek();
+            self.judge
+                .compare("a peek with none", &number, Peeked::refused(number), peek);
+            if number == 21 {
+                let answer = self.slices.start(&mut self.job, &declared, &frame);
+                self.judge.answered("start", answer.refusal);
+                self.judge
+                    .compare("a start of none", &(), Answer::refused(21), answer);
+                self.job = job;
+            }
+        }
+    }
+
+    /// A call between two steps that is refused, or an encode: nothing is dropped.
+    fn between(&mut self) {
+        let (declared, frame) = self.some_frame();
+        let before = self.job;
+        let bad = malformed(self.random, &self.shape, &frame);
+        let refused = frame_refusal(&self.shape, &declared, &bad) != 0;
+        let number = self.random.below(5);
+        match number {
+            0 => {
+                let answer = self.judge.repair(&mut self.job, &frame).0;
+                self.judge
+                    .compare("a repair between steps", &before.head, 22, answer.refusal);
+            }
+            1 => {
+                self.judge.encode(&self.job, &frame);
+            }
+            2 if refused => {
+                self.judge.locate(&mut self.job, &declared, &bad);
+            }
+            3 => {
+                let cells = bad_cells(self.random, &self.shape);
+                let answer = self.slices.start(&mut self.job, &cells, &frame);
+                self.judge.answered("start", answer.refusal);
+                self.judge
+                    .compare("a start of bad cells", &before.head, 31, answer.refusal);
+            }
+            _ if refused => {
+                let expected = frame_refusal(&self.shape, &declared, &bad);
+                let answer = self.slices.start(&mut self.job, &declared, &bad);
+                self.judge.answered("start", answer.refusal);
+                let expected = Answer::refused(expected);
+                self.judge
+                    .compare("a refused start", &before.head, expected, answer);
+            }
+            _ => {}
+        }
+        self.judge
+            .compare("a call between steps", &number, before, self.job);
+    }
+
+    /// The length of the shortest register of the symbols that n finished rounds have looked at.
+    fn shortened(sequences: &[Vec<u64>], longest: usize, n: usize) -> u64 {
+        let cut: Vec<Vec<u64>> = sequences
+            .iter()
+            .map(|s| s[..s.len().saturating_sub(longest - n)].to_vec())
+            .collect();
+        shortest(257, &cut).0 as u64
+    }
+
+    /// All steps of a frame, and a repair.
+    fn whole(&mut self) {
+        let (declared, frame) = self.some_frame();
+        let started = self.started(declared, frame);
+        let longest = started.sequences.iter().map(Vec::len).max().unwrap_or(0);
+        let rows = started.sequences.len();
+        let mut answer = self.start(&started);
+        for done in 0..longest * rows {
+            let goes_on = Answer {
+                unfinished: 1,
+                ..Answer::refused(0)
+            };
+            self.expect(
+                "unfinished",
+                &started,
+                answer == goes_on && self.job.head.phase == UNFINISHED,
+            );
+            if self.random.once_in(2 + longest * rows / 20) {
+                let length = Self::shortened(&started.sequences, longest, done / rows);
+                let peeked = self.peek();
+                self.expect("a peek", &started, peeked == Peeked { refusal: 0, length });
+            }
+            if self.random.once_in(3 + longest * rows / 8) {
+                self.between();
+            }
+            answer = self.step();
+        }
+        self.expect("the last answer", &started, answer == started.answer);
+        self.ended(&started);
+    }
+
+    /// What is left at the end is what locate leaves; no step comes after; a repair does the same.
+    fn ended(&mut self, started: &Started) {
+        let (job, left) = (self.job, started.left);
+        self.expect("the head at the end", started, job.head == left.head);
+        if left.head.phase == LOCATED {
+            let same = (job.sums, job.taps, job.declared) == (left.sums, left.taps, left.declared);
+            self.expect("what is held at the end", started, same);
+        }
+        let over = (self.step(), self.peek(), self.job);
+        let none = (Answer::refused(33), Peeked::refused(33), job);
+        self.expect("no step comes after", started, over == none);
+        let (ours, frame) = self.judge.repair(&mut self.job, &started.frame);
+        let mut mended = started.frame.clone();
+        let theirs = Independent.repair(&mut { left }, &mut mended);
+        self.expect("the repair", started, (ours, frame) == (theirs, mended));
+    }
+
+    /// Some steps, then a call that drops the unfinished locate if it is not refused early.
+    fn dropped(&mut self) {
+        let (declared, frame) = self.some_frame();
+        let started = self.started(declared, frame);
+        if self.start(&started).unfinished == 0 {
+            return;
+        }
+        for _ in 0..self.random.below(4) {
+            self.step();
+        }
+        if self.job.head.phase != UNFINISHED {
+            return;
+        }
+        let (declared, frame) = self.some_frame();
+        match self.random.below(3) {
+            0 => {
+                let Shape {
+                    columns,
+                    ref checks,
+                    exponent,
+                } = self.shape;
+                self.judge.shape(&mut self.job, columns, checks, exponent);
+                self.expect("a shape drops", &started, self.job.head.phase == SHAPED);
+            }
+            1 => {
+                self.judge.locate(&mut self.job, &declared, &frame);
+                self.expect(
+                    "a locate drops",
+                    &started,
+                    self.job.head.phase != UNFINISHED,
+                );
+            }
+            _ => {
+                let other = self.started(declared, frame);
+                let longest = other.sequences.iter().map(Vec::len).max().unwrap_or(0);
+                let mut answer = self.start(&other);
+                for _ in 0..longest * other.sequences.len() {
+                    answer = self.step();
+                }
+                self.expect("another start", &other, answer == other.answer);
+                self.ended(&other);
+                return;
+            }
+        }
+        let refusal = self.step().refusal;
+        self.expect("nothing is unfinished", &started, refusal == 33);
+    }
+
+    /// An unfinished job with anything in some place of its arrays: each call answers, and a number that
+    /// no call leaves makes it count as shaped.
+    fn forged(&mut self) {
+        let (declared, frame) = self.some_frame();
+        let started = self.started(declared, frame.clone());
+        if self.start(&started).unfinished == 0 {
+            return;
+        }
+        let mut bad = self.job;
+        bad.counts[2] = self.shape.checks.len() as u16;
+        let refusal = self.slices.step(&mut bad).refusal;
+        self.expect("a step past the rows", &started, refusal == 33);
+        for _ in 0..self.random.from_to(1, 6) {
+            let any = self.random.bits() as u16;
+            let value = self.random.pick(&[any, 0, 1, 64, 256, 257, 65535]);
+            let job = &mut self.job;
+            let arrays: [&mut [u16]; 9] = [
+                &mut job.counts,
+                &mut job.lengths,
+                &mut job.symbols,
+                &mut job.places,
+                &mut job.sizes,
+                &mut job.discs,
+                &mut job.quotients,
+                &mut job.current,
+                &mut job.saved,
+            ];
+            let array = self.random.below(9);
+            let place = self.random.below(arrays[array].len().min(160));
+            arrays.into_iter().nth(array).expect("one of nine")[place] = value;
+        }
+        for _ in 0..600 {
+            let [step, peek] = [self.slices.step(&mut self.job).refusal, self.peek().refusal];
+            let known = [0, 24, 25, 26, 33].contains(&step) && [0, 33].contains(&peek);
+            self.expect("a forged job", &started, known);
+            if self.job.head.phase != UNFINISHED || step == 33 {
+                break;
+            }
+        }
+        let mut frame = frame;
+        self.slices.start(&mut self.job, &started.declared, &frame);
+        self.judge.subject().repair(&mut self.job, &mut frame);
+        self.job = shaped(&self.shape);
+    }
+}
