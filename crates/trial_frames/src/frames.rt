@@ -135,9 +135,9 @@ fn compare_random(
     let mut list = [0u16; 8];
     fill_from(state, few, spread, &mut list, rows as usize);
     let checks = part(&list, 0, rows as usize);
-    let columns = shape.columns;
-    let shaped = whole_job::shape(whole_job::empty(), columns as usize, checks, shape.exponent);
-    let n = product(rows, columns) as usize;
+    let columns = shape.columns as usize;
+    let shaped = whole_job::shape(whole_job::empty(), columns, checks, shape.exponent);
+    let n = product(rows, shape.columns) as usize;
     let mut room = [0u16; 2048];
     fill_from(state, 0, 257, &mut room, n);
     if !encodes(shaped.job, shape, checks, &mut room, n) {
