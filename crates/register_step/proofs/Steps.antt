@@ -5,6 +5,7 @@ use mathlib.Core.Logic.{_≢_, _⊎_, inl, inr, ⊎-elim}
 use mathlib.Core.List.{List, []}
 use Prim.Native.Nat.{ℕ, suc, _+_, _-_, _*_, _%_, _≤_, _<_}
 use native.Mathlib.Decide.{decLt, ℕ-discrete}
+use native.Mathlib.Nat.{mod-lt}
 use native.Mathlib.Omega.{arith}
 use borrow.Author.Tests.{eq-eqb, ne-eqb, lt-ltb, le-ltb}
 use lib.ListN.{length, getD, take}
@@ -16,7 +17,7 @@ use Rattle.register.specs.Algorithm4.{State, step}
 use Rattle.register.specs.Register.{discrepancy}
 use Rattle.register.specs.Sequences.{symbol}
 use Rattle.discrepancy.proofs.Products.{length-sequence}
-use Rattle.discrepancy.specs.Discrepancies.{Ending, dueAt, sequenceIn}
+use Rattle.discrepancy.specs.Discrepancies.{Ending, Loose, dueAt, sequenceIn}
 use Rattle.register_step.specs.Parts.{Parts, stateOf, changedParts, stepParts, Readable, Changeable, Steppable, Ended, Ready, Stepped}
 use Rattle.register_step.proofs.Change.{own-taps, change-made}
 
@@ -66,6 +67,11 @@ module _ {p N h long n : ℕ} {symbols : List ℕ} {x : Parts} (a : Steppable p 
         size = reach .grown;
         place = omega (arith, a .place, length-sequence reach);
       }
+
+  -- the change by a discrepancy for which a sum stands
+  pub change-asks : 0 < p → {sum : ℕ} → Loose p sum → d ≡ sum % p → sum % p ≡ dueAt p N (x .length) (x .taps) (sequenceIn symbols h long) n → d ≢ 0
+      → (Loose p sum × (sum % p ≡ d)) × Changeable p n h d x
+  change-asks positive {sum} loose is due some = ((loose, sym is), changeable (rw is (mod-lt sum positive)) (is ∙ due) some)
 
 -- ---- arrays that hold a state
 

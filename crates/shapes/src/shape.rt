@@ -104,20 +104,25 @@ pub fn shape_of(columns: usize, checks: &[u16], exponent: u32) -> Shape
     }
 }
 
-// Whether a value of the struct is a shape.
-pub fn is_shape(s: Shape) -> bool
-    ensures { λ r. ⌜ r ≡ isShape s ⌝ }
+// Whether rows, columns, check counts and exponent are those of a shape.
+pub fn in_range(rows: usize, columns: usize, checks: &[u16; 8], exponent: u32) -> bool
+    ensures { λ r. ⌜ r ≡ isShape (record { rows = rows; columns = columns; checks = now (checks .entry); exponent = exponent }) ⌝ }
 {
-    let rows = s.rows;
-    let columns = s.columns;
     if !rows_in_range(rows) {
         return false;
     }
     if !columns_in_range(columns) {
         return false;
     }
-    if !checks_in_range(columns, rows, &s.checks) {
+    if !checks_in_range(columns, rows, checks) {
         return false;
     }
-    exponent_in_range(s.exponent)
+    exponent_in_range(exponent)
+}
+
+// Whether a value of the struct is a shape.
+pub fn is_shape(s: Shape) -> bool
+    ensures { λ r. ⌜ r ≡ isShape s ⌝ }
+{
+    in_range(s.rows, s.columns, &s.checks, s.exponent)
 }

@@ -1,6 +1,6 @@
 // One step further.
 use discrepancy::Modulus;
-use register_step::step::step;
+use register_step::step::single_step;
 ghost use mathlib.Core.Path.{_≡_};
 ghost use mathlib.Core.Bool.{true};
 ghost use Prim.Native.Nat.{_≤_};
@@ -48,13 +48,11 @@ pub fn advance(
     lend(taps);
     lend(saved);
     let f = modulus();
-    let moduli = [257u16; 144];
     let longest = counts[0] as usize;
     let n = counts[1] as usize;
     let h = counts[2] as usize;
-    let l = step(
+    let l = single_step(
         f,
-        &moduli,
         longest,
         symbols,
         h,

@@ -1,10 +1,8 @@
 -- `step` makes a step on the parts.
-use mathlib.Core.Path.{sym, _∙_}
-use Prim.Native.Nat.{_<_}
-use native.Mathlib.Nat.{mod-lt}
+use mathlib.Core.Path.{_∙_}
 use native.Mathlib.Omega.{arith}
 use borrow.Author.Needs.{needs}
-use Rattle.register_step.proofs.Steps.{ending, changeable, step-rests, step-changes}
+use Rattle.register_step.proofs.Steps.{ending, change-asks, step-rests, step-changes}
 use Rattle.register_step.proofs.step.step.Statement.{statement}
 use Rattle.register_step.proofs.step.step.Tie as tie
 
@@ -18,19 +16,9 @@ change-requires : tie.Need-change-requires
 change-requires c κs =
     let tested = c .before .before .before .before .before .before in
     let reduced = tested .before in
-    let start = reduced .before .before .before in
-    let pre = start .pre in
-    let d = reduced .residue .ensures in
-    let positive : 0 < start .args .f .p = omega (arith, pre .0 .taken .two-or-more) in (
-      pre .0,
-      (
-        pre .1 .0,
-        (
-          (reduced .before .due .ensures .1, sym d),
-          changeable (pre .1 .1) (rw d (mod-lt (reduced .before .due .result) positive)) (d ∙ reduced .before .due .ensures .0) (tested .if1 .left),
-        ),
-      ),
-    )
+    let pre = reduced .before .before .before .pre in
+    let summed = reduced .before .due .ensures in
+    (pre .0, (pre .1 .0, change-asks (pre .1 .1) (omega (arith, pre .0 .taken .two-or-more)) (summed .1) (reduced .residue .ensures) (summed .0) (tested .if1 .left)))
 
 returns-2 : tie.Need-returns-2
 returns-2 c =

@@ -1,8 +1,8 @@
 -- `advance` makes the step that comes next.
-use mathlib.Core.Path.{_≡_, sym, _∙_}
-use Prim.Native.Nat.{ℕ, _≤_, _<_}
+use mathlib.Core.Path.{_≡_}
+use Prim.Native.Nat.{_≤_, _<_}
 use native.Mathlib.Omega.{arith}
-use lib.ListN.{length, length-replicate, getD-replicate}
+use lib.ListN.{length}
 use borrow.Author.Needs.{needs}
 use Rattle.slices.specs.Synthesis.{Synthesis, synthesis, allRounds, rounds, steps}
 use Rattle.slices.proofs.Writing.{steppable, stays-short, goes-on, finishes}
@@ -36,38 +36,38 @@ cast-n c = let few = few-rounds (lent-from (c .before .before .before)) in recor
 cast-h : tie.Need-cast-h
 cast-h c = record { fits = omega (arith, few-steps (lent-from (c .before .before .before .before))) }
 
-abbrev start-at : tie.After-moduli → tie.Start
-start-at c = lent-from (c .before .before .before .before .before)
+abbrev start-at : tie.After-h → tie.Start
+start-at c = lent-from (c .before .before .before .before)
 
-mul-step : tie.Need-mul-step
-mul-step c = record { fits = omega (arith, few-steps (start-at c)) }
+mul-single-step : tie.Need-mul-single-step
+mul-single-step c = record { fits = omega (arith, few-steps (start-at c)) }
 
-element-copy-out-step : tie.Need-element-copy-out-step
-element-copy-out-step c = omega (arith, few-steps (start-at c))
+element-copy-out-single-step : tie.Need-element-copy-out-single-step
+element-copy-out-single-step c = omega (arith, few-steps (start-at c))
 
-cast-step : tie.Need-cast-step
-cast-step c =
+cast-single-step : tie.Need-cast-single-step
+cast-single-step c =
     let at = start-at (c .before) in
     record { fits = omega (arith, few-rounds at .0, long-within _ (held at) (at .pre .0) (at .pre .1)) }
 
-add-step : tie.Need-add-step
-add-step c = let few = few-rounds (start-at (c .before)) in record { fits = omega (arith, few .0, few .1) }
+add-single-step : tie.Need-add-single-step
+add-single-step c = let few = few-rounds (start-at (c .before)) in record { fits = omega (arith, few .0, few .1) }
 
-cast-step-2 : tie.Need-cast-step-2
-cast-step-2 c =
+cast-single-step-2 : tie.Need-cast-single-step-2
+cast-single-step-2 c =
     let at = start-at (c .before .before) in
     let few = few-rounds at in
     record { fits = omega (arith, few .0, few .1, size-grown _ (held at) (at .pre .0) (at .pre .1)) }
 
 -- before the call
-abbrev lent-at : tie.After-step-arg8 → tie.After-moduli
+abbrev lent-at : tie.After-single-step-arg8 → tie.After-h
 lent-at c = c .before .before .before .before .before .before .before .before
 
-modulus-is : (c : tie.After-step-arg8) → lent-at c .before .before .before .before .modulus .result .p ≡ 257
-modulus-is c = lent-at c .before .before .before .before .modulus .ensures .0
+modulus-is : (c : tie.After-single-step-arg8) → lent-at c .before .before .before .modulus .result .p ≡ 257
+modulus-is c = lent-at c .before .before .before .modulus .ensures .0
 
-abbrev whole-at : tie.After-step-arg8 → tie.After-lend3
-whole-at c = lent-at c .before .before .before .before .before
+abbrev whole-at : tie.After-single-step-arg8 → tie.After-lend3
+whole-at c = lent-at c .before .before .before .before
 
 -- how long the arrays are
 module _ (c : tie.After-lend3) where
@@ -80,22 +80,17 @@ module _ (c : tie.After-lend3) where
   saved-width : length (lent-from c .args .saved .now) ≡ 1152
   saved-width = search needs
 
-step-requires : tie.Need-step-requires
-step-requires c κs =
-    let made = lent-at c .before .before .before .before .modulus .ensures in
-    let at = start-at (lent-at c) in (
-      made .1,
-      (
-        record { width = length-replicate {A = ℕ} 144 257; each = λ i b. getD-replicate {A = ℕ} 144 i 257 0 b ∙ sym (made .0) },
-        steppable (made .0) _ (held at) (at .pre .0) (at .pre .1) (width (whole-at c)) (saved-width (whole-at c)),
-      ),
-    )
+single-step-requires : tie.Need-single-step-requires
+single-step-requires c κs =
+    let made = lent-at c .before .before .before .modulus .ensures in
+    let at = start-at (lent-at c) in
+    (made .1, steppable (made .0) _ (held at) (at .pre .0) (at .pre .1) (width (whole-at c)) (saved-width (whole-at c)))
 
-short : (c : tie.After-step) → c .step .result ≤ 64
+short : (c : tie.After-single-step) → c .single-step .result ≤ 64
 short c =
     let lent = c .before in
     let at = start-at (lent-at lent) in
-    stays-short (modulus-is lent) _ (held at) (at .pre .0) (at .pre .1) (width (whole-at lent)) (saved-width (whole-at lent)) (c .step .ensures)
+    stays-short (modulus-is lent) _ (held at) (at .pre .0) (at .pre .1) (width (whole-at lent)) (saved-width (whole-at lent)) (c .single-step .ensures)
 
 cast-counts : tie.Need-cast-counts
 cast-counts c = record { fits = omega (arith, short c) }
@@ -112,7 +107,7 @@ cast-counts-2 c = record { fits = omega (arith, few-steps (start-at (lent-at (c 
 returns : tie.Need-returns
 returns c =
     let lent = c .before .before in
-    goes-on (modulus-is lent) _ (held (start-at (lent-at lent))) _ (counts-width (whole-at lent)) (c .before .step .ensures) (c .if1 .taken)
+    goes-on (modulus-is lent) _ (held (start-at (lent-at lent))) _ (counts-width (whole-at lent)) (c .before .single-step .ensures) (c .if1 .taken)
 
 add-counts-2 : tie.Need-add-counts-2
 add-counts-2 c = let few = few-rounds (start-at (lent-at (c .before .before))) in record { fits = omega (arith, few .0, few .1) }
@@ -126,7 +121,7 @@ cast-counts-4 c = record { fits = omega (arith, short (c .before)) }
 returns-2 : tie.Need-returns-2
 returns-2 c =
     let lent = c .before .before in
-    finishes (modulus-is lent) _ (held (start-at (lent-at lent))) _ (counts-width (whole-at lent)) (c .before .step .ensures) (c .if1 .left)
+    finishes (modulus-is lent) _ (held (start-at (lent-at lent))) _ (counts-width (whole-at lent)) (c .before .single-step .ensures) (c .if1 .left)
 
 pub advance-spec : {M : Type 1} → statement M
 advance-spec =
@@ -142,13 +137,13 @@ advance-spec =
     cast-n
     (λ c. search needs)
     cast-h
-    mul-step
-    element-copy-out-step
-    cast-step
-    add-step
+    mul-single-step
+    element-copy-out-single-step
+    cast-single-step
+    add-single-step
     (λ c. search needs)
-    cast-step-2
-    step-requires
+    cast-single-step-2
+    single-step-requires
     cast-counts
     (λ c. search needs)
     add-if1
