@@ -101,7 +101,7 @@ module _ (s : Shape) (declared sums taps : List ℕ) (x : Synthesis) (asked : Tu
       let end : Bool = endSound s (allArrays sums taps declared x) in
       ap (λ (b : Bool). not b || end) (sym e) ∙ and-eq-true-iff (synthesisSound k x) (not (lastStep k x) || end) .0 (asked .sound) .1
 
-  ended-last : ended (advanced k x) ≡ true → lastStep k x ≡ true
+  pub ended-last : ended (advanced k x) ≡ true → lastStep k x ≡ true
   unfolding advanced
   ended-last e = pick (decLt (suc (steps x)) k)
     where

@@ -40,7 +40,7 @@ fn is_end_sound(s: Shape, sums: &[u16; 512], held: &[u64; 32]) -> bool
 }
 
 // The next step of `count` sequences is the last one.
-fn is_last(count: usize, counts: &[u16; 5]) -> bool
+pub fn is_last(count: usize, counts: &[u16; 5]) -> bool
     requires { ⌜ getD (now counts) 2 0 < count ⌝ }
     requires { ⌜ getD (now counts) 1 0 < getD (now counts) 0 0 ⌝ }
     ensures { λ r. ⌜ r ≡ lastStep count (synthesis (now (counts .entry)) [] [] [] [] [] [] [] []) ⌝ }
