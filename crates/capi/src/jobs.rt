@@ -14,8 +14,10 @@ use mirror::CShaped;
 use mirror::answers::answered_of;
 use mirror::answers::peeked_of;
 use mirror::answers::refusal_of;
+use mirror::answers::unfinished_of;
 use mirror::head::head_of;
 use mirror::head::mirror_of;
+use searching::onward::go_on;
 ghost use mathlib.Core.Path.{_≡_};
 ghost use Rattle.capi.specs.Exports.{HeadShapes, HeadEncodes, HeadLocates, HeadRepairs, HeadStarts, HeadSteps, HeadPeeks};
 ghost use Rattle.mirror.specs.Mirror.{mirrorOf};
@@ -125,6 +127,7 @@ pub extern "C" fn tomkhadi_head_start(
     ))
 }
 
+// All steps but the last one go on where they are, with no head taken apart and made anew.
 #[no_mangle]
 pub extern "C" fn tomkhadi_head_step(
     head: CHead,
@@ -148,6 +151,25 @@ pub extern "C" fn tomkhadi_head_step(
         (synthesis (now (counts .exit)) (now (lengths .entry)) (now (symbols .entry)) (now (places .exit)) (now (sizes .exit)) (now (discs .exit))
         (now (quotients .exit)) (now (current .exit)) (now (saved .exit))) ⌝ }
 {
+    let checks = head.checks;
+    if go_on(
+        head.phase == 3,
+        head.rows,
+        head.columns,
+        &checks,
+        head.exponent,
+        counts,
+        lengths,
+        symbols,
+        places,
+        sizes,
+        discs,
+        quotients,
+        current,
+        saved,
+    ) {
+        return unfinished_of(head);
+    }
     answered_of(next(
         head_of(head),
         sums,

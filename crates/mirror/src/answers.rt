@@ -2,6 +2,7 @@
 use crate::CAnswer;
 use crate::CAnswered;
 use crate::CColumns;
+use crate::CHead;
 use crate::CPeeked;
 use crate::CRegister;
 use crate::head::mark_of;
@@ -18,9 +19,10 @@ ghost use mathlib.Core.Path.{_≡_};
 ghost use Prim.Native.Nat.{ℕ};
 ghost use Rattle.finder.specs.Finder.{answerOf as Finder·answerOf};
 ghost use Rattle.job.specs.Answers.{checkedAnswer, replyAnswer, peekedAnswer, answeredOutcome};
-ghost use Rattle.job.specs.Job.{Arrays};
+ghost use Rattle.job.specs.Calls.{unfinished};
+ghost use Rattle.job.specs.Job.{Arrays, noColumns, unfinishedJob};
 ghost use Rattle.search.specs.Search.{answerOf as Search·answerOf};
-ghost use Rattle.mirror.specs.Mirror.{refusalOf, unfinishedOf, countOf, registerOf, columnsFor, peekedOf, answeredOf};
+ghost use Rattle.mirror.specs.Mirror.{refusalOf, unfinishedOf, countOf, registerOf, columnsFor, peekedOf, headOf, answeredOf};
 
 // 0 where nothing is refused.
 pub fn refusal_of(v: Checked) -> u32
@@ -119,5 +121,32 @@ pub fn answered_of(a: Answered) -> CAnswered
         marks,
     };
     let head = mirror_of(a.head);
+    CAnswered { answer, head }
+}
+
+// What a step answers that leaves the job of a head unfinished. The struct is made of the head's as it is, with no `Answered` between.
+pub fn unfinished_of(m: CHead) -> CAnswered
+    ensures { λ r. ⌜ ((b : Arrays) (f : List ℕ) → r ≡
+        answeredOf (record { answer = unfinished; marks = noColumns; tried = 0; job = unfinishedJob (headOf m .shape) b; frame = f })) ⌝ }
+{
+    let marks = [0u64; 4];
+    let checks = m.checks;
+    let answer = CAnswer {
+        refusal: 0,
+        unfinished: 1,
+        count: 0,
+        tried: 0,
+        marks,
+    };
+    let head = CHead {
+        phase: 3,
+        alone: 0,
+        length: 0,
+        rows: m.rows,
+        columns: m.columns,
+        marks,
+        checks,
+        exponent: m.exponent,
+    };
     CAnswered { answer, head }
 }
