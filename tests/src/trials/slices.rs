@@ -2,7 +2,7 @@
 //! last one leaves, each peek against elimination; calls between steps that drop nothing, calls that
 //! drop the unfinished locate; frames with nothing to step; and jobs that no call left.
 
-use common::interface::{Answer, Declared, Job, LOCATED, Peeked, SHAPED, Slices, UNFINISHED};
+use common::interface::{Answer, Declared, Head, Job, LOCATED, Peeked, SHAPED, Slices, UNFINISHED};
 use common::random::Random;
 
 use crate::independent::frames::{Shape, cells_of, declaring};
@@ -21,6 +21,16 @@ struct Started {
     sequences: Vec<Vec<u64>>,
     answer: Answer,
     left: Job,
+}
+
+impl Started {
+    fn longest(&self) -> usize {
+        self.sequences.iter().map(Vec::len).max().unwrap_or(0)
+    }
+
+    fn steps(&self) -> usize {
+        self.longest() * self.sequences.len()
+    }
 }
 
 struct Slicer<'a, 'b> {
@@ -48,6 +58,7 @@ pub fn run(judge: &mut Judge) {
         slicer.whole();
         slicer.dropped();
         slicer.forged();
+        slicer.forged_head();
     }
 }
 
@@ -195,8 +206,7 @@ impl Slicer<'_, '_> {
     fn whole(&mut self) {
         let (declared, frame) = self.some_frame();
         let started = self.started(declared, frame);
-        let longest = started.sequences.iter().map(Vec::len).max().unwrap_or(0);
-        let rows = started.sequences.len();
+        let (longest, rows) = (started.longest(), started.sequences.len());
         let mut answer = self.start(&started);
         for done in 0..longest * rows {
             let goes_on = Answer {
@@ -273,9 +283,8 @@ impl Slicer<'_, '_> {
             }
             _ => {
                 let other = self.started(declared, frame);
-                let longest = other.sequences.iter().map(Vec::len).max().unwrap_or(0);
                 let mut answer = self.start(&other);
-                for _ in 0..longest * other.sequences.len() {
+                for _ in 0..other.steps() {
                     answer = self.step();
                 }
                 self.expect("another start", &other, answer == other.answer);
@@ -329,6 +338,42 @@ impl Slicer<'_, '_> {
         let mut frame = frame;
         self.slices.start(&mut self.job, &started.declared, &frame);
         self.judge.subject().repair(&mut self.job, &mut frame);
+        self.job = shaped(&self.shape);
+    }
+    /// An unfinished job whose head no call left. With marks it goes on, and has none after the step. Out
+    /// of its ranges it counts as empty, and in another phase nothing is unfinished: nothing is changed.
+    fn forged_head(&mut self) {
+        let (declared, frame) = self.some_frame();
+        let started = self.started(declared, frame);
+        if self.start(&started).unfinished == 0 || started.steps() < 2 {
+            return;
+        }
+        let job = self.job;
+        let head = job.head;
+        self.job.head.marks = [self.random.bits() | 1; 4];
+        self.job.head.length = self.random.bits();
+        self.job.head.alone = 1;
+        let answer = self.step();
+        let goes_on = answer.unfinished == 1 && self.job.head == head;
+        self.expect("a step of a head with marks", &started, goes_on);
+        let forge: [(u32, fn(&mut Head)); 7] = [
+            (21, |head| head.exponent = 256),
+            (21, |head| head.rows = 0),
+            (21, |head| head.rows = 9),
+            (21, |head| head.columns = 257),
+            (21, |head| head.checks[0] = 65),
+            (21, |head| head.phase = 4),
+            (33, |head| head.phase = SHAPED),
+        ];
+        for (number, change) in forge {
+            self.job = job;
+            change(&mut self.job.head);
+            let forged = self.job;
+            let answer = self.step();
+            let refused = answer == Answer::refused(number);
+            let kept = Job { head, ..self.job } == Job { head, ..forged };
+            self.expect("a step of a forged head", &started, refused && kept);
+        }
         self.job = shaped(&self.shape);
     }
 }
