@@ -73,18 +73,28 @@ fn is_little(s: Shape) -> bool
     checks * s.columns < 512 * (s.rows + 1)
 }
 
-// The check sums of the rows of a frame, row after row, and zeros after them. The table for stages is made where they gain something.
+// The check sums of the rows of a frame, row after row, and zeros after them. A caller that keeps them has them written where it keeps them: an array
+// that is returned is copied there once more. The table for stages is made where they gain something.
+pub fn write_sums(s: Shape, frame: &[u16], sums: &mut [u16; 512])
+    requires { ⌜ (isShape s ≡ true) × WellFormed s (now frame) ⌝ }
+    ensures { λ r. ⌜ now (sums .exit) ≡ heldSums s (now (frame .entry)) ⌝ }
+{
+    *sums = [0u16; 512];
+    if is_little(s) {
+        let none = [0u16; 1];
+        sum_rows(s, &none, frame, sums);
+        return;
+    }
+    let t = weights(s.exponent);
+    sum_rows(s, &t, frame, sums);
+}
+
+// The same, returned.
 pub fn frame_sums(s: Shape, frame: &[u16]) -> [u16; 512]
     requires { ⌜ (isShape s ≡ true) × WellFormed s (now frame) ⌝ }
     ensures { λ r. ⌜ r ≡ heldSums s (now (frame .entry)) ⌝ }
 {
     let mut sums = [0u16; 512];
-    if is_little(s) {
-        let none = [0u16; 1];
-        sum_rows(s, &none, frame, &mut sums);
-        return sums;
-    }
-    let t = weights(s.exponent);
-    sum_rows(s, &t, frame, &mut sums);
+    write_sums(s, frame, &mut sums);
     sums
 }
