@@ -1,5 +1,5 @@
 // Starting to locate in slices: the frame is tested, its check sums are taken and kept, and the search for a register begins. The frame is not looked at again.
-use codec::sums::frame_sums;
+use codec::sums::write_sums;
 use erasures::cells::nothing;
 use erasures::reading::check_read;
 use erasures::reading::sums_read;
@@ -9,7 +9,7 @@ use job::Answered;
 use job::Head;
 use refusal::Checked;
 use refusal::Refusal;
-use searching::turn::start_from;
+use searching::turn::start_left;
 use shapes::symbols::check_frame;
 ghost use Rattle.calls.specs.Slices.{StartDoes};
 ghost use Rattle.calls.specs.Whole.{LocatedRead, LocatedWhole};
@@ -45,12 +45,10 @@ fn start_whole(
     if let Checked::Refuse(r) = checked {
         return refuse(j, r);
     }
-    *sums = frame_sums(j.shape, frame);
+    write_sums(j.shape, frame, sums);
     *held = *declared;
-    start_from(
+    searching::turn::start_whole(
         j.shape,
-        true,
-        declared,
         sums,
         counts,
         lengths,
@@ -61,7 +59,6 @@ fn start_whole(
         quotients,
         register,
         saved,
-        taps,
     )
 }
 
@@ -97,9 +94,8 @@ fn start_read(
     }
     *sums = sums_read(j.shape, declared, frame);
     *held = *declared;
-    start_from(
+    start_left(
         j.shape,
-        false,
         declared,
         sums,
         counts,

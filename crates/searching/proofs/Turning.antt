@@ -16,7 +16,6 @@ use Rattle.frame.specs.DeclaredCells.{declaredBy}
 use Rattle.frame.specs.Frame.{heldSequences}
 use Rattle.frame.specs.declared.Shape.{Shape}
 use Rattle.frame.proofs.Shapes.{shape-ranges}
-use Rattle.from_register.specs.Register.{Locatable}
 use Rattle.job.specs.Job.{endSound, stepSound}
 use Rattle.lists.proofs.Tabulated.{every-at, length-tabulate}
 use Rattle.lists.specs.Tabulate.{every}
@@ -24,6 +23,7 @@ use Rattle.lists.proofs.Zeros.{zeros, zeros-entry}
 use Rattle.register.specs.Sequences.{longest}
 use Rattle.register.proofs.Cases.{cond-cases}
 use Rattle.register.proofs.Ordering.{longest-bounds}
+use Rattle.remaining.specs.Removable.{RemovableRows}
 use Rattle.slices.specs.Kept.{Sliceable}
 use Rattle.slices.specs.Synthesis.{Synthesis, allRounds, rounds, steps, ended, lastStep, begun, advanced, synthesisSound}
 use Rattle.slices.proofs.Leaving.{sound-leaves}
@@ -38,7 +38,7 @@ Ends s declared sums y = ended y ≡ true → Endable s declared sums (y .counts
 
 -- ---- a start: it has ended where no sequence has a symbol
 
-module _ (s : Shape) (none : Bool) (declared sums : List ℕ) (asked : Locatable s none declared sums) (old : Synthesis) where
+module _ (s : Shape) (declared sums : List ℕ) (asked : RemovableRows s (declaredBy declared) sums) (old : Synthesis) where
   abbrev ss : List (List ℕ)
   ss = allRemaining s (declaredBy declared) (heldSequences s sums)
 
@@ -68,8 +68,8 @@ module _ (s : Shape) (none : Bool) (declared sums : List ℕ) (asked : Locatable
       let kept = begun-kept (sliceable none-long) old in
       record {
         shape = asked .shape;
-        declarable = asked .declarable;
-        small = asked .small;
+        declarable = asked .declared;
+        small = asked .sums-small;
         short = omega arith;
         first = refl;
         residues = λ i b. one-tap i;

@@ -29,7 +29,7 @@ fn held_taps(register: &[u16; 144], l: usize) -> [u16; 65]
     taps
 }
 
-fn goes_on(s: Shape) -> Answered
+pub fn goes_on(s: Shape) -> Answered
     ensures { λ r. ⌜ r ≡ goesOn s ⌝ }
 {
     let columns = empty();

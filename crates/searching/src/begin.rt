@@ -4,11 +4,13 @@ use locating::finding::sum_count;
 use remaining::rows::all_remaining;
 use slices::begin::begin;
 ghost use mathlib.Core.Path.{_≡_};
-ghost use lib.ListN.{take};
+ghost use mathlib.Core.Bool.{true};
+ghost use Prim.Native.Nat.{ℕ, _<_};
+ghost use lib.ListN.{getD, take};
 ghost use Rattle.decoding.specs.Remaining.{allRemaining};
 ghost use Rattle.frame.specs.DeclaredCells.{declaredBy};
 ghost use Rattle.frame.specs.Frame.{heldSequences};
-ghost use Rattle.from_register.specs.Register.{Locatable};
+ghost use Rattle.frame.specs.Shape.{isShape};
 ghost use Rattle.register.specs.Sequences.{split};
 ghost use Rattle.remaining.specs.Removable.{RemovableRows};
 ghost use Rattle.searching.specs.Beginning.{Beginnable};
@@ -52,8 +54,48 @@ fn begin_lent(
     );
 }
 
+// Of the sums as they are held: with nothing declared, nothing is taken out.
+pub fn begin_whole(
+    s: Shape,
+    sums: &[u16; 512],
+    counts: &mut [u16; 5],
+    lengths: &mut [u16; 8],
+    symbols: &mut [u16; 1152],
+    places: &mut [u16; 8],
+    sizes: &mut [u16; 8],
+    discs: &mut [u16; 8],
+    quotients: &mut [u16; 8],
+    register: &mut [u16; 144],
+    saved: &mut [u16; 1152],
+)
+    requires { ⌜ isShape s ≡ true ⌝ }
+    requires { ⌜ ((k : ℕ) → getD (now sums) k 0 < 257) ⌝ }
+    ensures { λ _. ⌜ synthesis (now (counts .exit)) (now (lengths .exit)) (now (symbols .exit)) (now (places .exit)) (now (sizes .exit)) (now (discs .exit))
+        (now (quotients .exit)) (now (register .exit)) (now (saved .exit))
+        ≡ begun (heldSequences s (now (sums .entry)))
+        (synthesis (now (counts .entry)) (now (lengths .entry)) (now (symbols .entry)) (now (places .entry)) (now (sizes .entry)) (now (discs .entry))
+        (now (quotients .entry)) (now (register .entry)) (now (saved .entry))) ⌝ }
+{
+    let checks = s.checks;
+    begin_lent(
+        s.rows,
+        checks,
+        sum_count(s),
+        sums,
+        counts,
+        lengths,
+        symbols,
+        places,
+        sizes,
+        discs,
+        quotients,
+        register,
+        saved,
+    );
+}
+
 // Of what is left when the declared cells are taken out.
-fn begin_left(
+pub fn begin_left(
     s: Shape,
     declared: &[u64; 32],
     sums: &[u16; 512],
@@ -82,64 +124,6 @@ fn begin_left(
         long,
         left.count,
         &told,
-        counts,
-        lengths,
-        symbols,
-        places,
-        sizes,
-        discs,
-        quotients,
-        register,
-        saved,
-    );
-}
-
-// `none` tells that nothing is declared: then the sums are taken as they are held.
-pub fn begin_from(
-    s: Shape,
-    none: bool,
-    declared: &[u64; 32],
-    sums: &[u16; 512],
-    counts: &mut [u16; 5],
-    lengths: &mut [u16; 8],
-    symbols: &mut [u16; 1152],
-    places: &mut [u16; 8],
-    sizes: &mut [u16; 8],
-    discs: &mut [u16; 8],
-    quotients: &mut [u16; 8],
-    register: &mut [u16; 144],
-    saved: &mut [u16; 1152],
-)
-    requires { ⌜ Locatable s none (now declared) (now sums) ⌝ }
-    ensures { λ _. ⌜ synthesis (now (counts .exit)) (now (lengths .exit)) (now (symbols .exit)) (now (places .exit)) (now (sizes .exit)) (now (discs .exit))
-        (now (quotients .exit)) (now (register .exit)) (now (saved .exit))
-        ≡ begun (allRemaining s (declaredBy (now (declared .entry))) (heldSequences s (now (sums .entry))))
-        (synthesis (now (counts .entry)) (now (lengths .entry)) (now (symbols .entry)) (now (places .entry)) (now (sizes .entry)) (now (discs .entry))
-        (now (quotients .entry)) (now (register .entry)) (now (saved .entry))) ⌝ }
-{
-    if none {
-        let checks = s.checks;
-        begin_lent(
-            s.rows,
-            checks,
-            sum_count(s),
-            sums,
-            counts,
-            lengths,
-            symbols,
-            places,
-            sizes,
-            discs,
-            quotients,
-            register,
-            saved,
-        );
-        return;
-    }
-    begin_left(
-        s,
-        declared,
-        sums,
         counts,
         lengths,
         symbols,

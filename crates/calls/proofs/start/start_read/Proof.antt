@@ -25,7 +25,7 @@ start-of c = c .before .before
 abbrev tested : tie.After-enum-told → tie.After-check-read
 tested c = c .before .before
 
-abbrev summed : tie.After-start-from-arg11 → tie.After-sums-read
+abbrev summed : tie.After-start-left-arg11 → tie.After-sums-read
 summed c = c .before .before .before .before .before .before .before .before .before .before .before .before
 
 -- ---- the tests
@@ -54,22 +54,21 @@ passes c = sym (tested c .check-read .ensures) ∙ ap outcomeOf (c .enum-told .g
 sums-read-requires : tie.Need-sums-read-requires
 sums-read-requires c κs = (shape (start-of (tested c)), passed-read _ _ _ (passes c))
 
-start-from-requires : tie.Need-start-from-requires
-start-from-requires c κs =
+start-left-requires : tie.Need-start-left-requires
+start-left-requires c κs =
     let given = summed c in
     let told = given .before in
     let start = start-of (tested told) in
     record {
       shape = shape start;
-      flag = sym (start .pre .some);
-      declarable = well-formed-declarable _ _ _ (passed-read _ _ _ (passes told));
-      small = λ k. subst⁻¹ (λ (l : List _). getD l k 0 < 257) (given .sums-read .ensures) (held-below _ _ k);
+      declared = well-formed-declarable _ _ _ (passed-read _ _ _ (passes told));
+      sums-small = λ k. subst⁻¹ (λ (l : List _). getD l k 0 < 257) (given .sums-read .ensures) (held-below _ _ k);
     }
 
 returns-2 : tie.Need-returns-2
 returns-2 c =
     let given = summed (c .before) in
-    c .start-from .ensures _
+    c .start-left .ensures _
     ∙ start-goes-on _ _ _ _ _ _ _ (start-of (tested (given .before)) .pre .full) (passes (given .before)) (given .sums-read .ensures)
 
 pub start-read-spec : {M : Type 1} → statement M
@@ -82,5 +81,5 @@ start-read-spec =
     returns
     (λ c. search needs)
     sums-read-requires
-    start-from-requires
+    start-left-requires
     returns-2)

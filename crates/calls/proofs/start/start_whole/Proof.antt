@@ -8,7 +8,6 @@ use denote.Ref.{now}
 use Rattle.frame.specs.DeclaredCells.{declaredBy, readTests}
 use Rattle.frame.specs.Shape.{isShape}
 use Rattle.frame.proofs.HeldSums.{held-below}
-use Rattle.frame.proofs.NothingDeclared.{nothing-declarable}
 use Rattle.job.proofs.Emptiness.{has-shape}
 use Rattle.refusal.specs.Outcome.{outcome, outcomeOf, passed}
 use Rattle.locating.proofs.Steps.{refusal-outcome, passed-frame, passed-read}
@@ -26,8 +25,11 @@ start-of c = c .before .before
 abbrev tested : tie.After-enum-told → tie.After-check-frame
 tested c = c .before .before
 
-abbrev summed : tie.After-start-from-arg11 → tie.After-frame-sums
-summed c = c .before .before .before .before .before .before .before .before .before .before .before .before
+abbrev told : tie.After-write-sums → tie.After-enum-told
+told c = c .before .before
+
+abbrev summed : tie.After-start-whole-arg10 → tie.After-write-sums
+summed c = c .before .before .before .before .before .before .before .before .before .before .before
 
 -- ---- the tests
 
@@ -56,28 +58,24 @@ passes c =
 
 -- ---- the search from its sums
 
-frame-sums-requires : tie.Need-frame-sums-requires
-frame-sums-requires c κs =
-    (shape (start-of (tested c)), passed-frame _ _ (sym (tested c .check-frame .ensures) ∙ ap outcomeOf (c .enum-told .given .1)))
+write-sums-requires : tie.Need-write-sums-requires
+write-sums-requires c κs =
+    let past = c .before in
+    (shape (start-of (tested past)), passed-frame _ _ (sym (tested past .check-frame .ensures) ∙ ap outcomeOf (past .enum-told .given .1)))
 
-start-from-requires : tie.Need-start-from-requires
-start-from-requires c κs =
+start-whole-requires : tie.Need-start-whole-requires
+start-whole-requires c κs =
     let given = summed c in
-    let start = start-of (tested (given .before)) in
-    record {
-      shape = shape start;
-      flag = sym (start .pre .nothing);
-      declarable = nothing-declarable _ (shape start) _ (start .pre .nothing);
-      small = λ k. subst⁻¹ (λ (l : List _). getD l k 0 < 257) (given .frame-sums .ensures) (held-below _ _ k);
-    }
+    let start = start-of (tested (told given)) in
+    (shape start, λ k. subst⁻¹ (λ (l : List _). getD l k 0 < 257) (given .write-sums .ensures) (held-below _ _ k))
 
 returns-2 : tie.Need-returns-2
 returns-2 c =
     let given = summed (c .before) in
-    let start = start-of (tested (given .before)) in
-    c .start-from .ensures _
-    ∙ start-goes-on _ _ _ _ _ _ _ (start .pre .full) (passes (given .before))
-    (given .frame-sums .ensures ∙ whole-sums _ (shape start) _ (start .pre .nothing) _ (passed-read _ _ _ (passes (given .before)) .size))
+    let start = start-of (tested (told given)) in
+    c .start-whole .ensures _ _ (start .pre .nothing) _
+    ∙ start-goes-on _ _ _ _ _ _ _ (start .pre .full) (passes (told given))
+    (given .write-sums .ensures ∙ whole-sums _ (shape start) _ (start .pre .nothing) _ (passed-read _ _ _ (passes (told given)) .size))
 
 pub start-whole-spec : {M : Type 1} → statement M
 start-whole-spec =
@@ -88,6 +86,6 @@ start-whole-spec =
     (λ c κs. search needs)
     returns
     (λ c. search needs)
-    frame-sums-requires
-    start-from-requires
+    write-sums-requires
+    start-whole-requires
     returns-2)
