@@ -262,9 +262,9 @@ ENTRY_POINTS = [
     "calls::encode::encode",
     "calls::locate::locate",
     "calls::repair::repair",
-    "calls::start::start",
-    "calls::next::next",
-    "calls::peek::peek",
+    "slicing::start::start",
+    "slicing::next::next",
+    "slicing::peek::peek",
 ]
 
 # What the program does with the bytes that it is given. Its callers meet what these ask for.

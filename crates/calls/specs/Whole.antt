@@ -1,5 +1,5 @@
--- What locate and repair do, by the definitions of the calls, for every value of the arrays that they are not lent; and what is known where they have told
--- apart whether a cell is declared.
+-- What locate and repair do, by the definitions of the calls, for every value of the arrays that they are not lent; and what is known of a job that is to be
+-- repaired.
 use mathlib.Core.Path.{_≡_}
 use mathlib.Core.Bool.{true, false}
 use mathlib.Core.List.{List}
@@ -22,16 +22,6 @@ LocateDoes j sums taps held declared frame r sumsLeft tapsLeft heldLeft =
 abbrev pub RepairDoes : (j : Head) (sums held frame : List ℕ) (r : Answered) (left : List ℕ) → Type 0
 RepairDoes j sums held frame r left =
     (a : Arrays) → answeredOutcome r (withRead a sums held) left ≡ step (beside j (withRead a sums held)) (repair frame)
-
--- a job that is not empty, and no cell declared
-pub record LocatedWhole (j : Head) (declared : List ℕ) : Type 0 where
-  pub full : countsEmpty j ≡ false
-  pub nothing : nothingDeclared declared ≡ true
-
--- a job that is not empty, and some cell declared
-pub record LocatedRead (j : Head) (declared : List ℕ) : Type 0 where
-  pub full : countsEmpty j ≡ false
-  pub some : nothingDeclared declared ≡ false
 
 -- a job that is located, as its head says
 pub record Repairable (j : Head) : Type 0 where

@@ -1,9 +1,5 @@
-// The calls on a job (SPECIFICATION.md, "Jobs").
+// The calls on a job: shape, encode, locate and repair (SPECIFICATION.md, "Jobs"). Those that locate in slices are in the crate `slicing`.
 pub mod encode;
 pub mod locate;
-pub mod next;
-pub mod peek;
 pub mod repair;
 pub mod shape;
-pub mod start;
-mod unfinished;

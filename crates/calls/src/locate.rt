@@ -13,7 +13,8 @@ use locating::from_sums::locate_from;
 use refusal::Checked;
 use refusal::Refusal;
 use shapes::symbols::check_frame;
-ghost use Rattle.calls.specs.Whole.{LocateDoes, LocatedRead, LocatedWhole};
+ghost use Rattle.calls.specs.Whole.{LocateDoes};
+ghost use Rattle.heads.specs.Told.{LocatedRead, LocatedWhole};
 
 // A frame of which nothing is declared.
 fn locate_whole(

@@ -1,11 +1,8 @@
 // The calls on a job for C: the head by value, the arrays by pointer. The header makes of each a call on a job by pointer.
 use calls::encode::encode;
 use calls::locate::locate;
-use calls::next::next;
-use calls::peek::peek;
 use calls::repair::repair;
 use calls::shape::shape;
-use calls::start::start;
 use heads::states::empty;
 use mirror::CAnswered;
 use mirror::CHead;
@@ -18,6 +15,9 @@ use mirror::answers::unfinished_of;
 use mirror::head::head_of;
 use mirror::head::mirror_of;
 use searching::onward::go_on;
+use slicing::next::next;
+use slicing::peek::peek;
+use slicing::start::start;
 ghost use mathlib.Core.Path.{_≡_};
 ghost use Rattle.capi.specs.Exports.{HeadShapes, HeadEncodes, HeadLocates, HeadRepairs, HeadStarts, HeadSteps, HeadPeeks};
 ghost use Rattle.mirror.specs.Mirror.{mirrorOf};

@@ -1,1 +1,2 @@
-// Mathematics of lists alone: there is no code here.
+// Mathematics of lists alone, and what a proof about arrays asks of the code.
+pub mod lend;

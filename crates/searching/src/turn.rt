@@ -5,6 +5,7 @@ use crate::begin::begin_left;
 use crate::begin::begin_whole;
 use frame::Shape;
 use job::Answered;
+use lists::lend::lend;
 use slices::advance::advance;
 ghost use mathlib.Core.Path.{_≡_};
 ghost use mathlib.Core.Bool.{true};
@@ -16,9 +17,6 @@ ghost use Rattle.frame.specs.Shape.{isShape};
 ghost use Rattle.remaining.specs.Removable.{RemovableRows};
 ghost use Rattle.searching.specs.Arriving.{StartDoes, StepDoes, Turnable};
 ghost use Rattle.slices.specs.Synthesis.{synthesis};
-
-// Does nothing: where an array is lent as a slice, the proof learns its length.
-fn lend(_x: &[u16]) {}
 
 // With nothing declared. Each row has a check, so a search begun from all sums never ends at once, and where it has come to is not looked at.
 pub fn start_whole(

@@ -1,5 +1,6 @@
 // One step further.
 use discrepancy::Modulus;
+use lists::lend::lend;
 use register_step::step::single_step;
 ghost use mathlib.Core.Path.{_≡_};
 ghost use mathlib.Core.Bool.{true};
@@ -19,9 +20,6 @@ fn modulus() -> Modulus
         inverse: 65281,
     }
 }
-
-// Does nothing: where an array is lent as a slice, the proof learns its length.
-fn lend(_x: &[u16]) {}
 
 // The step that comes next, of `count` sequences. The last step of a round finishes it.
 pub fn advance(

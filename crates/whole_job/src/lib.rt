@@ -201,7 +201,7 @@ pub fn start(j: Job, declared: &[u64; 32], frame: &[u16]) -> Answered
     let mut quotients = old.quotients;
     let mut register = old.register;
     let mut saved = old.saved;
-    let answer = calls::start::start(
+    let answer = slicing::start::start(
         j.head,
         &mut sums,
         &mut taps,
@@ -249,7 +249,7 @@ pub fn next(j: Job) -> Answered
     let mut quotients = old.quotients;
     let mut register = old.register;
     let mut saved = old.saved;
-    let answer = calls::next::next(
+    let answer = slicing::next::next(
         j.head,
         &sums,
         &mut taps,
@@ -294,7 +294,7 @@ pub fn peek(j: Job) -> Peeked
     let quotients = old.quotients;
     let register = old.register;
     let saved = old.saved;
-    calls::peek::peek(
+    slicing::peek::peek(
         j.head,
         &sums,
         &held,

@@ -1,4 +1,4 @@
--- `calls::start::start_whole` meets its contract.
+-- `slicing::start::start_whole` meets its contract.
 use mathlib.Core.Path.{_≡_, refl, sym, ap, subst⁻¹, _∙_}
 use mathlib.Core.Bool.{true}
 use mathlib.Core.List.{List}
@@ -14,8 +14,8 @@ use Rattle.locating.proofs.Steps.{refusal-outcome, passed-frame, passed-read}
 use Rattle.searching.proofs.Calling.{start-refused, start-goes-on}
 use Rattle.job.proofs.Undeclared.{whole-tests, whole-sums}
 use borrow.Author.Needs.{needs}
-use Rattle.calls.proofs.start.start_whole.Statement.{statement}
-use Rattle.calls.proofs.start.start_whole.Tie as tie
+use Rattle.slicing.proofs.start.start_whole.Statement.{statement}
+use Rattle.slicing.proofs.start.start_whole.Tie as tie
 
 -- ---- the ways back
 

@@ -1,4 +1,4 @@
--- `calls::peek::peek` meets its contract.
+-- `slicing::peek::peek` meets its contract.
 use mathlib.Core.Path.{_≡_, sym, _∙_}
 use mathlib.Core.Bool.{false}
 use native.Mathlib.Omega.{arith}
@@ -6,8 +6,8 @@ use borrow.Author.Needs.{needs}
 use borrow.Author.Tests.{not-true, not-false}
 use Rattle.job.specs.Job.{countsEmpty}
 use Rattle.searching.proofs.Calling.{peek-empty, peek-other, peek-gives}
-use Rattle.calls.proofs.peek.peek.Statement.{statement}
-use Rattle.calls.proofs.peek.peek.Tie as tie
+use Rattle.slicing.proofs.peek.peek.Statement.{statement}
+use Rattle.slicing.proofs.peek.peek.Tie as tie
 
 returns : tie.Need-returns
 returns c = λ taps. peek-empty _ (sym (c .before .counts-as-empty .ensures) ∙ c .if1 .taken)

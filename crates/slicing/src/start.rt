@@ -11,8 +11,8 @@ use refusal::Checked;
 use refusal::Refusal;
 use searching::turn::start_left;
 use shapes::symbols::check_frame;
-ghost use Rattle.calls.specs.Slices.{StartDoes};
-ghost use Rattle.calls.specs.Whole.{LocatedRead, LocatedWhole};
+ghost use Rattle.slicing.specs.Slices.{StartDoes};
+ghost use Rattle.heads.specs.Told.{LocatedRead, LocatedWhole};
 ghost use Rattle.slices.specs.Synthesis.{synthesis};
 
 // A frame of which nothing is declared.

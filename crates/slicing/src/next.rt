@@ -6,7 +6,7 @@ use job::Answered;
 use job::Head;
 use refusal::Refusal;
 use searching::turn::step_from;
-ghost use Rattle.calls.specs.Slices.{NextDoes};
+ghost use Rattle.slicing.specs.Slices.{NextDoes};
 ghost use Rattle.slices.specs.Synthesis.{synthesis};
 
 pub fn next(

@@ -1,4 +1,4 @@
--- `calls::next::next` meets its contract.
+-- `slicing::next::next` meets its contract.
 use mathlib.Core.Path.{_≡_, refl, sym, _∙_}
 use mathlib.Core.Bool.{true, false}
 use mathlib.Core.List.{[]}
@@ -11,8 +11,8 @@ use Rattle.locating.proofs.Steps.{refusal-outcome}
 use Rattle.searching.specs.Arriving.{allArrays}
 use Rattle.slices.specs.Synthesis.{Synthesis, synthesis}
 use Rattle.searching.proofs.Calling.{unfinished-sound, next-empty, next-other, next-goes-on}
-use Rattle.calls.proofs.next.next.Statement.{statement}
-use Rattle.calls.proofs.next.next.Tie as tie
+use Rattle.slicing.proofs.next.next.Statement.{statement}
+use Rattle.slicing.proofs.next.next.Tie as tie
 
 -- ---- the ways back
 

@@ -1,11 +1,11 @@
--- `calls::unfinished::counts_as_unfinished` meets its contract.
+-- `slicing::unfinished::counts_as_unfinished` meets its contract.
 use mathlib.Core.Path.{sym, _∙_}
 use borrow.Author.Needs.{needs}
 use borrow.Author.Tests.{not-true, not-false}
 use Rattle.job.proofs.Emptiness.{has-shape}
 use Rattle.slices.proofs.Answers.{fails, passes}
-use Rattle.calls.proofs.unfinished.counts_as_unfinished.Statement.{statement}
-use Rattle.calls.proofs.unfinished.counts_as_unfinished.Tie as tie
+use Rattle.slicing.proofs.unfinished.counts_as_unfinished.Statement.{statement}
+use Rattle.slicing.proofs.unfinished.counts_as_unfinished.Tie as tie
 
 returns : tie.Need-returns
 returns c = λ taps. fails _ _ (sym (c .before .is-unfinished .ensures) ∙ not-true _ (c .if1 .taken))

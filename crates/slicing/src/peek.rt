@@ -5,7 +5,7 @@ use heads::sound::counts_as_empty;
 use job::Head;
 use job::Peeked;
 use refusal::Refusal;
-ghost use Rattle.calls.specs.Slices.{PeekDoes};
+ghost use Rattle.slicing.specs.Slices.{PeekDoes};
 ghost use Rattle.slices.specs.Synthesis.{synthesis};
 
 pub fn peek(

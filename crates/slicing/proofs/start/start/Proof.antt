@@ -1,12 +1,12 @@
--- `calls::start::start` meets its contract.
+-- `slicing::start::start` meets its contract.
 use mathlib.Core.Path.{_≡_, refl, sym, _∙_}
 use mathlib.Core.Bool.{false}
 use Rattle.job.specs.Job.{countsEmpty}
 use Rattle.locating.proofs.Steps.{refusal-outcome}
 use Rattle.searching.proofs.Calling.{start-empty}
 use borrow.Author.Needs.{needs}
-use Rattle.calls.proofs.start.start.Statement.{statement}
-use Rattle.calls.proofs.start.start.Tie as tie
+use Rattle.slicing.proofs.start.start.Statement.{statement}
+use Rattle.slicing.proofs.start.start.Tie as tie
 
 -- the way back
 abbrev start-of : tie.Else1 → tie.Start
