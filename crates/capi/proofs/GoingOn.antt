@@ -16,8 +16,8 @@ use Rattle.mirror.specs.Mirror.{phaseOf, headOf, answeredOf}
 use Rattle.mirror.specs.declared.CAnswered.{CAnswered}
 use Rattle.mirror.specs.declared.CHead.{CHead}
 use Rattle.searching.specs.Arriving.{goesOn}
-use Rattle.searching.specs.GoingOn.{GoesOn, goesOnward}
-use Rattle.searching.proofs.GoingOn.{goes-on-next}
+use Rattle.onward.specs.GoingOn.{GoesOn, goesOnward}
+use Rattle.onward.proofs.GoingOn.{goes-on-next}
 use Rattle.slices.specs.Synthesis.{Synthesis, advanced}
 use Rattle.capi.specs.Exports.{HeadSteps, arraysOf}
 

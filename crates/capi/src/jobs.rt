@@ -14,7 +14,7 @@ use mirror::answers::refusal_of;
 use mirror::answers::unfinished_of;
 use mirror::head::head_of;
 use mirror::head::mirror_of;
-use searching::onward::go_on;
+use onward::go_on;
 use slicing::next::next;
 use slicing::peek::peek;
 use slicing::start::start;

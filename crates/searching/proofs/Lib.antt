@@ -1,6 +1,5 @@
 pub mod Arriving
 pub mod Beginning
 pub mod Calling
-pub mod GoingOn
 pub mod StartingWhole
 pub mod Turning

@@ -1,3 +1,2 @@
 pub mod Arriving
 pub mod Beginning
-pub mod GoingOn

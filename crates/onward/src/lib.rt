@@ -1,10 +1,10 @@
 // A step that is not the last one, and so leaves the head of the job as it is. What its caller holds of the head is lent in parts, and answered is whether it is
 // made: no struct goes by value, which takes longer than most steps.
-use crate::sound::is_last;
+use searching::sound::is_last;
 use shapes::shape::in_range;
 use slices::advance::advance;
 use slices::sound::is_sound;
-ghost use Rattle.searching.specs.GoingOn.{GoesOn};
+ghost use Rattle.onward.specs.GoingOn.{GoesOn};
 ghost use Rattle.slices.specs.Synthesis.{synthesis};
 
 // The next step, where the job is unfinished and the step is not the last one. Else nothing is changed.

@@ -13,11 +13,11 @@ use Rattle.job.specs.declared.Head.{Head}
 use Rattle.job.specs.declared.Phase.the-variants.{Unfinished}
 use Rattle.slices.specs.Synthesis.{Synthesis, lastStep, ended, advanced, synthesisSound}
 use Rattle.slices.proofs.Answers.{fails, passes, suffices}
 use Rattle.searching.specs.Arriving.{allArrays, goesOn}
-use Rattle.searching.specs.GoingOn.{GoesOn, goesOnward}
+use Rattle.onward.specs.GoingOn.{GoesOn, goesOnward}
 use Rattle.searching.proofs.Arriving.{goes-on-given}
 use Rattle.searching.proofs.Calling.{next-goes-on}
 use Rattle.searching.proofs.Turning.{ended-last}
 
 -- ---- the tests
 

@@ -1,4 +1,4 @@
--- `searching::onward::go_on` meets its contract.
+-- `onward::go_on` meets its contract.
 use mathlib.Core.Path.{_≡_, sym, _∙_}
 use mathlib.Core.Bool.{true}
 use denote.Ref.{now}
@@ -9,9 +9,9 @@ use Rattle.frame.specs.Shape.{isShape}
 use Rattle.frame.specs.declared.Shape.{Shape}
 use Rattle.slices.specs.Synthesis.{Synthesis, synthesis, synthesisSound}
 use Rattle.slices.proofs.Stepping.{rounds-left, steps-left}
-use Rattle.searching.proofs.GoingOn.{other-phase, no-shape, no-step, last-one, made}
-use Rattle.searching.proofs.onward.go_on.Statement.{statement}
-use Rattle.searching.proofs.onward.go_on.Tie as tie
+use Rattle.onward.proofs.GoingOn.{other-phase, no-shape, no-step, last-one, made}
+use Rattle.onward.proofs.go_on.Statement.{statement}
+use Rattle.onward.proofs.go_on.Tie as tie
 
 -- ---- what is lent
 
