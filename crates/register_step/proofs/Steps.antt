@@ -56,7 +56,7 @@ asked p N l σ s n due some = pick (decLt (l + (N - length s)) n)
     pick (no early) = absurd (some (due ∙ rw (le-ltb (l + (N - length s)) n (omega arith))))
 
 module _ {p N h long n : ℕ} {symbols : List ℕ} {x : Parts} (a : Steppable p N h long n symbols x) {d : ℕ} where
-  pub changeable : d < p → d ≡ dueAt p N (x .length) (x .taps) (sequenceIn symbols h long) n → d ≢ 0 → Changeable p n h d x
+  changeable : d < p → d ≡ dueAt p N (x .length) (x .taps) (sequenceIn symbols h long) n → d ≢ 0 → Changeable p n h d x
   changeable less due some =
       let reach = a .reach in
       let late = asked p N (x .length) (x .taps) (sequenceIn symbols h long) n due some in
