@@ -1,3 +1,4 @@
+pub mod Multiples
 pub mod RowLeft
 pub mod RowsCompletable
 pub mod RowsLeft

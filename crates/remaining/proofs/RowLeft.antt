@@ -1,68 +1,77 @@
--- What is left of a row's check sums, entry after entry: the coefficients of the locator polynomial are read off the sums from each place on.
-use mathlib.Core.Path.{_≡_, ap, ap₂, _∙_}
+-- What is left of a row's check sums, all entries side by side: with k coefficients of the locator polynomial multiplied, each total is the sum of the first k
+-- terms of its entry.
+use mathlib.Core.Path.{_≡_, sym, ap, ap₂, _∙_}
 use mathlib.Core.List.{List}
-use Prim.Native.Nat.{ℕ, suc, _+_, _-_, _*_, _%_, _≤_, _<_}
+use Prim.Native.Nat.{ℕ, suc, _+_, _-_, _*_, _%_, _≤_, _<_, zero-le}
+use native.Mathlib.Nat.{mul-le-mul}
+use native.Mathlib.Numerals.{add-one}
 use native.Mathlib.Omega.{arith}
-use lib.ListN.{length, getD, set}
-use borrow.Rule.Slice.PartMut.{midOf, mid-len}
+use lib.ListN.{length, getD, length-replicate}
 use Rattle.columns.specs.Columns.{members}
 use Rattle.columns.specs.declared.Columns.{Columns}
-use Rattle.weights.specs.Weights.{symbolRead}
 use Rattle.decoding.specs.Remaining.{remaining}
 use Rattle.field257.specs.LocatorPolynomial.{locatorPolynomial}
-use Rattle.lists.specs.Total.{total}
-use Rattle.lists.proofs.Entries.{getD-part}
-use Rattle.lists.proofs.Filling.{Filled, filled-more, filled-all}
-use Rattle.lists.proofs.Tabulated.{tabulate-ext}
-use Rattle.lists.proofs.Totals.{total-ext}
+use Rattle.field257.proofs.LocatorBuilding.{polynomial-below}
 use Rattle.lists.specs.Tabulate.{tabulate}
+use Rattle.lists.specs.Total.{total}
+use Rattle.lists.proofs.Tabulated.{tabulate-ext}
+use Rattle.lists.proofs.Totals.{total-zero, total-suc, total-ext, total-bound}
+use Rattle.lists.proofs.Zeros.{zeros, zeros-entry}
 use Rattle.register.specs.Register.{discrepancy}
+use Rattle.remaining.specs.Multiples.{Totals, grown, Addable}
+use Rattle.remaining.specs.Removable.{Removable}
 
--- f holds the coefficients, and zeros after the first `end`
-module _ (f x : List ℕ) (end : ℕ) where
-  -- what is left at place j
-  abbrev entryLeft : ℕ → ℕ
-  entryLeft j = discrepancy 257 (end - 1) f x (end - 1 + suc j)
+-- what coefficient i adds to entry j, f holding e + 1 coefficients and x the sums
+abbrev term : (f x : List ℕ) (e j i : ℕ) → ℕ
+term f x e j i = getD f i 0 * getD x (e + suc j - i - 1) 0
 
-  -- the first j entries of what is left are written
-  abbrev pub Leaving : (left₀ : List ℕ) (j : ℕ) (left : List ℕ) → Type 0
-  Leaving left₀ j left = Filled entryLeft left₀ j left
+-- for each of n entries the first k coefficients are multiplied with the sums that they meet
+pub record Multiplied (f x : List ℕ) (e n k : ℕ) (totals : List ℕ) : Type 0 where
+  pub within : k ≤ e + 1
+  pub held : Totals n (λ j. total k (term f x e j)) totals
 
-  module _ (j : ℕ) (some : 1 ≤ end) (room : end ≤ length f) where
-    abbrev coefficients : List ℕ
-    coefficients = midOf 0 (end - 0) f
+pub multiplied-none : (f x : List ℕ) (e n : ℕ) → Multiplied f x e n 0 (zeros 64)
+multiplied-none f x e n =
+    let none : ℕ = 0 in
+    record {
+      within = zero-le;
+      held = record { size = length-replicate 64 none; each = λ j l. zeros-entry 64 j ∙ sym (total-zero (term f x e j)) };
+    }
 
-    abbrev part : List ℕ
-    part = midOf j (j + end - j) x
+module _ {f x : List ℕ} {e n k : ℕ} {totals : List ℕ} (a : Multiplied f x e n k totals) where
+  one-more : k ≤ e → (j : ℕ) → j < n → grown totals (getD f k 0) x (e - k) j ≡ total (k + 1) (term f x e j)
+  one-more le j l =
+      ap₂ _+_ (a .held .each j l) (ap (λ (i : ℕ). getD f k 0 * getD x i 0) (let q : e - k + j ≡ e + suc j - k - 1 = omega arith in q))
+      ∙ sym (total-suc k (term f x e j)) ∙ ap (λ (m : ℕ). total m (term f x e j)) (sym (add-one k))
 
-    count : length coefficients ≡ suc (end - 1)
-    count = omega (arith, mid-len 0 end f room)
+  pub multiplied-more : k ≤ e → {after : List ℕ} → Totals n (grown totals (getD f k 0) x (e - k)) after → Multiplied f x e n (k + 1) after
+  multiplied-more le b = record {
+    within = omega arith;
+    held = record { size = b .size; each = λ j l. b .each j l ∙ one-more le j l };
+  }
 
-    term : (k : ℕ) → k < suc (end - 1)
-        → getD coefficients k 0 * getD part (suc (end - 1) - suc k) 0 ≡ getD f k 0 * getD x (end - 1 + suc j - k - 1) 0
-    term k l =
-        ap₂ _*_ (getD-part 0 (end - 0) f k 0 (omega arith) ∙ ap (λ (i : ℕ). getD f i 0) (let q : 0 + k ≡ k = omega arith in q))
-        (getD-part j (j + end - j) x (suc (end - 1) - suc k) 0 (omega arith)
-        ∙ ap (λ (i : ℕ). getD x i 0) (let q : j + (suc (end - 1) - suc k) ≡ end - 1 + suc j - k - 1 = omega arith in q))
+  -- where the coefficients are those of the locator polynomial of a set
+  module _ {powers left : List ℕ} {J : Columns} (r : Removable powers J x left) (count : e ≡ length (members J)) (places : n ≡ length left)
+      (agree : (i : ℕ) → getD f i 0 ≡ getD (locatorPolynomial (members J)) i 0) where
+    small : (j i : ℕ) → term f x e j i ≤ 256 * 256
+    small j i =
+        mul-le-mul (let c : getD f i 0 ≤ 256 = omega (arith, agree i, polynomial-below (members J) i) in c)
+        (let s : getD x (e + suc j - i - 1) 0 ≤ 256 = omega (arith, r .sums-small (e + suc j - i - 1)) in s)
 
-    read-left : symbolRead coefficients part ≡ entryLeft j
-    unfolding symbolRead discrepancy
-    read-left =
-        ap (λ (m : ℕ). total m (λ k. getD coefficients k 0 * getD part (m - suc k) 0) % 257) count
-        ∙ ap (λ (n : ℕ). n % 257) (total-ext (suc (end - 1)) _ _ term)
+    pub addable : k ≤ e → Addable totals (getD f k 0) x (e - k) n
+    addable le = record {
+      size = a .held .size;
+      few = omega (arith, r .sums-few, r .places);
+      inside = λ j l. omega (arith, r .places);
+      fits = λ j l. omega (arith, one-more le j l, total-bound (k + 1) (256 * 256) (term f x e j) (λ i _. small j i), r .few);
+    }
 
-    pub leaving-more : (left₀ left : List ℕ) (v : ℕ) → Leaving left₀ j left → j < length left → v ≡ symbolRead coefficients part
-        → Leaving left₀ (j + 1) (set left j v)
-    leaving-more left₀ left v a l e = filled-more entryLeft left₀ j v left a l (e ∙ read-left)
-
-  -- all of them are what is left when the columns of a set with these coefficients are taken out
-  pub leaving-all : (J : Columns) → end ≡ length (members J) + 1 → ((k : ℕ) → getD f k 0 ≡ getD (locatorPolynomial (members J)) k 0)
-      → (left₀ left : List ℕ) (j : ℕ) → length left₀ ≡ length x - length (members J) → Leaving left₀ j left → length left ≤ j
-      → left ≡ remaining J x
-  unfolding remaining discrepancy
-  leaving-all J e agree left₀ left j places a le =
-      filled-all entryLeft left₀ j left a le
-      ∙ ap (λ (n : ℕ). tabulate n entryLeft) places
-      ∙ tabulate-ext _ _ _ (λ i l.
-      ap (λ (ε : ℕ). total (suc ε) (λ k. getD f k 0 * getD x (ε + suc i - k - 1) 0) % 257) (let q : end - 1 ≡ length (members J) = omega arith in q)
-      ∙ ap (λ (n : ℕ). n % 257) (total-ext _ _ _ (λ k b. ap (λ (c : ℕ). c * getD x (length (members J) + suc i - k - 1) 0) (agree k))))
+    -- with all of them the totals, reduced, are what is left
+    pub multiplied-all : e < k → tabulate n (λ j. getD totals j 0 % 257) ≡ remaining J x
+    unfolding remaining discrepancy
+    multiplied-all past =
+        ap (λ (m : ℕ). tabulate m (λ j. getD totals j 0 % 257)) (places ∙ r .places)
+        ∙ tabulate-ext _ _ _ (λ j l.
+        ap (λ (t : ℕ). t % 257) (a .held .each j (omega (arith, r .places))
+        ∙ ap (λ (m : ℕ). total m (term f x e j)) (let q : k ≡ suc (length (members J)) = omega (arith, a .within) in q)
+        ∙ total-ext _ _ _ (λ i _. ap₂ (λ (c ε : ℕ). c * getD x (ε + suc j - i - 1) 0) (agree i) count)))

@@ -1,3 +1,4 @@
+pub mod Multiples
 pub mod Removable
 pub mod SequencesLeft
 pub mod Testable
