@@ -24,7 +24,8 @@ add-multiple-requires : tie.Need-add-multiple-requires Inv-loop μ-loop
 add-multiple-requires c κs =
     let inside = c .before in
     let at = inside .before in
-    addable (at .loop .inv) (start-of at .pre) (at .before .size .ensures) refl (at .before .before .locator-polynomial .ensures) (inside .loop-test .taken)
+    let sized = at .before in
+    addable (at .loop .inv) (start-of at .pre) (sized .size .ensures) refl (sized .before .locator-polynomial .ensures) (inside .loop-test .taken)
 
 loop-again : tie.Need-loop-again Inv-loop μ-loop
 loop-again c = let inside = c .before .before in multiplied-more (inside .before .loop .inv) (inside .loop-test .taken) (c .add-multiple .ensures)
@@ -37,8 +38,9 @@ returns c =
     let reduced = c .before .before in
     let done = reduced .before .before .before in
     let at = done .before in
+    let sized = at .before in
     reduced .reduce .ensures
-    ∙ multiplied-all (at .loop .inv) (start-of at .pre) (at .before .size .ensures) refl (at .before .before .locator-polynomial .ensures) (done .loop-test .left)
+    ∙ multiplied-all (at .loop .inv) (start-of at .pre) (sized .size .ensures) refl (sized .before .locator-polynomial .ensures) (done .loop-test .left)
 
 pub remaining-spec : {M : Type 1} → statement M
 remaining-spec =
