@@ -1,7 +1,7 @@
 // One step further.
 use discrepancy::Modulus;
 use lists::lend::lend;
-use register_step::step::single_step;
+use register_step::single::single_step;
 ghost use mathlib.Core.Path.{_≡_};
 ghost use mathlib.Core.Bool.{true};
 ghost use Prim.Native.Nat.{_≤_};

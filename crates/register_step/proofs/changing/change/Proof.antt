@@ -6,8 +6,8 @@ use native.Mathlib.Omega.{arith}
 use borrow.Author.Needs.{needs}
 use Rattle.field.specs.Residue.{quotient as quotientOf}
 use Rattle.register_step.proofs.Change.{by-sum, over-less, reducible, changed-stays, changed-grows}
-use Rattle.register_step.proofs.step.change.Statement.{statement}
-use Rattle.register_step.proofs.step.change.Tie as tie
+use Rattle.register_step.proofs.changing.change.Statement.{statement}
+use Rattle.register_step.proofs.changing.change.Tie as tie
 
 cast-place : tie.Need-cast-place
 cast-place c = let a = c .before .pre .1 .1 .1 in record { fits = omega (arith, a .place, a .round) }

@@ -5,8 +5,8 @@ use native.Mathlib.Omega.{arith}
 use lib.ListN.{length-replicate, getD-replicate}
 use borrow.Author.Needs.{needs}
 use Rattle.register_step.proofs.Steps.{ending, change-asks, step-rests, step-changes}
-use Rattle.register_step.proofs.step.single_step.Statement.{statement}
-use Rattle.register_step.proofs.step.single_step.Tie as tie
+use Rattle.register_step.proofs.single.single_step.Statement.{statement}
+use Rattle.register_step.proofs.single.single_step.Tie as tie
 
 due-requires : tie.Need-due-requires
 due-requires c κs = let pre = c .before .pre in (pre .0, (ending (pre .1 .readable), pre .1 .reach))

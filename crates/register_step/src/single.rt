@@ -1,0 +1,55 @@
+// A step (n, h) of Algorithm 4 by itself, to which no array of the modulus is lent: it is made where the register changes, which it does at few steps where few
+// columns are damaged.
+use crate::changing::change;
+use discrepancy::Modulus;
+use discrepancy::due::due;
+use discrepancy::sums::residue;
+ghost use mathlib.Core.Path.{_≡_};
+ghost use Rattle.discrepancy.specs.Discrepancies.{sequenceIn};
+ghost use Rattle.discrepancy.specs.Modulus.{WorkedOut};
+ghost use Rattle.register_step.specs.Parts.{Steppable, parts, stepParts};
+
+// The step, and the length of the register after it.
+pub fn single_step(
+    f: Modulus,
+    longest: usize,
+    symbols: &[u16; 1152],
+    h: usize,
+    long: usize,
+    n: usize,
+    l: usize,
+    places: &mut [u16; 8],
+    sizes: &mut [u16; 8],
+    discs: &mut [u16; 8],
+    quotients: &mut [u16; 8],
+    taps: &mut [u16; 144],
+    saved: &mut [u16; 1152],
+) -> usize
+    requires { ⌜ WorkedOut f ⌝ }
+    requires { ⌜ Steppable (f .p) longest h long n (now symbols) (parts l (now places) (now sizes) (now discs) (now quotients) (now taps) (now saved)) ⌝ }
+    ensures { λ r. ⌜ parts r (now (places .exit)) (now (sizes .exit)) (now (discs .exit)) (now (quotients .exit)) (now (taps .exit)) (now (saved .exit))
+        ≡ stepParts (f .p) longest (sequenceIn (now (symbols .entry)) h long) n h
+        (parts l (now (places .entry)) (now (sizes .entry)) (now (discs .entry)) (now (quotients .entry)) (now (taps .entry)) (now (saved .entry))) ⌝ }
+{
+    let sum = due(f, longest, l, taps, symbols, h, long, n);
+    let d = residue(f, sum);
+    if d == 0 {
+        return l;
+    }
+    let moduli = [f.p as u16; 144];
+    change(
+        f,
+        &moduli,
+        n,
+        h,
+        d,
+        sum,
+        l,
+        places,
+        sizes,
+        discs,
+        quotients,
+        taps,
+        saved,
+    )
+}
