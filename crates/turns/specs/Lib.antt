@@ -1,0 +1,2 @@
+pub mod Dispatcher
+pub mod Turning
