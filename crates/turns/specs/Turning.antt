@@ -3,7 +3,7 @@ use mathlib.Core.Path.{_≡_}
 use mathlib.Core.Bool.{true, false}
 use mathlib.Core.List.{List, [], _∷_}
 use mathlib.Core.Option.{some}
-use Prim.Native.Nat.{ℕ, suc, _+_, _-_, _*_, _/_, _%_, _≤_, _<_}
+use Prim.Native.Nat.{ℕ, _+_, _-_, _*_, _/_, _%_, _≤_, _<_}
 use lib.ListN.{replicate}
 use Rattle.turns.specs.Dispatcher.{Kind, Jobs, Event, on, turn, says, refused-33, after, reply, runFrom, served}
 use Rattle.turns.specs.Dispatcher.{callsOn, alone, turnsIn, servesIn, turns}

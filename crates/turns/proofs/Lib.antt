@@ -1,0 +1,11 @@
+pub mod Appending
+pub mod Calling
+pub mod Circle
+pub mod Closest
+pub mod Fairness
+pub mod LastServed
+pub mod Projecting
+pub mod Putting
+pub mod RoundAndRound
+pub mod Seeking
+pub mod Turning
