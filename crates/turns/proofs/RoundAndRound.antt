@@ -1,17 +1,17 @@
 -- Where all eight jobs stay unfinished, turns go round and round.
 use mathlib.Core.Path.{_≡_, refl, sym, ap, subst, _∙_}
-use mathlib.Core.Bool.{Bool, true, false, cond}
-use mathlib.Core.Option.{Option, none, some}
+use mathlib.Core.Bool.{Bool, true, false}
+use mathlib.Core.Option.{some}
 use Prim.Native.Nat.{ℕ, zero, suc, _+_, _-_, _*_, _/_, _%_, _≤_, _<_}
 use native.Mathlib.Omega.{arith}
 use lib.Dec.{eqb}
 use lib.ListN.{replicate}
 use borrow.Author.Tests.{eqb-true, eqb-false}
-use Rattle.turns.specs.Dispatcher.{Kind, Jobs, turn, after, turned, runFrom, served, seek, callBy, callOn, alone, turns}
-use Rattle.turns.specs.Turning.{RoundAndRound}
-use Rattle.turns.proofs.Projecting.{leftBy, sees}
+use Rattle.turns.specs.Dispatcher.{Kind, Jobs, turn, after, runFrom, served, seek, alone, turns}
+use Rattle.turns.specs.Turning.{Serving, RoundAndRound}
+use Rattle.turns.proofs.Turning.{turning}
 
--- ---- the steps that job k has made after n turns, of which the next serves job n % 8
+-- ---- the steps that job k has made after n turns; the next serves job n % 8
 
 abbrev made : (n k : ℕ) → ℕ
 made n k = (n + 7 - k) / 8
@@ -56,24 +56,23 @@ module _ (K : Kind) where
           unfinished : K .unfinished (x .at (n % 8)) ≡ true
           unfinished = ap (K .unfinished) (r .jobs (n % 8) (omega arith)) ∙ goes (n % 8) (made n (n % 8)) (omega arith) (made-below n m b)
 
-      next-last : after K x turn .last ≡ (suc n + 7) % 8
-      unfolding after
-      next-last = ap (λ (s : Option ℕ). turned K x s .last) next-served ∙ (let e : n % 8 ≡ (suc n + 7) % 8 = omega arith in e)
+      next : Serving K x (n % 8)
+      next = turning K x (let e = r .last in omega arith) .serving (n % 8) next-served
 
       next-jobs : (k : ℕ) → k < 8 → after K x turn .at k ≡ stepped (d .at k) (made (suc n) k)
-      unfolding callOn
-      next-jobs k c =
-          sees K x turn k c
-          ∙ ap (λ (s : Option ℕ). leftBy K (x .at k) (callBy K k s)) next-served
-          ∙ ap (λ j. leftBy K j (callBy K k (some (n % 8)))) (r .jobs k c)
-          ∙ pick (eqb k (n % 8)) refl
+      next-jobs k c = pick (eqb k (n % 8)) refl
         where
-          pick : (t : Bool) → eqb k (n % 8) ≡ t → leftBy K (stepped (d .at k) (made n k)) (cond t (some (K .step)) none) ≡ stepped (d .at k) (made (suc n) k)
-          pick true e = sym (one-more (d .at k) (made n k)) ∙ ap (stepped (d .at k)) (sym (made-more n k (eqb-true k (n % 8) e)))
-          pick false e = ap (stepped (d .at k)) (sym (made-same n k c (eqb-false k (n % 8) e)))
+          pick : (t : Bool) → eqb k (n % 8) ≡ t → after K x turn .at k ≡ stepped (d .at k) (made (suc n) k)
+          pick true e =
+              let q = eqb-true k (n % 8) e in
+              rw q (next .job)
+              ∙ ap (λ j. K .leaves j (K .step)) (r .jobs k c)
+              ∙ sym (one-more (d .at k) (made n k))
+              ∙ ap (stepped (d .at k)) (sym (made-more n k q))
+          pick false e = let differ = eqb-false k (n % 8) e in next .others k differ ∙ r .jobs k c ∙ ap (stepped (d .at k)) (sym (made-same n k c differ))
 
       next-round : Round (suc n) (after K x turn)
-      next-round = record { last = next-last; jobs = next-jobs }
+      next-round = record { last = next .last ∙ (let e : n % 8 ≡ (suc n + 7) % 8 = omega arith in e); jobs = next-jobs }
 
     rounds : (n i t : ℕ) (x : Jobs K) → Round i x → i + n ≡ t → t ≤ 8 * m → Round t (runFrom K x (turns K n))
     unfolding runFrom turns
