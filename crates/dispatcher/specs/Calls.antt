@@ -2,10 +2,10 @@
 -- in its place.
 use mathlib.Core.Path.{_≡_}
 use mathlib.Core.List.{List, []}
-use Prim.Native.Nat.{ℕ, _<_}
+use Prim.Native.Nat.{ℕ}
 use Rattle.job.specs.Calls.{Call, shape, encode, locate, repair, start, next, peek, step}
 use Rattle.job.specs.declared.Peeked.{Peeked}
-use Rattle.kept.specs.Kept.{Heads, Searches, Kept, kept, jobAt}
+use Rattle.kept.specs.Kept.{Heads, Searches, Kept, kept, jobAt, madeOf}
 use Rattle.refusal.specs.declared.Checked.{Checked}
 use Rattle.dispatcher.specs.Told.{Told, toldBy, checkedTold, saidTold, peekedTold, turnedTold, Does, Turns}
 use Rattle.dispatcher.specs.declared.Said.{Said}
@@ -51,14 +51,13 @@ PeekDoes k hs sums held x r =
 abbrev pub TurnDoes : Kept → Turned → Kept → Type 0
 TurnDoes p r q = Turns p (turnedTold r) q
 
--- job k, one of the eight, does the call, and no other is touched
-pub record OnJob (p : Kept) (k : ℕ) (c : Call) (t : Told) (q : Kept) : Type 0 where
+-- job k, one of the eight, does the call c, told t and leaving q where p was kept
+pub record Made (p : Kept) (k : ℕ) (c : Call) (t : Told) (q : Kept) : Type 0 where
   pub tells : t ≡ toldBy (step (jobAt p k) c)
-  pub job : jobAt q k ≡ step (jobAt p k) c .job
-  pub others : (i : ℕ) → (i ≡ k → ⊥) → jobAt q i ≡ jobAt p i
+  pub leaves : q ≡ madeOf p k c
 
 -- a step of job k, whoever asks for it
 abbrev pub Served :
     (k : ℕ) → Heads → (sums taps held : List (List ℕ)) → Searches → Said → Heads → (tapsLeft : List (List ℕ)) → Searches → Type 0
 Served k hs sums taps held x r left tapsLeft y =
-    (last lastLeft : ℕ) → OnJob (kept hs sums taps held x last) k next (saidTold r []) (kept left sums tapsLeft held y lastLeft)
+    (last : ℕ) → Made (kept hs sums taps held x last) k next (saidTold r []) (kept left sums tapsLeft held y last)

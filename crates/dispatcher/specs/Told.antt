@@ -5,13 +5,13 @@ use Prim.Native.Nat.{ℕ}
 use Rattle.columns.specs.declared.Columns.{Columns}
 use Rattle.eight_jobs.specs.Eight.{jobs}
 use Rattle.job.specs.Answers.{checkedAnswer, replyAnswer, peekedAnswer}
-use Rattle.job.specs.Calls.{Call, next, Answer, refused, Outcome}
+use Rattle.job.specs.Calls.{Call, Answer, refused, Outcome}
 use Rattle.job.specs.Job.{noColumns}
 use Rattle.job.specs.Refusals.{lentTo}
 use Rattle.job.specs.declared.Peeked.{Peeked}
-use Rattle.kept.specs.Kept.{Kept, jobsOf, Keeps}
+use Rattle.kept.specs.Kept.{Kept, jobsOf, keptAfter}
 use Rattle.refusal.specs.declared.Checked.{Checked}
-use Rattle.turns.specs.Dispatcher.{Event, on, turn, Reply, says, refused-33, after, reply}
+use Rattle.turns.specs.Dispatcher.{on, turn, Reply, says, refused-33, reply}
 use Rattle.dispatcher.specs.declared.Said.{Said}
 use Rattle.dispatcher.specs.declared.Turned.{Turned}
 
@@ -64,9 +64,9 @@ turnedTold r = record { job = r .job; said = saidTold (r .said) [] }
 -- a call c with the number k tells t, and leaves q where p was kept
 pub record Does (p : Kept) (k : ℕ) (c : Call) (t : Told) (q : Kept) : Type 0 where
   pub tells : t ≡ told c (reply jobs (jobsOf p) (on k c))
-  pub leaves : Keeps q (after jobs (jobsOf p) (on k c))
+  pub leaves : q ≡ keptAfter p (on k c)
 
 -- a turn tells t, and leaves q where p was kept
 pub record Turns (p : Kept) (t : TurnTold) (q : Kept) : Type 0 where
   pub tells : t ≡ turnTold (reply jobs (jobsOf p) turn)
-  pub leaves : Keeps q (after jobs (jobsOf p) turn)
+  pub leaves : q ≡ keptAfter p turn

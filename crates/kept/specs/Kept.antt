@@ -1,16 +1,18 @@
 -- Eight jobs as they are kept: each part of a job in an array of eight, at place k that of job k, so that they can be lent and written in place.
-use mathlib.Core.Path.{_≡_}
+use mathlib.Core.Bool.{cond}
 use mathlib.Core.List.{List, [], _∷_}
 use mathlib.Core.Option.{Option, none, some}
-use Prim.Native.Nat.{ℕ, _<_}
+use Prim.Native.Nat.{ℕ}
+use lib.Dec.{ltb}
 use lib.ListN.{getD, set}
 use Rattle.eight_jobs.specs.Eight.{jobs}
+use Rattle.job.specs.Calls.{Call, shape, encode, locate, repair, start, next, peek, step}
 use Rattle.job.specs.Job.{Arrays, Job, beside}
 use Rattle.job.specs.declared.Head.{Head}
 use Rattle.mirror.specs.Mirror.{headOf, mirrorOf}
 use Rattle.mirror.specs.declared.CHead.{CHead}
 use Rattle.slices.specs.Synthesis.{Synthesis, synthesis}
-use Rattle.turns.specs.Dispatcher.{Jobs}
+use Rattle.turns.specs.Dispatcher.{Jobs, Event, on, turn, served}
 
 -- The heads, in the numbers that they have for C. Of each job its phase, alone mark and exponent; its rows, columns and register length; its check counts; its
 -- marks.
@@ -82,6 +84,12 @@ searchAt x k =
     synthesis (getD (x .counts) k []) (getD (x .lengths) k []) (getD (x .symbols) k []) (getD (x .places) k []) (getD (x .sizes) k [])
     (getD (x .discs) k []) (getD (x .quotients) k []) (getD (x .taps) k []) (getD (x .saved) k [])
 
+abbrev pub withSearch : Searches → (k : ℕ) → Synthesis → Searches
+withSearch x k y =
+    searches (set (x .counts) k (y .counts)) (set (x .lengths) k (y .lengths)) (set (x .symbols) k (y .symbols)) (set (x .places) k (y .places))
+    (set (x .sizes) k (y .sizes)) (set (x .discs) k (y .discs)) (set (x .quotients) k (y .quotients)) (set (x .taps) k (y .taps))
+    (set (x .saved) k (y .saved))
+
 -- all of the eight jobs, and the number of the one served last
 pub record Kept : Type 0 where
   pub heads : Heads
@@ -107,14 +115,39 @@ arraysAt p k =
 abbrev pub jobAt : Kept → (k : ℕ) → Job
 jobAt p k = beside (headAt (p .heads) k) (arraysAt p k)
 
+-- what is kept with the job j in the place of job k
+abbrev pub withJob : Kept → (k : ℕ) → Job → Kept
+withJob p k j =
+    let a : Arrays = j .arrays in
+    kept (withHead (p .heads) k (j .head)) (set (p .sums) k (a .sums)) (set (p .taps) k (a .taps)) (set (p .declared) k (a .declared))
+    (withSearch (p .searches) k (a .synthesis)) (p .last)
+
+abbrev pub withLast : Kept → (last : ℕ) → Kept
+withLast p last = kept (p .heads) (p .sums) (p .taps) (p .declared) (p .searches) last
+
 -- the jobs that are kept
 abbrev pub jobsOf : Kept → Jobs jobs
 jobsOf p = record { at = jobAt p; last = p .last }
 
--- the jobs that are kept are those of d
-pub record Keeps (p : Kept) (d : Jobs jobs) : Type 0 where
-  pub each : (k : ℕ) → k < 8 → jobAt p k ≡ d .at k
-  pub last : p .last ≡ d .last
+-- ---- what is kept after a call or a turn
+
+-- after a call on job k, one of the eight: encode and peek change no job
+abbrev pub madeOf : Kept → (k : ℕ) → Call → Kept
+madeOf p k (shape n checks b) = withJob p k (step (jobAt p k) (shape n checks b) .job)
+madeOf p k (encode f) = p
+madeOf p k (locate words f) = withJob p k (step (jobAt p k) (locate words f) .job)
+madeOf p k (repair f) = withJob p k (step (jobAt p k) (repair f) .job)
+madeOf p k (start words f) = withJob p k (step (jobAt p k) (start words f) .job)
+madeOf p k next = withJob p k (step (jobAt p k) next .job)
+madeOf p k peek = p
+
+abbrev pub servedOf : Kept → Option ℕ → Kept
+servedOf p none = p
+servedOf p (some k) = withLast (madeOf p k next) k
+
+unfoldable pub keptAfter : Kept → Event jobs → Kept
+keptAfter p (on k c) = cond (ltb k 8) (madeOf p k c) p
+keptAfter p turn = servedOf p (served jobs (jobsOf p))
 
 -- the number of the job that a turn serves; 8, which is no job's, where none is unfinished
 abbrev pub numberOf : Option ℕ → ℕ
