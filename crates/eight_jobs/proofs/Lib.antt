@@ -1,2 +1,4 @@
+pub mod Demands
 pub mod Longest
 pub mod OneJob
+pub mod Steps

@@ -102,4 +102,4 @@ pub long-going : (a : Arrays) (i : ℕ) → i < 512
 unfolding runFrom
 long-going a i less =
     ap (λ (j : Job). isUnfinishedPhase (j .head .phase)) (alone-run (run a (shape 65 (replicate 8 64) 1 ∷ start words f ∷ [])) (replicate i next))
-    ∙ going a calls (replicate i next) s words f last (taken a) (steps-slicing _ i) (omega (arith, all-steps i, longest-512))
+    ∙ going a calls s words f last (taken a) (replicate i next) (steps-slicing _ i) (omega (arith, all-steps i, longest-512))

@@ -11,11 +11,11 @@ use Rattle.frame.specs.Shape.{isShape}
 use Rattle.frame.specs.declared.Shape.{Shape}
 use Rattle.frame.proofs.Shapes.{shape-ranges}
 use Rattle.job.specs.Calls.{Call, start, step}
-use Rattle.job.specs.Job.{Arrays, Job, isUnfinished, isUnfinishedPhase}
+use Rattle.job.specs.Job.{Arrays, Job, emptyJob, isUnfinished, isUnfinishedPhase}
 use Rattle.job.specs.Runs.{run, runFrom, afterCalls, lastShape, Taken, Slicing, stepsIn}
 use Rattle.job.specs.Slices.{slicesOf}
 use Rattle.job.proofs.Beginning.{start-passes, walked}
-use Rattle.job.proofs.Forms.{Form, empty, shaped, unfinished, located, run-form}
+use Rattle.job.proofs.Forms.{Form, empty, shaped, unfinished, located, run-form, run-append}
 use Rattle.job.proofs.Going.{going-sound, sliceable}
 use Rattle.job.proofs.Soundness.{shape-held}
 use Rattle.job.proofs.Walk.{Walked, on, over as past, after-less}
@@ -45,24 +45,34 @@ module _ (s : Shape) (words f : List ℕ) (k : ℕ) where
   walked-on _ (on a x) less = refl
   walked-on _ (past j all u m) less = absurd (let z : ⊥ = omega arith in z)
 
-  pub walked-over : (j : Job) → Walked s words f k j → slicesOf s words f ≤ k → isUnfinishedPhase (j .head .phase) ≡ false
+  walked-over : (j : Job) → Walked s words f k j → slicesOf s words f ≤ k → isUnfinishedPhase (j .head .phase) ≡ false
   walked-over _ (on a x) all = absurd (let z : ⊥ = omega (arith, after-less x) in z)
   walked-over _ (past j all u m) _ = u
 
--- ---- over every list of calls
+-- ---- a start that is not refused, and the calls after it
 
-module _ (a : Arrays) (before between : List Call) (s : Shape) (words f : List ℕ) (last : lastShape before ≡ some s)
-    (taken : Taken (afterCalls a before (start words f))) (slicing : Slicing (afterCalls a before (start words f) .job) between) where
-  pub walk : Walked s words f (stepsIn between) (run a (before ++ (start words f ∷ between)))
-  walk =
-      subst (λ (x : Shape). Walked x words f (stepsIn between) (run a (before ++ (start words f ∷ between)))) (shape-held a before s last .1)
-      (walked a before between words f (start-passes (run a before) words f taken) slicing)
+module _ (a : Arrays) (before : List Call) (s : Shape) (words f : List ℕ) (last : lastShape before ≡ some s)
+    (taken : Taken (afterCalls a before (start words f))) where
+  abbrev started : Job
+  started = afterCalls a before (start words f) .job
 
-  pub going : stepsIn between < slicesOf s words f → isUnfinishedPhase (run a (before ++ (start words f ∷ between)) .head .phase) ≡ true
-  going = walked-on s words f (stepsIn between) _ walk
+  after-start : (between : List Call) → Slicing started between → Walked s words f (stepsIn between) (runFrom started between)
+  unfolding runFrom
+  after-start between slicing =
+      subst (Walked s words f (stepsIn between)) (run-append (emptyJob a) before (start words f ∷ between))
+      (subst (λ (x : Shape). Walked x words f (stepsIn between) (run a (before ++ (start words f ∷ between)))) (shape-held a before s last .1)
+      (walked a before between words f (start-passes (run a before) words f taken) slicing))
 
-  pub over : slicesOf s words f ≤ stepsIn between → isUnfinishedPhase (run a (before ++ (start words f ∷ between)) .head .phase) ≡ false
-  over = walked-over s words f (stepsIn between) _ walk
+  pub begun : Walked s words f 0 (afterCalls a before (start words f) .job)
+  unfolding runFrom stepsIn
+  begun = after-start [] tt
+
+  module _ (between : List Call) (slicing : Slicing (afterCalls a before (start words f) .job) between) where
+    pub going : stepsIn between < slicesOf s words f → isUnfinishedPhase (runFrom (afterCalls a before (start words f) .job) between .head .phase) ≡ true
+    going = walked-on s words f (stepsIn between) _ (after-start between slicing)
+
+    pub over : slicesOf s words f ≤ stepsIn between → isUnfinishedPhase (runFrom (afterCalls a before (start words f) .job) between .head .phase) ≡ false
+    over = walked-over s words f (stepsIn between) _ (after-start between slicing)
 
 -- ---- how many steps
 
