@@ -1,12 +1,12 @@
 -- A locate of 512 steps, the largest number: of a frame of zeros with eight rows of 64 checks each, and no cell declared.
 use mathlib.Core.Path.{_≡_, refl, sym, ap, subst⁻¹, _∙_}
-use mathlib.Core.Bool.{true, not}
+use mathlib.Core.Bool.{true}
 use mathlib.Core.List.{List, [], _∷_}
 use mathlib.Core.Logic.{inl}
 use mathlib.Core.Option.{some}
-use Prim.Native.Nat.{ℕ, zero, suc, _-_, _*_, _≤_, _<_}
+use Prim.Native.Nat.{ℕ, zero, suc, _*_, _<_}
 use native.Mathlib.Omega.{arith}
-use lib.ListN.{length, replicate}
+use lib.ListN.{replicate}
 use Rattle.columns.specs.Columns.{has}
 use Rattle.columns.specs.Listed.{listed}
 use Rattle.decoding.specs.Remaining.{readSequences}
@@ -97,9 +97,13 @@ unfolding stepsIn
 all-steps zero = refl
 all-steps (suc i) = ap suc (all-steps i)
 
+-- the calls that start it
+abbrev pub longCalls : List Call
+longCalls = shape 65 (replicate 8 64) 1 ∷ start (replicate 32 0) (replicate 520 0) ∷ []
+
 pub long-going : (a : Arrays) (i : ℕ) → i < 512
-    → isUnfinishedPhase (alone jobs (run a (shape 65 (replicate 8 64) 1 ∷ start (replicate 32 0) (replicate 520 0) ∷ [])) (replicate i next) .head .phase) ≡ true
+    → isUnfinishedPhase (alone jobs (run a longCalls) (replicate i next) .head .phase) ≡ true
 unfolding runFrom
 long-going a i less =
-    ap (λ (j : Job). isUnfinishedPhase (j .head .phase)) (alone-run (run a (shape 65 (replicate 8 64) 1 ∷ start words f ∷ [])) (replicate i next))
+    ap (λ (j : Job). isUnfinishedPhase (j .head .phase)) (alone-run (run a longCalls) (replicate i next))
     ∙ going a calls s words f last (taken a) (replicate i next) (steps-slicing _ i) (omega (arith, all-steps i, longest-512))

@@ -13,9 +13,10 @@ use Rattle.job.specs.Job.{Job}
 use Rattle.job.specs.Runs.{runFrom, Slicing, stepsIn}
 use Rattle.job.specs.Slices.{slicesOf}
 use Rattle.job.proofs.Walk.{Walked, walk}
-use Rattle.turns.specs.Dispatcher.{Jobs, Event, on, turn, after, served, callBy, callOn, consed, callsOn, isServed, servesIn}
+use Rattle.turns.specs.Dispatcher as turns
+use Rattle.turns.specs.Dispatcher.{Jobs, Event, on, turn, after, served, callBy, callOn, consed, callsOn, alone, isServed, servesIn}
 use Rattle.turns.specs.Turning.{Unfinished}
-use Rattle.turns.proofs.Projecting.{seen, sees}
+use Rattle.turns.proofs.Projecting.{projection}
 use Rattle.eight_jobs.specs.Eight.{jobs}
 use Rattle.eight_jobs.proofs.OneJob.{walked-on}
 
@@ -31,11 +32,11 @@ steps-cons peek cs = omega arith
 
 -- ---- a turn that serves job k is a step of it
 
-module _ (k : ℕ) where
-  call-steps : (c : Option Call) (cs : List Call) → stepsIn cs ≤ stepsIn (consed jobs c cs)
-  call-steps none cs = omega arith
-  call-steps (some c) cs = omega (arith, steps-cons c cs)
+call-steps : (c : Option Call) (cs : List Call) → stepsIn cs ≤ stepsIn (consed jobs c cs)
+call-steps none cs = omega arith
+call-steps (some c) cs = omega (arith, steps-cons c cs)
 
+module _ (k : ℕ) where
   turn-steps : (r : Option ℕ) (cs : List Call) → isServed jobs k r + stepsIn cs ≤ stepsIn (consed jobs (callBy jobs k r) cs)
   unfolding stepsIn
   turn-steps none cs = omega arith
@@ -56,7 +57,7 @@ module _ (k : ℕ) where
 -- ---- from a job after m steps on
 
 module _ (s : Shape) (t : isShape s ≡ true) (words f : List ℕ) where
-  -- where no call or one takes it
+  -- a job after fewer steps, and the calls to come, which make them m
   record Goes (m : ℕ) (j : Job) (cs : List Call) : Type 0 where
     made : ℕ
     left : made + stepsIn cs ≡ m
@@ -64,8 +65,8 @@ module _ (s : Shape) (t : isShape s ≡ true) (words f : List ℕ) where
     slicing : Slicing j cs
 
   seen-goes : (j : Job) (c : Option Call) (cs : List Call) (m : ℕ) → Walked s words f m j → Slicing j (consed jobs c cs)
-      → Goes (m + stepsIn (consed jobs c cs)) (seen jobs j c) cs
-  unfolding runFrom
+      → Goes (m + stepsIn (consed jobs c cs)) (alone jobs j (consed jobs c [])) cs
+  unfolding runFrom alone
   seen-goes j none cs m w g = record { made = m; left = refl; walked = w; slicing = g }
   seen-goes j (some c) cs m w (g, gs) =
       record {
@@ -76,12 +77,13 @@ module _ (s : Shape) (t : isShape s ≡ true) (words f : List ℕ) where
       }
 
   module _ (k : ℕ) (b : k < 8) where
-    event-goes : (d : Jobs jobs) (e : Event jobs) (es : List (Event jobs)) (m : ℕ) → Walked s words f m (d .at k) → Slicing (d .at k) (callsOn jobs k d (e ∷ es))
+    event-goes : (d : Jobs jobs) (e : Event jobs) (es : List (Event jobs)) (m : ℕ) → Walked s words f m (d .at k)
+        → Slicing (d .at k) (callsOn jobs k d (e ∷ es))
         → Goes (m + stepsIn (callsOn jobs k d (e ∷ es))) (after jobs d e .at k) (callsOn jobs k (after jobs d e) es)
-    unfolding callsOn
+    unfolding turns.runFrom callsOn
     event-goes d e es m w g =
         let cs : List Call = callsOn jobs k (after jobs d e) es in
-        subst⁻¹ (λ (j : Job). Goes (m + stepsIn (consed jobs (callOn jobs d k e) cs)) j cs) (sees jobs d e k b)
+        subst⁻¹ (λ (j : Job). Goes (m + stepsIn (consed jobs (callOn jobs d k e) cs)) j cs) (projection jobs d (e ∷ []) k b)
         (seen-goes (d .at k) (callOn jobs d k e) cs m w g)
 
     pub unfinished-through : (d : Jobs jobs) (es : List (Event jobs)) (m : ℕ) → Walked s words f m (d .at k) → Slicing (d .at k) (callsOn jobs k d es)
@@ -91,8 +93,7 @@ module _ (s : Shape) (t : isShape s ≡ true) (words f : List ℕ) where
         let x = event-goes d (on i c) es m w g in
         unfinished-through (after jobs d (on i c)) es (x .made) (x .walked) (x .slicing) (omega (arith, x .left))
     unfinished-through d (turn ∷ es) m w g less =
-        let x = event-goes d turn es m w g in
-        (
+        let x = event-goes d turn es m w g in (
           walked-on s words f m (d .at k) w (omega arith),
           unfinished-through (after jobs d turn) es (x .made) (x .walked) (x .slicing) (omega (arith, x .left)),
         )
