@@ -4,7 +4,25 @@ use mathlib.Core.Bool.{Bool, true, false, cond}
 use mathlib.Core.Option.{Option, none, some}
 use Prim.Native.Nat.{ℕ, suc, _+_, _-_, _%_, _≤_, _<_}
 use native.Mathlib.Omega.{arith}
+use lib.Dec.{eqb}
+use borrow.Author.Tests.{ne-eqb}
+use Rattle.job.specs.Job.{isUnfinishedPhase}
+use Rattle.job.specs.declared.Phase.the-variants.{Empty, Shaped, Located}
+use Rattle.mirror.specs.Mirror.{phaseOf, headOf}
+use Rattle.mirror.specs.declared.CHead.{CHead}
 use Rattle.turns.specs.Dispatcher.{seek}
+
+-- of the numbers of a phase 3 alone is unfinished
+pub three-unfinished : (m : CHead) → m .phase ≡ 3 → isUnfinishedPhase (headOf m .phase) ≡ true
+three-unfinished m e = ap (λ (n : ℕ). isUnfinishedPhase (phaseOf n (m .length) (m .alone))) e
+
+pub others-not : (m : CHead) → (m .phase ≡ 3 → ⊥) → isUnfinishedPhase (headOf m .phase) ≡ false
+others-not m other = rw (ne-eqb (m .phase) 3 other) (pick (eqb (m .phase) 1) (eqb (m .phase) 2))
+  where
+    pick : (x y : Bool) → isUnfinishedPhase (cond x Shaped (cond y (Located (m .length) (eqb (m .alone) 1)) Empty)) ≡ false
+    pick true y = refl
+    pick false true = refl
+    pick false false = refl
 
 seek-suc : (u : ℕ → Bool) (from n : ℕ) → seek u from (suc n) ≡ cond (u (from % 8)) (some (from % 8)) (seek u (suc from) n)
 unfolding seek

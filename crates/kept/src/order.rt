@@ -1,15 +1,15 @@
 // Whose turn it is: the first unfinished job after the one served last, in circular order.
+ghost use mathlib.Core.List.{List};
 ghost use mathlib.Core.Path.{_≡_};
-ghost use mathlib.Core.List.{[]};
-ghost use Prim.Native.Nat.{suc};
-ghost use lib.Dec.{eqb};
-ghost use lib.ListN.{getD};
-ghost use Rattle.kept.specs.Kept.{numberOf};
+ghost use Prim.Native.Nat.{ℕ, suc};
+ghost use Rattle.job.specs.Job.{isUnfinishedPhase};
+ghost use Rattle.kept.specs.Kept.{heads, headAt, numberOf};
 ghost use Rattle.turns.specs.Dispatcher.{seek};
 
 // The number of the job, 8 where none is unfinished.
 pub fn next_unfinished(last: usize, states: &[[u32; 3]; 8]) -> usize
-    ensures { λ r. ⌜ r ≡ numberOf (seek (λ k. eqb (getD (getD (now (states .entry)) k []) 0 0) 3) (suc last) 8) ⌝ }
+    ensures { λ r. ⌜ ((extents checks marks : List (List ℕ)) →
+        r ≡ numberOf (seek (λ k. isUnfinishedPhase (headAt (heads (now (states .entry)) extents checks marks) k .phase)) (suc last) 8)) ⌝ }
 {
     let mut i = 0usize;
     let mut k = last % 8;

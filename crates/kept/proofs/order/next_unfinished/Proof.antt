@@ -1,42 +1,44 @@
 -- `kept::order::next_unfinished` meets its contract.
 use mathlib.Core.Path.{sym, ap}
 use mathlib.Core.Bool.{Bool}
-use mathlib.Core.List.{List, []}
-use Prim.Native.Nat.{ℕ, _+_, _-_, _%_}
+use mathlib.Core.List.{List}
+use Prim.Native.Nat.{ℕ, _+_, _-_, _%_, _<_}
 use native.Mathlib.Omega.{arith}
-use lib.Dec.{eqb}
-use lib.ListN.{getD}
-use borrow.Author.Tests.{eq-eqb, ne-eqb}
-use Rattle.kept.specs.Kept.{numberOf}
-use Rattle.kept.proofs.InOrder.{Looking, looks-first, looks-here, looks-on, looks-through}
+use Rattle.job.specs.Job.{isUnfinishedPhase}
+use Rattle.mirror.specs.declared.CHead.{CHead}
+use Rattle.kept.specs.Kept.{heads, numbersAt, headAt, numberOf}
+use Rattle.kept.proofs.InOrder.{three-unfinished, others-not, Looking, looks-first, looks-here, looks-on, looks-through}
 use Rattle.kept.proofs.order.next_unfinished.Statement.{statement}
 use Rattle.kept.proofs.order.next_unfinished.Tie as tie
 
--- the phase is unfinished
-abbrev phase-3 : List (List ℕ) → ℕ → Bool
-phase-3 states k = eqb (getD (getD states k []) 0 0) 3
+-- whether job k is unfinished, whatever the rest of the heads is
+abbrev unfinished : (states extents checks marks : List (List ℕ)) → ℕ → Bool
+unfinished states extents checks marks k = isUnfinishedPhase (headAt (heads states extents checks marks) k .phase)
 
 abbrev Inv-loop : tie.InvT-loop
-Inv-loop last states i₀ k₀ i k = Looking (phase-3 states) last i k
+Inv-loop last states i₀ k₀ i k =
+    (k < 8) × ((extents checks marks : List (List ℕ)) → Looking (unfinished states extents checks marks) last i k)
 
 abbrev μ-loop : tie.MeasureT-loop
 μ-loop last states i₀ k₀ i k = 8 - i
 
--- the phase of the job that is looked at
-abbrev phase-here : tie.In-loop Inv-loop μ-loop → ℕ
-phase-here c = getD (getD (c .before .before .args .states .now) ((c .before .loop .k + 1) % 8) []) 0 0
+-- the numbers of the job that is looked at
+abbrev numbers-here : tie.In-loop Inv-loop μ-loop → (extents checks marks : List (List ℕ)) → CHead
+numbers-here c extents checks marks =
+    numbersAt (heads (c .before .before .args .states .now) extents checks marks) ((c .before .loop .k + 1) % 8)
 
 returns : tie.Need-returns Inv-loop μ-loop
-returns c =
+returns c = λ extents checks marks.
     let inside = c .before .before in
-    let at = inside .before .loop in
-    sym (ap numberOf (looks-here _ _ (at .inv) (inside .loop-test .taken) (eq-eqb (phase-here inside) 3 (c .if1 .taken))))
+    let here = three-unfinished (numbers-here inside extents checks marks) (c .if1 .taken) in
+    sym (ap numberOf (looks-here _ _ (inside .before .loop .inv .1 extents checks marks) (inside .loop-test .taken) here))
 
 loop-again : tie.Need-loop-again Inv-loop μ-loop
 loop-again c =
     let inside = c .before .before in
-    let at = inside .before .loop in
-    looks-on _ _ (at .inv) (inside .loop-test .taken) (ne-eqb (phase-here inside) 3 (c .if1 .left))
+    (omega arith, λ extents checks marks.
+    let here = others-not (numbers-here inside extents checks marks) (c .if1 .left) in
+    looks-on _ _ (inside .before .loop .inv .1 extents checks marks) (inside .loop-test .taken) here)
 
 pub next-unfinished-spec : {M : Type 1} → statement M
 next-unfinished-spec =
@@ -44,7 +46,7 @@ next-unfinished-spec =
     (tie.spec
     Inv-loop
     μ-loop
-    (λ c. looks-first _ _)
+    (λ c. (omega arith, λ extents checks marks. looks-first _ _))
     (λ c. omega arith)
     (λ c. omega arith)
     (λ c. omega arith)
@@ -53,4 +55,4 @@ next-unfinished-spec =
     (λ c. omega arith)
     (λ c. omega arith)
     loop-again
-    (λ c. sym (ap numberOf (looks-through _ _ (c .before .loop .inv) (c .loop-test .left)))))
+    (λ c extents checks marks. sym (ap numberOf (looks-through _ _ (c .before .loop .inv .1 extents checks marks) (c .loop-test .left)))))
