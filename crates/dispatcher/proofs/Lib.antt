@@ -1,2 +1,3 @@
+pub mod GoingOn
 pub mod Making
 pub mod Telling
