@@ -1,1 +1,4 @@
+pub mod FirstJobs
 pub mod InOrder
+pub mod Runs
+pub mod Written

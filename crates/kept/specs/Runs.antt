@@ -2,10 +2,10 @@
 use mathlib.Core.Path.{_≡_}
 use mathlib.Core.List.{List, [], _∷_}
 use Prim.Native.Nat.{ℕ, _<_}
-use lib.ListN.{length}
-use Rattle.eight_jobs.specs.Eight.{jobs}
+use lib.ListN.{length, replicate}
+use Rattle.eight_jobs.specs.Eight.{jobs, emptied}
 use Rattle.turns.specs.Dispatcher.{Jobs, Event, reply, runFrom}
-use Rattle.kept.specs.Kept.{Heads, Searches, Kept, jobAt, keptAfter, jobsOf}
+use Rattle.kept.specs.Kept.{Heads, heads, Searches, Kept, kept, arraysAt, jobAt, keptAfter, jobsOf}
 
 -- each array has eight entries, as its type says
 pub record EightHeads (hs : Heads) : Type 0 where
@@ -48,3 +48,16 @@ pub record KeptRuns (p : Kept) (d : Jobs jobs) (es : List (Event jobs)) : Type 0
 
 abbrev pub Faithful : Type 0
 Faithful = (p : Kept) (d : Jobs jobs) (es : List (Event jobs)) → EightKept p → Keeps p d → KeptRuns p d es
+
+-- ---- the first jobs
+
+-- zeros
+abbrev pub emptyHeads : Heads
+emptyHeads = heads (replicate 8 (replicate 3 0)) (replicate 8 (replicate 3 0)) (replicate 8 (replicate 8 0)) (replicate 8 (replicate 4 0))
+
+-- Heads of zeros are those of eight empty jobs, whatever stands in the other arrays. Proved in proofs/FirstJobs.antt.
+abbrev pub StartsEmpty : Type 0
+StartsEmpty =
+    (sums taps declared : List (List ℕ)) (x : Searches) →
+    let p : Kept = kept emptyHeads sums taps declared x 7 in
+    Keeps p (emptied (arraysAt p))

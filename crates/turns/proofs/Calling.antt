@@ -10,7 +10,7 @@ use Rattle.turns.proofs.Putting.{put-there, put-elsewhere}
 
 module _ (K : Kind) (d : Jobs K) (k : ℕ) (c : K .call) where
   -- the jobs after the call by whether the number is one of the eight
-  abbrev left : Bool → Jobs K
+  abbrev pub left : Bool → Jobs K
   left t = cond t (record { at = put K d k (K .leaves (d .at k) c); last = d .last }) d
 
   others : (i : ℕ) → (i ≡ k → ⊥) → after K d (on k c) .at i ≡ d .at i

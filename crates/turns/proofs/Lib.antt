@@ -1,3 +1,4 @@
+pub mod Agreeing
 pub mod Appending
 pub mod Calling
 pub mod Circle
