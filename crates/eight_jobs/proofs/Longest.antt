@@ -16,6 +16,7 @@ use Rattle.frame.specs.Shape.{isShape, shapeOf, shapeTests, rowsInRange, column
 use Rattle.frame.specs.declared.Shape.{Shape}
 use Rattle.job.specs.Calls.{Call, shape, start, next, Outcome, step}
 use Rattle.job.specs.Job.{Arrays, Job, isUnfinishedPhase}
+use Rattle.job.specs.NothingDeclared.{noWords}
 use Rattle.job.specs.Runs.{run, runFrom, afterCalls, lastShape, lastShapeFrom, Taken, Slicing, stepsIn}
 use Rattle.job.specs.Slices.{slicesOf}
 use Rattle.job.proofs.AfterRefusal.{never-unfinished}
@@ -36,14 +37,11 @@ calls = shape 65 (replicate 8 64) 1 ∷ []
 abbrev s : Shape
 s = shapeOf 65 (replicate 8 64) 1
 
-abbrev words : List ℕ
-words = replicate 32 0
-
 abbrev f : List ℕ
 f = replicate 520 0
 
 abbrev D : Declared
-D = declaredBy words
+D = declaredBy noWords
 
 last : lastShape calls ≡ some s
 unfolding lastShapeFrom shapeTests rowsInRange columnsInRange checksInRange exponentInRange every
@@ -70,20 +68,20 @@ unfolding shapeOf
 longest-64 =
     omega (arith, sliceable s is-shape D f .short, longest-bounds ss 0 (omega (arith, rows-left s D f)), length-left s D f 0 (omega arith), none-erased)
 
-pub longest-512 : slicesOf (shapeOf 65 (replicate 8 64) 1) (replicate 32 0) (replicate 520 0) ≡ 512
+pub longest-512 : slicesOf (shapeOf 65 (replicate 8 64) 1) noWords (replicate 520 0) ≡ 512
 unfolding shapeOf
 longest-512 = ap (λ (n : ℕ). n * 8) longest-64
 
 -- ---- it is started
 
-passes : (a : Arrays) → Pass (tests (run a calls) words f)
+passes : (a : Arrays) → Pass (tests (run a calls) noWords f)
 passes a =
     let (not-empty, same) = shape-held a calls s last in
     (not-empty, subst⁻¹ (λ (x : Shape). Pass (readTests x D f)) same read)
 
-taken : (a : Arrays) → Taken (afterCalls a calls (start words f))
+taken : (a : Arrays) → Taken (afterCalls a calls (start noWords f))
 taken a (k, e) =
-    never-unfinished (sym (ap (λ (o : Outcome). o .answer) (start-on (run a calls) words f (passes a)
+    never-unfinished (sym (ap (λ (o : Outcome). o .answer) (start-on (run a calls) noWords f (passes a)
     (subst⁻¹ (λ (x : Shape). 0 < longest (readSequences x D f)) (shape-held a calls s last .1) (omega (arith, longest-64))))) ∙ e)
 
 -- ---- and goes on through 511 steps
@@ -99,11 +97,11 @@ all-steps (suc i) = ap suc (all-steps i)
 
 -- the calls that start it
 abbrev pub longCalls : List Call
-longCalls = shape 65 (replicate 8 64) 1 ∷ start (replicate 32 0) (replicate 520 0) ∷ []
+longCalls = shape 65 (replicate 8 64) 1 ∷ start noWords (replicate 520 0) ∷ []
 
 pub long-going : (a : Arrays) (i : ℕ) → i < 512
     → isUnfinishedPhase (alone jobs (run a longCalls) (replicate i next) .head .phase) ≡ true
 unfolding runFrom
 long-going a i less =
     ap (λ (j : Job). isUnfinishedPhase (j .head .phase)) (alone-run (run a longCalls) (replicate i next))
-    ∙ going a calls s words f last (taken a) (replicate i next) (steps-slicing _ i) (omega (arith, all-steps i, longest-512))
+    ∙ going a calls s noWords f last (taken a) (replicate i next) (steps-slicing _ i) (omega (arith, all-steps i, longest-512))

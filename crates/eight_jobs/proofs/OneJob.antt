@@ -1,22 +1,23 @@
--- One job: that its phase alone tells whether it is unfinished, and that this is so from its start to the last of its steps, of which there are 512 at most.
+-- One job: its phase alone tells whether it is unfinished, which it is from its start to the last of its steps, 512 at most; and what that step does.
 use mathlib.Core.Path.{_≡_, refl, sym, subst}
 use mathlib.Core.Bool.{true, false}
 use mathlib.Core.List.{List, [], _∷_, _++_}
 use mathlib.Core.Option.{some}
-use Prim.Native.Nat.{ℕ, _≤_, _<_}
+use Prim.Native.Nat.{ℕ, suc, _≤_, _<_}
 use native.Mathlib.Nat.{mul-le-mul}
 use native.Mathlib.Omega.{arith}
 use Rattle.frame.specs.DeclaredCells.{declaredBy}
 use Rattle.frame.specs.Shape.{isShape}
 use Rattle.frame.specs.declared.Shape.{Shape}
 use Rattle.frame.proofs.Shapes.{shape-ranges}
-use Rattle.job.specs.Calls.{Call, start, step}
+use Rattle.job.specs.Calls.{Call, locate, start, next, step}
 use Rattle.job.specs.Job.{Arrays, Job, emptyJob, isUnfinished, isUnfinishedPhase}
 use Rattle.job.specs.Runs.{run, runFrom, afterCalls, lastShape, Taken, Slicing, stepsIn}
-use Rattle.job.specs.Slices.{slicesOf}
+use Rattle.job.specs.Slices.{slicesOf, SameAnswer}
 use Rattle.job.proofs.Beginning.{start-passes, walked}
 use Rattle.job.proofs.Forms.{Form, empty, shaped, unfinished, located, run-form, run-append}
 use Rattle.job.proofs.Going.{going-sound, sliceable}
+use Rattle.job.proofs.Slices.{locates-in-slices}
 use Rattle.job.proofs.Soundness.{shape-held}
 use Rattle.job.proofs.Walk.{Walked, on, over as past, after-less}
 use Rattle.turns.specs.Dispatcher.{alone}
@@ -73,6 +74,14 @@ module _ (a : Arrays) (before : List Call) (s : Shape) (words f : List ℕ) (las
 
     pub over : slicesOf s words f ≤ stepsIn between → isUnfinishedPhase (runFrom (afterCalls a before (start words f) .job) between .head .phase) ≡ false
     over = walked-over s words f (stepsIn between) _ (after-start between slicing)
+
+    -- the last step does what locate would have
+    pub last-step : suc (stepsIn between) ≡ slicesOf s words f
+        → SameAnswer (step (runFrom (afterCalls a before (start words f) .job) between) next) (afterCalls a before (locate words f))
+    unfolding runFrom
+    last-step all =
+        subst (λ (j : Job). SameAnswer (step j next) (afterCalls a before (locate words f))) (run-append (emptyJob a) before (start words f ∷ between))
+        (locates-in-slices .slices a before between s words f last taken slicing .last all)
 
 -- ---- how many steps
 

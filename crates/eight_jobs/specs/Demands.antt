@@ -3,19 +3,20 @@ use mathlib.Core.Path.{_≡_}
 use mathlib.Core.Bool.{true, false}
 use mathlib.Core.List.{List, [], _∷_, _++_}
 use mathlib.Core.Option.{some}
-use Prim.Native.Nat.{ℕ, zero, suc, _≤_, _<_}
+use Prim.Native.Nat.{ℕ, zero, suc, _*_, _≤_, _<_}
 use lib.ListN.{replicate}
 use Rattle.frame.specs.declared.Shape.{Shape}
-use Rattle.job.specs.Calls.{Call, shape, start, next}
+use Rattle.job.specs.Calls.{Call, shape, locate, start, next, Outcome}
 use Rattle.job.specs.Job.{Arrays, isUnfinished}
+use Rattle.job.specs.NothingDeclared.{noWords}
 use Rattle.job.specs.Runs.{run, afterCalls, lastShape, Taken, Slicing, stepsIn}
-use Rattle.job.specs.Slices.{slicesOf}
+use Rattle.job.specs.Slices.{slicesOf, SameAnswer}
 use Rattle.turns.specs.Dispatcher.{Jobs, Event, on, turn, says, reply, runFrom, served, callsOn, turnsIn, servesIn, turns}
 use Rattle.turns.specs.Turning.{Calling, Turning, Unfinished}
 use Rattle.eight_jobs.specs.Eight.{jobs, dispatched, callsTo}
 
--- Each job by itself sees exactly the list of its own calls, its steps by turns among them, and answers what it would by itself. So what is owed of one job over
--- every list of its calls (crate job: demands 1 to 3, slices) holds of each of the eight.
+-- Each job by itself sees exactly the list of its own calls, its steps by turns among them, and answers what it would by itself. So what is owed of one job
+-- over every list of its calls (crate job: demands 1 to 3, slices) holds of each of the eight.
 pub record Projected (a : ℕ → Arrays) (es : List (Event jobs)) (k : ℕ) : Type 0 where
   pub job : dispatched a es .at k ≡ run (a k) (callsTo a k es)
   pub called : (c : Call) → reply jobs (dispatched a es) (on k c) ≡ says k (afterCalls (a k) (callsTo a k es) c)
@@ -29,21 +30,32 @@ ServedWithin8 =
     (a : ℕ → Arrays) (before es : List (Event jobs)) (k : ℕ) → k < 8 → Unfinished jobs k (dispatched a before) es → turnsIn jobs es ≡ 8 →
     1 ≤ servesIn jobs k (dispatched a before) es
 
+-- A locate of job k in so many steps, from the jobs d after its start through the events; `located` is what locate would have done in place of the start.
+pub record Done (d : Jobs jobs) (k steps : ℕ) (located : Outcome) (es : List (Event jobs)) : Type 0 where
+  pub most : steps ≤ 512
+  -- with eight turns for each step all steps are made, and the job is not unfinished any more
+  pub all-made : 8 * steps ≤ turnsIn jobs es → (steps ≤ stepsIn (callsOn jobs k d es)) × (jobs .unfinished (runFrom jobs d es .at k) ≡ false)
+  -- so with 4,096 turns, whatever the frame
+  pub within-4096 : 4096 ≤ turnsIn jobs es → jobs .unfinished (runFrom jobs d es .at k) ≡ false
+  -- the last step, by a call or by a turn that serves job k, answers and leaves what locate would have
+  pub last :
+      suc (stepsIn (callsOn jobs k d es)) ≡ steps →
+      (o : Outcome) × SameAnswer o located × (reply jobs (runFrom jobs d es) (on k next) ≡ says k o) ×
+      (served jobs (runFrom jobs d es) ≡ some k → reply jobs (runFrom jobs d es) turn ≡ says k o)
+
 -- A start on job k after `before` is not refused, and the events `es` after it do not drop it: the calls on job k among them, its steps by turns included, are
--- steps, peeks, encodes, or refused by other numbers than 24, 25, 26. What is done to the other jobs plays no part. With 4,096 turns or more among the events,
--- all its steps are made, and it is not unfinished any more: what its last step answered and left is that of locate (`Sliced` of crate job).
+-- steps, peeks, encodes, or refused by other numbers than 24, 25, 26. What is done to the other jobs plays no part.
 abbrev pub DoneWithin4096 : Type 0
 DoneWithin4096 =
     (a : ℕ → Arrays) (before es : List (Event jobs)) (k : ℕ) (s : Shape) (words f : List ℕ) → k < 8 → lastShape (callsTo a k before) ≡ some s →
     Taken (afterCalls (a k) (callsTo a k before) (start words f)) →
     let d : Jobs jobs = dispatched a (before ++ (on k (start words f) ∷ [])) in
-    Slicing (d .at k) (callsOn jobs k d es) → 4096 ≤ turnsIn jobs es →
-    (slicesOf s words f ≤ stepsIn (callsOn jobs k d es)) × (jobs .unfinished (runFrom jobs d es .at k) ≡ false)
+    Slicing (d .at k) (callsOn jobs k d es) → Done d k (slicesOf s words f) (afterCalls (a k) (callsTo a k before) (locate words f)) es
 
 -- the jobs 0 .. n − 1 given the largest number of steps: a shape of eight rows with 64 checks each, and a start of a frame of zeros, with no cell declared
 unfoldable pub longStarts : (n : ℕ) → List (Event jobs)
 longStarts zero = []
-longStarts (suc n) = longStarts n ++ (on n (shape 65 (replicate 8 64) 1) ∷ (on n (start (replicate 32 0) (replicate 520 0)) ∷ []))
+longStarts (suc n) = longStarts n ++ (on n (shape 65 (replicate 8 64) 1) ∷ (on n (start noWords (replicate 520 0)) ∷ []))
 
 -- The bound is reached: started so, job 7 is unfinished after 4,095 turns.
 abbrev pub Reached4096 : Type 0
