@@ -17,6 +17,8 @@ use Rattle.job.specs.Job.{Job, noColumns, emptyHead, unfinishedHead, locatedHea
 use Rattle.job.specs.declared.Head.{Head}
 use Rattle.job.specs.declared.Phase.{Phase}
 use Rattle.job.specs.declared.Phase.the-variants.{Empty, Shaped, Unfinished, Located}
+use Rattle.columns.specs.declared.Columns.{Columns}
+use Rattle.mirror.specs.declared.CAnswer.{CAnswer}
 use Rattle.mirror.specs.declared.CAnswered.{CAnswered}
 use Rattle.mirror.specs.declared.CColumns.{CColumns}
 use Rattle.mirror.specs.declared.CHead.{CHead}
@@ -179,19 +181,14 @@ shapedOf o = record { refusal = refusalOf (o .answer); head = mirrorOf (o .job .
 abbrev pub peekedOf : Calls.Answer → CPeeked
 peekedOf a = record { refusal = refusalOf a; length = shortestOf a }
 
--- what start, step, locate and repair return
+-- what start, step, locate and repair answer
+abbrev pub answerOf : Calls.Answer → (marks : Columns) (tried : ℕ) → CAnswer
+answerOf a marks tried =
+    record { refusal = refusalOf a; unfinished = unfinishedOf a; count = countOf a; tried = tried; marks = marks .words }
+
+-- and return
 abbrev pub answeredOf : Outcome → CAnswered
-answeredOf o =
-    record {
-      answer = record {
-        refusal = refusalOf (o .answer);
-        unfinished = unfinishedOf (o .answer);
-        count = countOf (o .answer);
-        tried = o .tried;
-        marks = o .marks .words;
-      };
-      head = mirrorOf (o .job .head);
-    }
+answeredOf o = record { answer = answerOf (o .answer) (o .marks) (o .tried); head = mirrorOf (o .job .head) }
 
 -- What stands in the struct of an answer, whatever is counted and tried, and whatever job and frame are left: of the columns 0, 65 and 255, of a locate
 -- that is unfinished, of a length, of a search that finds these columns, and of a call or a search refused by k, which carries the number alone. Proved in

@@ -7,6 +7,7 @@ use crate::CPeeked;
 use crate::CRegister;
 use crate::head::mark_of;
 use crate::head::mirror_of;
+use columns::Columns;
 use finder::Found;
 use job::Answered;
 use job::Peeked;
@@ -22,7 +23,7 @@ ghost use Rattle.job.specs.Answers.{checkedAnswer, replyAnswer, peekedAnswer, a
 ghost use Rattle.job.specs.Calls.{unfinished};
 ghost use Rattle.job.specs.Job.{Arrays, noColumns, unfinishedJob};
 ghost use Rattle.search.specs.Search.{answerOf as Search·answerOf};
-ghost use Rattle.mirror.specs.Mirror.{refusalOf, unfinishedOf, countOf, registerOf, columnsFor, peekedOf, headOf, answeredOf};
+ghost use Rattle.mirror.specs.Mirror.{refusalOf, unfinishedOf, countOf, registerOf, columnsFor, peekedOf, headOf, answerOf, answeredOf};
 
 // 0 where nothing is refused.
 pub fn refusal_of(v: Checked) -> u32
@@ -107,19 +108,25 @@ pub fn peeked_of(p: Peeked) -> CPeeked
     }
 }
 
-pub fn answered_of(a: Answered) -> CAnswered
-    ensures { λ r. ⌜ ((b : Arrays) (f : List ℕ) → r ≡ answeredOf (answeredOutcome a b f)) ⌝ }
+pub fn answer_of(reply: Reply, columns: Columns, tried: usize) -> CAnswer
+    ensures { λ r. ⌜ r ≡ answerOf (replyAnswer reply) columns tried ⌝ }
 {
-    let columns = a.columns;
     let marks = columns.words;
-    let reply = a.reply;
-    let answer = CAnswer {
+    CAnswer {
         refusal: reply_refusal(reply),
         unfinished: reply_unfinished(reply),
         count: reply_count(reply),
-        tried: a.tried,
+        tried,
         marks,
-    };
+    }
+}
+
+pub fn answered_of(a: Answered) -> CAnswered
+    ensures { λ r. ⌜ ((b : Arrays) (f : List ℕ) → r ≡ answeredOf (answeredOutcome a b f)) ⌝ }
+{
+    let reply = a.reply;
+    let columns = a.columns;
+    let answer = answer_of(reply, columns, a.tried);
     let head = mirror_of(a.head);
     CAnswered { answer, head }
 }

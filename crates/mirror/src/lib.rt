@@ -55,3 +55,10 @@ pub struct CAnswered {
     pub answer: CAnswer,
     pub head: CHead,
 }
+
+// What a turn among eight jobs answers: the number of the job that it served, 8 where none is unfinished, and what the step said.
+#[repr(C)]
+pub struct CTurned {
+    pub job: usize,
+    pub answer: CAnswer,
+}
