@@ -1,2 +1,3 @@
+pub mod Dispatcher
 pub mod Exports
 pub mod Runs

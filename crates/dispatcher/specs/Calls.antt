@@ -6,10 +6,16 @@ use Prim.Native.Nat.{ℕ}
 use Rattle.job.specs.Calls.{Call, shape, encode, locate, repair, start, next, peek, step}
 use Rattle.job.specs.declared.Peeked.{Peeked}
 use Rattle.kept.specs.Kept.{Heads, Searches, Kept, kept, jobAt, madeOf}
+use Rattle.kept.specs.Runs.{emptyHeads}
 use Rattle.refusal.specs.declared.Checked.{Checked}
 use Rattle.dispatcher.specs.Told.{Told, toldBy, checkedTold, saidTold, peekedTold, turnedTold, Does, Turns}
 use Rattle.dispatcher.specs.declared.Said.{Said}
 use Rattle.dispatcher.specs.declared.Turned.{Turned}
+
+-- eight empty jobs are left, and job 7 counts as served last
+pub record EmptyDoes (left : Heads) (last : ℕ) : Type 0 where
+  pub heads : left ≡ emptyHeads
+  pub last-served : last ≡ 7
 
 abbrev pub ShapeDoes : (k : ℕ) → Heads → (n : ℕ) (checks : List ℕ) (b : ℕ) → Checked → Heads → Type 0
 ShapeDoes k hs n checks b r left =

@@ -4,6 +4,7 @@ use columns::Columns;
 use job::Reply;
 
 pub mod answers;
+pub mod empty;
 pub mod encode;
 pub mod locate;
 pub mod peek;

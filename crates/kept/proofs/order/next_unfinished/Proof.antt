@@ -35,10 +35,12 @@ returns c = λ extents checks marks.
 
 loop-again : tie.Need-loop-again Inv-loop μ-loop
 loop-again c =
-    let inside = c .before .before in
-    (omega arith, λ extents checks marks.
-    let here = others-not (numbers-here inside extents checks marks) (c .if1 .left) in
-    looks-on _ _ (inside .before .loop .inv .1 extents checks marks) (inside .loop-test .taken) here)
+    let inside = c .before .before in (
+      omega arith,
+      λ extents checks marks.
+          let here = others-not (numbers-here inside extents checks marks) (c .if1 .left) in
+          looks-on _ _ (inside .before .loop .inv .1 extents checks marks) (inside .loop-test .taken) here,
+    )
 
 pub next-unfinished-spec : {M : Type 1} → statement M
 next-unfinished-spec =
