@@ -26,6 +26,12 @@
  * no more. An unfinished job counts as shaped: encode takes it, repair is refused by 22, and shape, locate or another start drops what is unfinished, unless
  * a refusal leaves the job as it was.
  *
+ * A dispatcher is for one processor with eight heads. It has eight jobs, 0 to 7, each with all the calls above (tomkhadi_dispatcher_shape and so on, with the
+ * number of the job), and the turn: tomkhadi_dispatcher_turn makes one step of the next unfinished job after the one that was served last, in circular order,
+ * and answers its number and what the step said. Only turns serve: a step by call counts as no service. An unfinished job is served within any eight turns, and
+ * a locate that was started, and is not dropped, is done within 4,096 turns, and within eight times as many turns as it has steps, whatever is done to the
+ * other jobs meanwhile. What each job answers is what it would answer by itself to the calls on it and the steps by turns.
+ *
  * Two calls take no job: tomkhadi_find finds the shortest register of any sequences, and tomkhadi_search the columns that the taps of a register name.
  *
  * A shape has an exponent, 0 to 255, that of the locators in the first check sum: column i has the locator 3^i, and check sum j of a row, j = 1 up to its
@@ -64,7 +70,7 @@
  *   24  locate, and the last step of one in slices, as in 25 and 26: the shortest register is not alone
  *   25  locate: it is alone, and some row has fewer checks, less its declared cells, than its length
  *   26  locate: neither of these, and no legal frame lies at a distance of that length, counted in columns that differ in cells not declared
- *   33  step or peek of a job that is not unfinished
+ *   33  step or peek of a job that is not unfinished; a dispatcher: the number of the job is above 7, or, of a turn, no job is unfinished
  */
 #ifndef TOMKHADI_H
 #define TOMKHADI_H
@@ -225,9 +231,8 @@ static inline tomkhadi_answer tomkhadi_repair(tomkhadi_job *job, uint16_t *frame
  * the job unfinished; where no sequence has a symbol, which is where each row has as many declared cells as checks, it does what locate does. Answers that it
  * is unfinished, or what locate answers. Refusals: 21, 7, 31, 4. */
 static inline tomkhadi_answer tomkhadi_start(tomkhadi_job *job, const uint64_t declared[32], const uint16_t *frame, size_t size) {
-  tomkhadi_head_answered started =
-      tomkhadi_head_start(job->head, job->sums, job->taps, job->declared, job->counts, job->lengths, job->symbols, job->places, job->sizes, job->discs,
-                          job->quotients, job->current, job->saved, declared, frame, size);
+  tomkhadi_head_answered started = tomkhadi_head_start(job->head, job->sums, job->taps, job->declared, job->counts, job->lengths, job->symbols, job->places,
+                                                       job->sizes, job->discs, job->quotients, job->current, job->saved, declared, frame, size);
   job->head = started.head;
   return started.answer;
 }
@@ -236,18 +241,125 @@ static inline tomkhadi_answer tomkhadi_start(tomkhadi_job *job, const uint64_t d
  * unfinished; the last step, what locate answers. Refusals: 21, 33, 24, 25, 26. The head of a job that stays unfinished is as it was, unless it has marks that
  * no call left, and need not be stored. */
 static inline tomkhadi_answer tomkhadi_step(tomkhadi_job *job) {
-  tomkhadi_head_answered stepped =
-      tomkhadi_head_step(job->head, job->sums, job->taps, job->declared, job->counts, job->lengths, job->symbols, job->places, job->sizes, job->discs,
-                         job->quotients, job->current, job->saved);
+  tomkhadi_head_answered stepped = tomkhadi_head_step(job->head, job->sums, job->taps, job->declared, job->counts, job->lengths, job->symbols, job->places,
+                                                      job->sizes, job->discs, job->quotients, job->current, job->saved);
   const uint64_t *marks = job->head.marks;
-  if (!stepped.answer.unfinished || (marks[0] | marks[1] | marks[2] | marks[3])) job->head = stepped.head;
+  if (!stepped.answer.unfinished || (marks[0] | marks[1] | marks[2] | marks[3]))
+    job->head = stepped.head;
   return stepped.answer;
 }
 
 /* Tells the length of the shortest register after the rounds that are finished. Leaves the job as it is. Refusals: 21, 33. */
 static inline tomkhadi_peek_answer tomkhadi_peek(const tomkhadi_job *job) {
-  return tomkhadi_head_peek(job->head, job->sums, job->declared, job->counts, job->lengths, job->symbols, job->places, job->sizes, job->discs,
-                            job->quotients, job->current, job->saved);
+  return tomkhadi_head_peek(job->head, job->sums, job->declared, job->counts, job->lengths, job->symbols, job->places, job->sizes, job->discs, job->quotients,
+                            job->current, job->saved);
+}
+
+/* ---- eight jobs */
+
+/* Eight jobs and the number of the one that was served last. Treat it as opaque: make it empty, then hand it from call to call. Each array has eight parts of
+ * one size, part k for job k: in states its phase, alone mark and exponent, in extents its rows, columns and length, in the others what they are called in a
+ * job. Any value is safe, as of a job. Whom a turn serves goes by the phases alone: a job whose phase is 3 and which counts as empty or shaped, made by
+ * nobody's call, is served too, and its step is refused by 21 or 33. Of `last` what counts is the remainder by 8. */
+typedef struct {
+  uint64_t last;
+  uint32_t states[8 * 3];
+  uint64_t extents[8 * 3];
+  uint16_t checks[8 * 8];
+  uint64_t marks[8 * 4];
+  uint64_t declared[8 * 32];
+  uint16_t sums[8 * 512];
+  uint16_t taps[8 * 65];
+  uint16_t counts[8 * 5];
+  uint16_t lengths[8 * 8];
+  uint16_t places[8 * 8];
+  uint16_t sizes[8 * 8];
+  uint16_t discs[8 * 8];
+  uint16_t quotients[8 * 8];
+  uint16_t current[8 * 144];
+  uint16_t symbols[8 * 1152];
+  uint16_t saved[8 * 1152];
+} tomkhadi_dispatcher;
+
+/* What a turn answers: the number of the job that it served, and what its step answered. Where no job is unfinished the number is 8, which is no job's, and the
+ * refusal 33. */
+typedef struct {
+  uint64_t job;
+  tomkhadi_answer answer;
+} tomkhadi_turned;
+
+/* The archive's functions are lent the arrays. The calls below are made of them. */
+void tomkhadi_jobs_empty(uint64_t *last, uint32_t states[8 * 3], uint64_t extents[8 * 3], uint16_t checks[8 * 8], uint64_t marks[8 * 4]);
+uint32_t tomkhadi_jobs_shape(size_t job, uint32_t states[8 * 3], uint64_t extents[8 * 3], uint16_t checks[8 * 8], uint64_t marks[8 * 4], size_t columns,
+                             const uint16_t *given, size_t rows, uint32_t exponent);
+uint32_t tomkhadi_jobs_encode(size_t job, const uint32_t states[8 * 3], const uint64_t extents[8 * 3], const uint16_t checks[8 * 8],
+                              const uint64_t marks[8 * 4], uint16_t *frame, size_t size);
+tomkhadi_answer tomkhadi_jobs_locate(size_t job, uint32_t states[8 * 3], uint64_t extents[8 * 3], uint16_t checks[8 * 8], uint64_t marks[8 * 4],
+                                     uint16_t sums[8 * 512], uint16_t taps[8 * 65], uint64_t held[8 * 32], const uint64_t declared[32], const uint16_t *frame,
+                                     size_t size);
+tomkhadi_answer tomkhadi_jobs_repair(size_t job, uint32_t states[8 * 3], uint64_t extents[8 * 3], uint16_t checks[8 * 8], uint64_t marks[8 * 4],
+                                     const uint16_t sums[8 * 512], const uint64_t held[8 * 32], uint16_t *frame, size_t size);
+tomkhadi_answer tomkhadi_jobs_start(size_t job, uint32_t states[8 * 3], uint64_t extents[8 * 3], uint16_t checks[8 * 8], uint64_t marks[8 * 4],
+                                    uint16_t sums[8 * 512], uint16_t taps[8 * 65], uint64_t held[8 * 32], uint16_t counts[8 * 5], uint16_t lengths[8 * 8],
+                                    uint16_t symbols[8 * 1152], uint16_t places[8 * 8], uint16_t sizes[8 * 8], uint16_t discs[8 * 8], uint16_t quotients[8 * 8],
+                                    uint16_t current[8 * 144], uint16_t saved[8 * 1152], const uint64_t declared[32], const uint16_t *frame, size_t size);
+tomkhadi_answer tomkhadi_jobs_step(size_t job, uint32_t states[8 * 3], uint64_t extents[8 * 3], uint16_t checks[8 * 8], uint64_t marks[8 * 4],
+                                   const uint16_t sums[8 * 512], uint16_t taps[8 * 65], const uint64_t held[8 * 32], uint16_t counts[8 * 5],
+                                   const uint16_t lengths[8 * 8], const uint16_t symbols[8 * 1152], uint16_t places[8 * 8], uint16_t sizes[8 * 8],
+                                   uint16_t discs[8 * 8], uint16_t quotients[8 * 8], uint16_t current[8 * 144], uint16_t saved[8 * 1152]);
+tomkhadi_peek_answer tomkhadi_jobs_peek(size_t job, const uint32_t states[8 * 3], const uint64_t extents[8 * 3], const uint16_t checks[8 * 8],
+                                        const uint64_t marks[8 * 4], const uint16_t sums[8 * 512], const uint64_t held[8 * 32], const uint16_t counts[8 * 5],
+                                        const uint16_t lengths[8 * 8], const uint16_t symbols[8 * 1152], const uint16_t places[8 * 8],
+                                        const uint16_t sizes[8 * 8], const uint16_t discs[8 * 8], const uint16_t quotients[8 * 8],
+                                        const uint16_t current[8 * 144], const uint16_t saved[8 * 1152]);
+tomkhadi_turned tomkhadi_jobs_turn(uint64_t *last, uint32_t states[8 * 3], uint64_t extents[8 * 3], uint16_t checks[8 * 8], uint64_t marks[8 * 4],
+                                   const uint16_t sums[8 * 512], uint16_t taps[8 * 65], const uint64_t held[8 * 32], uint16_t counts[8 * 5],
+                                   const uint16_t lengths[8 * 8], const uint16_t symbols[8 * 1152], uint16_t places[8 * 8], uint16_t sizes[8 * 8],
+                                   uint16_t discs[8 * 8], uint16_t quotients[8 * 8], uint16_t current[8 * 144], uint16_t saved[8 * 1152]);
+
+/* Makes all eight jobs empty, and the arrays zeros. Job 7 counts as served last. Refuses nothing. */
+static inline void tomkhadi_dispatcher_empty(tomkhadi_dispatcher *d) {
+  memset(d, 0, sizeof *d);
+  tomkhadi_jobs_empty(&d->last, d->states, d->extents, d->checks, d->marks);
+}
+
+/* Each of the following does with job number `job` what the call of its name does with a job, and touches no other. A number above 7 is refused by 33 before
+ * all else, and nothing is changed. */
+static inline uint32_t tomkhadi_dispatcher_shape(tomkhadi_dispatcher *d, size_t job, size_t columns, const uint16_t *checks, size_t rows, uint32_t exponent) {
+  return tomkhadi_jobs_shape(job, d->states, d->extents, d->checks, d->marks, columns, checks, rows, exponent);
+}
+
+static inline uint32_t tomkhadi_dispatcher_encode(const tomkhadi_dispatcher *d, size_t job, uint16_t *frame, size_t size) {
+  return tomkhadi_jobs_encode(job, d->states, d->extents, d->checks, d->marks, frame, size);
+}
+
+static inline tomkhadi_answer tomkhadi_dispatcher_locate(tomkhadi_dispatcher *d, size_t job, const uint64_t declared[32], const uint16_t *frame, size_t size) {
+  return tomkhadi_jobs_locate(job, d->states, d->extents, d->checks, d->marks, d->sums, d->taps, d->declared, declared, frame, size);
+}
+
+static inline tomkhadi_answer tomkhadi_dispatcher_repair(tomkhadi_dispatcher *d, size_t job, uint16_t *frame, size_t size) {
+  return tomkhadi_jobs_repair(job, d->states, d->extents, d->checks, d->marks, d->sums, d->declared, frame, size);
+}
+
+static inline tomkhadi_answer tomkhadi_dispatcher_start(tomkhadi_dispatcher *d, size_t job, const uint64_t declared[32], const uint16_t *frame, size_t size) {
+  return tomkhadi_jobs_start(job, d->states, d->extents, d->checks, d->marks, d->sums, d->taps, d->declared, d->counts, d->lengths, d->symbols, d->places,
+                             d->sizes, d->discs, d->quotients, d->current, d->saved, declared, frame, size);
+}
+
+static inline tomkhadi_answer tomkhadi_dispatcher_step(tomkhadi_dispatcher *d, size_t job) {
+  return tomkhadi_jobs_step(job, d->states, d->extents, d->checks, d->marks, d->sums, d->taps, d->declared, d->counts, d->lengths, d->symbols, d->places,
+                            d->sizes, d->discs, d->quotients, d->current, d->saved);
+}
+
+static inline tomkhadi_peek_answer tomkhadi_dispatcher_peek(const tomkhadi_dispatcher *d, size_t job) {
+  return tomkhadi_jobs_peek(job, d->states, d->extents, d->checks, d->marks, d->sums, d->declared, d->counts, d->lengths, d->symbols, d->places, d->sizes,
+                            d->discs, d->quotients, d->current, d->saved);
+}
+
+/* One step of the next unfinished job after the one that was served last. With none unfinished it is refused by 33, and nothing is changed. */
+static inline tomkhadi_turned tomkhadi_dispatcher_turn(tomkhadi_dispatcher *d) {
+  return tomkhadi_jobs_turn(&d->last, d->states, d->extents, d->checks, d->marks, d->sums, d->taps, d->declared, d->counts, d->lengths, d->symbols, d->places,
+                            d->sizes, d->discs, d->quotients, d->current, d->saved);
 }
 
 #ifdef __cplusplus
