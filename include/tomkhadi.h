@@ -231,8 +231,9 @@ static inline tomkhadi_answer tomkhadi_repair(tomkhadi_job *job, uint16_t *frame
  * the job unfinished; where no sequence has a symbol, which is where each row has as many declared cells as checks, it does what locate does. Answers that it
  * is unfinished, or what locate answers. Refusals: 21, 7, 31, 4. */
 static inline tomkhadi_answer tomkhadi_start(tomkhadi_job *job, const uint64_t declared[32], const uint16_t *frame, size_t size) {
-  tomkhadi_head_answered started = tomkhadi_head_start(job->head, job->sums, job->taps, job->declared, job->counts, job->lengths, job->symbols, job->places,
-                                                       job->sizes, job->discs, job->quotients, job->current, job->saved, declared, frame, size);
+  tomkhadi_head_answered started =
+      tomkhadi_head_start(job->head, job->sums, job->taps, job->declared, job->counts, job->lengths, job->symbols, job->places, job->sizes, job->discs,
+                          job->quotients, job->current, job->saved, declared, frame, size);
   job->head = started.head;
   return started.answer;
 }
@@ -241,18 +242,18 @@ static inline tomkhadi_answer tomkhadi_start(tomkhadi_job *job, const uint64_t d
  * unfinished; the last step, what locate answers. Refusals: 21, 33, 24, 25, 26. The head of a job that stays unfinished is as it was, unless it has marks that
  * no call left, and need not be stored. */
 static inline tomkhadi_answer tomkhadi_step(tomkhadi_job *job) {
-  tomkhadi_head_answered stepped = tomkhadi_head_step(job->head, job->sums, job->taps, job->declared, job->counts, job->lengths, job->symbols, job->places,
-                                                      job->sizes, job->discs, job->quotients, job->current, job->saved);
+  tomkhadi_head_answered stepped =
+      tomkhadi_head_step(job->head, job->sums, job->taps, job->declared, job->counts, job->lengths, job->symbols, job->places, job->sizes, job->discs,
+                         job->quotients, job->current, job->saved);
   const uint64_t *marks = job->head.marks;
-  if (!stepped.answer.unfinished || (marks[0] | marks[1] | marks[2] | marks[3]))
-    job->head = stepped.head;
+  if (!stepped.answer.unfinished || (marks[0] | marks[1] | marks[2] | marks[3])) job->head = stepped.head;
   return stepped.answer;
 }
 
 /* Tells the length of the shortest register after the rounds that are finished. Leaves the job as it is. Refusals: 21, 33. */
 static inline tomkhadi_peek_answer tomkhadi_peek(const tomkhadi_job *job) {
-  return tomkhadi_head_peek(job->head, job->sums, job->declared, job->counts, job->lengths, job->symbols, job->places, job->sizes, job->discs, job->quotients,
-                            job->current, job->saved);
+  return tomkhadi_head_peek(job->head, job->sums, job->declared, job->counts, job->lengths, job->symbols, job->places, job->sizes, job->discs,
+                            job->quotients, job->current, job->saved);
 }
 
 /* ---- eight jobs */
