@@ -1,3 +1,4 @@
 pub mod Dispatcher
+pub mod DispatcherRuns
 pub mod Exports
 pub mod Runs

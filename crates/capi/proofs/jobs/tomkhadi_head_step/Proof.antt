@@ -3,13 +3,14 @@ use mathlib.Core.Path.{_≡_, ap, ap₂, _∙_}
 use mathlib.Core.List.{[]}
 use denote.Ref.{now}
 use borrow.Author.Needs.{needs}
+use Rattle.dispatcher.proofs.GoingOn.{as-lent}
 use Rattle.mirror.specs.Mirror.{answeredOf}
 use Rattle.job.specs.Calls.{Outcome, step, next}
 use Rattle.job.specs.Job.{Arrays, beside}
 use Rattle.job.specs.declared.Head.{Head}
 use Rattle.slices.specs.Synthesis.{Synthesis, synthesis}
 use Rattle.capi.specs.Exports.{arraysOf}
-use Rattle.capi.proofs.GoingOn.{as-lent, gone-on}
+use Rattle.capi.proofs.GoingOn.{gone-on}
 use Rattle.capi.proofs.jobs.tomkhadi_head_step.Statement.{statement}
 use Rattle.capi.proofs.jobs.tomkhadi_head_step.Tie as tie
 
