@@ -2,7 +2,7 @@
 use mathlib.Core.Path.{_≡_, refl, sym, ap, ap₂, subst, _∙_}
 use mathlib.Core.List.{List, [], _∷_}
 use Prim.Native.Nat.{ℕ}
-use Rattle.dispatcher.specs.Calls.{EmptyDoes}
+use Rattle.dispatch.specs.Calls.{EmptyDoes}
 use Rattle.eight_jobs.specs.Eight.{jobs, emptied, dispatched}
 use Rattle.job.specs.Calls.{Call, shape, encode, locate, repair, start, next, peek}
 use Rattle.kept.specs.Kept.{Heads, Kept, kept, arraysAt, jobsOf, keptAfter}

@@ -2,7 +2,7 @@
 use mathlib.Core.Path.{_≡_, ap, _∙_}
 use mathlib.Core.List.{List}
 use Prim.Native.Nat.{ℕ}
-use Rattle.dispatcher.specs.Told.{Told, TurnTold, Does, Turns}
+use Rattle.dispatch.specs.Told.{Told, TurnTold, Does, Turns}
 use Rattle.job.specs.Calls.{Call}
 use Rattle.kept.specs.Kept.{Kept}
 use Rattle.mirror.specs.declared.CTurned.{CTurned}

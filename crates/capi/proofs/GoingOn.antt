@@ -4,7 +4,7 @@ use mathlib.Core.Bool.{Bool, true}
 use mathlib.Core.List.{List, []}
 use Prim.Native.Nat.{ℕ}
 use lib.Dec.{eqb}
-use Rattle.dispatcher.proofs.GoingOn as Dispatcher
+use Rattle.dispatch.proofs.GoingOn as Dispatcher
 use Rattle.job.specs.Calls.{Outcome, unfinished}
 use Rattle.job.specs.Job.{Arrays, noColumns, unfinishedJob}
 use Rattle.mirror.specs.Mirror.{headOf, answeredOf}

@@ -3,7 +3,7 @@
 use mathlib.Core.Path.{_≡_}
 use mathlib.Core.List.{List, []}
 use Prim.Native.Nat.{ℕ}
-use Rattle.dispatcher.specs.Told.{Told, TurnTold, told, turnTold}
+use Rattle.dispatch.specs.Told.{Told, TurnTold, told, turnTold}
 use Rattle.eight_jobs.specs.Eight.{jobs}
 use Rattle.job.specs.Calls.{Call, shape, encode, locate, repair, start, next, peek}
 use Rattle.kept.specs.Kept.{Heads, Searches, Kept, kept, jobsOf, keptAfter}

@@ -4,8 +4,8 @@
 use mathlib.Core.Path.{_≡_}
 use mathlib.Core.List.{List, [], _∷_}
 use Prim.Native.Nat.{ℕ}
-use Rattle.dispatcher.specs.Calls.{EmptyDoes}
-use Rattle.dispatcher.specs.Told.{told, turnTold}
+use Rattle.dispatch.specs.Calls.{EmptyDoes}
+use Rattle.dispatch.specs.Told.{told, turnTold}
 use Rattle.eight_jobs.specs.Eight.{jobs, dispatched}
 use Rattle.job.specs.Calls.{Call, shape, encode, locate, repair, start, next, peek}
 use Rattle.job.specs.Job.{Arrays}

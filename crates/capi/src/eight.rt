@@ -1,5 +1,5 @@
 // The calls on one of eight jobs and the turn, for C: the arrays of the jobs by pointer. The header makes of each a call on the struct that has these arrays.
-use dispatcher::Said;
+use dispatch::Said;
 use mirror::CAnswer;
 use mirror::CPeeked;
 use mirror::CTurned;
@@ -9,8 +9,8 @@ use mirror::answers::refusal_of;
 ghost use mathlib.Core.List.{[]};
 ghost use mathlib.Core.Path.{_≡_};
 ghost use Rattle.capi.specs.Dispatcher.{answerFor, TurnGives, JobsShape, JobsEncode, JobsLocate, JobsRepair, JobsStart, JobsStep, JobsPeek};
-ghost use Rattle.dispatcher.specs.Calls.{EmptyDoes};
-ghost use Rattle.dispatcher.specs.Told.{saidTold};
+ghost use Rattle.dispatch.specs.Calls.{EmptyDoes};
+ghost use Rattle.dispatch.specs.Told.{saidTold};
 ghost use Rattle.kept.specs.Kept.{heads, kept, searches};
 
 fn said_of(said: Said) -> CAnswer
@@ -31,7 +31,7 @@ pub extern "C" fn tomkhadi_jobs_empty(
 )
     ensures { λ _. ⌜ EmptyDoes (heads (now (states .exit)) (now (extents .exit)) (now (checks .exit)) (now (marks .exit))) (now (last .exit)) ⌝ }
 {
-    dispatcher::empty::empty(last, states, extents, checks, marks);
+    dispatch_calls::empty::empty(last, states, extents, checks, marks);
 }
 
 #[no_mangle]
@@ -48,7 +48,7 @@ pub extern "C" fn tomkhadi_jobs_shape(
     ensures { λ r. ⌜ JobsShape job (heads (now (states .entry)) (now (extents .entry)) (now (checks .entry)) (now (marks .entry))) columns (now (given .entry)) exponent r
         (heads (now (states .exit)) (now (extents .exit)) (now (checks .exit)) (now (marks .exit))) ⌝ }
 {
-    refusal_of(dispatcher::shape::shape(
+    refusal_of(dispatch_calls::shape::shape(
         job,
         states,
         extents,
@@ -71,7 +71,7 @@ pub extern "C" fn tomkhadi_jobs_encode(
 ) -> u32
     ensures { λ r. ⌜ JobsEncode job (heads (now (states .entry)) (now (extents .entry)) (now (checks .entry)) (now (marks .entry))) (now (frame .entry)) r (now (frame .exit)) ⌝ }
 {
-    refusal_of(dispatcher::encode::encode(job, states, extents, checks, marks, frame))
+    refusal_of(dispatch_calls::encode::encode(job, states, extents, checks, marks, frame))
 }
 
 #[no_mangle]
@@ -90,7 +90,7 @@ pub extern "C" fn tomkhadi_jobs_locate(
     ensures { λ r. ⌜ JobsLocate job (heads (now (states .entry)) (now (extents .entry)) (now (checks .entry)) (now (marks .entry))) (now (sums .entry)) (now (taps .entry)) (now (held .entry)) (now (declared .entry)) (now (frame .entry)) r
         (heads (now (states .exit)) (now (extents .exit)) (now (checks .exit)) (now (marks .exit))) (now (sums .exit)) (now (taps .exit)) (now (held .exit)) ⌝ }
 {
-    said_of(dispatcher::locate::locate(
+    said_of(dispatch_calls::locate::locate(
         job,
         states,
         extents,
@@ -118,7 +118,7 @@ pub extern "C" fn tomkhadi_jobs_repair(
     ensures { λ r. ⌜ JobsRepair job (heads (now (states .entry)) (now (extents .entry)) (now (checks .entry)) (now (marks .entry))) (now (sums .entry)) (now (held .entry)) (now (frame .entry)) r
         (heads (now (states .exit)) (now (extents .exit)) (now (checks .exit)) (now (marks .exit))) (now (frame .exit)) ⌝ }
 {
-    said_of(dispatcher::repair::repair(job, states, extents, checks, marks, sums, held, frame))
+    said_of(dispatch_calls::repair::repair(job, states, extents, checks, marks, sums, held, frame))
 }
 
 #[no_mangle]
@@ -151,7 +151,7 @@ pub extern "C" fn tomkhadi_jobs_start(
         (searches (now (counts .exit)) (now (lengths .exit)) (now (symbols .exit)) (now (places .exit)) (now (sizes .exit))
         (now (discs .exit)) (now (quotients .exit)) (now (current .exit)) (now (saved .exit))) ⌝ }
 {
-    said_of(dispatcher::start::start(
+    said_of(dispatch_slices::start::start(
         job,
         states,
         extents,
@@ -201,7 +201,7 @@ pub extern "C" fn tomkhadi_jobs_step(
         (searches (now (counts .exit)) (now (lengths .entry)) (now (symbols .entry)) (now (places .exit)) (now (sizes .exit))
         (now (discs .exit)) (now (quotients .exit)) (now (current .exit)) (now (saved .exit))) ⌝ }
 {
-    said_of(dispatcher::step::step(
+    said_of(dispatch_steps::step::step(
         job,
         states,
         extents,
@@ -245,7 +245,7 @@ pub extern "C" fn tomkhadi_jobs_peek(
         (searches (now (counts .entry)) (now (lengths .entry)) (now (symbols .entry)) (now (places .entry)) (now (sizes .entry))
         (now (discs .entry)) (now (quotients .entry)) (now (current .entry)) (now (saved .entry))) r ⌝ }
 {
-    peeked_of(dispatcher::peek::peek(
+    peeked_of(dispatch_slices::peek::peek(
         job,
         states,
         extents,

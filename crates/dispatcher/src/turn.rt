@@ -1,9 +1,9 @@
 // A turn: the next unfinished job after the one served last, in circular order, makes a step.
-use crate::Turned;
-use crate::answers::no_job;
-use crate::step::serve;
+use dispatch::Turned;
+use dispatch::answers::no_job;
+use dispatch_steps::step::serve;
 use kept::order::next_unfinished;
-ghost use Rattle.dispatcher.specs.Calls.{TurnDoes};
+ghost use Rattle.dispatch.specs.Calls.{TurnDoes};
 ghost use Rattle.kept.specs.Kept.{heads, kept, searches};
 
 pub fn turn(

@@ -3,7 +3,7 @@ use mathlib.Core.Path.{_≡_, ap, ap₂, _∙_}
 use mathlib.Core.List.{[]}
 use denote.Ref.{now}
 use borrow.Author.Needs.{needs}
-use Rattle.dispatcher.proofs.GoingOn.{as-lent}
+use Rattle.dispatch.proofs.GoingOn.{as-lent}
 use Rattle.mirror.specs.Mirror.{answeredOf}
 use Rattle.job.specs.Calls.{Outcome, step, next}
 use Rattle.job.specs.Job.{Arrays, beside}

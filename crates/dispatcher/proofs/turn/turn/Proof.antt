@@ -4,7 +4,7 @@ use borrow.Author.Needs.{needs}
 use Rattle.eight_jobs.specs.Eight.{jobs}
 use Rattle.kept.specs.Kept.{heads, searches, Kept, kept, jobsOf, numberOf}
 use Rattle.turns.specs.Dispatcher.{served}
-use Rattle.dispatcher.proofs.Telling.{serving, idle}
+use Rattle.dispatch.proofs.Telling.{serving, idle}
 use Rattle.dispatcher.proofs.turn.turn.Statement.{statement}
 use Rattle.dispatcher.proofs.turn.turn.Tie as tie
 

@@ -1,0 +1,2 @@
+// A step of one of eight jobs that locates in slices.
+pub mod step;
