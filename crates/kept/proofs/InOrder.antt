@@ -1,7 +1,7 @@
 -- Looking for the next unfinished job, place after place.
 use mathlib.Core.Path.{_≡_, refl, sym, ap, _∙_}
 use mathlib.Core.Bool.{Bool, true, false, cond}
-use mathlib.Core.Option.{Option, none, some}
+use mathlib.Core.Option.{none, some}
 use Prim.Native.Nat.{ℕ, suc, _+_, _-_, _%_, _≤_, _<_}
 use native.Mathlib.Omega.{arith}
 use lib.Dec.{eqb}
@@ -33,34 +33,36 @@ unfolding seek
 seek-none u from = refl
 
 module _ (u : ℕ → Bool) (last : ℕ) where
-  -- i places are looked at, the last of them k, and u holds at none
+  -- u holds at none of the first i places, and k is the next
   pub record Looking (i k : ℕ) : Type 0 where
     pub within : i ≤ 8
-    pub place : k ≡ (last + i) % 8
+    pub place : k ≡ (suc last + i) % 8
     pub rest : seek u (suc last) 8 ≡ seek u (suc last + i) (8 - i)
 
-  pub looks-first : Looking 0 (last % 8)
-  looks-first = record { within = omega arith; place = omega arith; rest = ap (λ (n : ℕ). seek u n 8) (let e : suc last ≡ suc last + 0 = omega arith in e) }
+  pub looks-first : Looking 0 ((last % 8 + 1) % 8)
+  looks-first =
+      record {
+        within = omega arith;
+        place = omega arith;
+        rest = ap (λ (n : ℕ). seek u n 8) (let e : suc last ≡ suc last + 0 = omega arith in e);
+      }
 
   module _ {i k : ℕ} (looking : Looking i k) (more : i < 8) where
-    next-place : (k + 1) % 8 ≡ (suc last + i) % 8
-    next-place = let e = looking .place in omega arith
-
-    one-more : seek u (suc last) 8 ≡ cond (u ((k + 1) % 8)) (some ((k + 1) % 8)) (seek u (suc last + (i + 1)) (8 - (i + 1)))
+    one-more : seek u (suc last) 8 ≡ cond (u k) (some k) (seek u (suc last + (i + 1)) (8 - (i + 1)))
     one-more =
         looking .rest ∙ ap (seek u (suc last + i)) (let e : 8 - i ≡ suc (8 - (i + 1)) = omega arith in e) ∙ seek-suc u (suc last + i) (8 - (i + 1))
-        ∙ ap (λ (n : ℕ). cond (u n) (some n) (seek u (suc (suc last + i)) (8 - (i + 1)))) (sym next-place)
-        ∙ ap (λ (n : ℕ). cond (u ((k + 1) % 8)) (some ((k + 1) % 8)) (seek u n (8 - (i + 1)))) (let e : suc (suc last + i) ≡ suc last + (i + 1) = omega arith in e)
+        ∙ ap (λ (n : ℕ). cond (u n) (some n) (seek u (suc (suc last + i)) (8 - (i + 1)))) (sym (looking .place))
+        ∙ ap (λ (n : ℕ). cond (u k) (some k) (seek u n (8 - (i + 1)))) (let e : suc (suc last + i) ≡ suc last + (i + 1) = omega arith in e)
 
-    pub looks-here : u ((k + 1) % 8) ≡ true → seek u (suc last) 8 ≡ some ((k + 1) % 8)
-    looks-here e = one-more ∙ ap (λ (b : Bool). cond b (some ((k + 1) % 8)) (seek u (suc last + (i + 1)) (8 - (i + 1)))) e
+    pub looks-here : u k ≡ true → seek u (suc last) 8 ≡ some k
+    looks-here e = one-more ∙ ap (λ (b : Bool). cond b (some k) (seek u (suc last + (i + 1)) (8 - (i + 1)))) e
 
-    pub looks-on : u ((k + 1) % 8) ≡ false → Looking (i + 1) ((k + 1) % 8)
+    pub looks-on : u k ≡ false → Looking (i + 1) ((k + 1) % 8)
     looks-on e =
         record {
           within = omega arith;
-          place = next-place ∙ ap (_% 8) (let e : suc last + i ≡ last + (i + 1) = omega arith in e);
-          rest = one-more ∙ ap (λ (b : Bool). cond b (some ((k + 1) % 8)) (seek u (suc last + (i + 1)) (8 - (i + 1)))) e;
+          place = (let p = looking .place in omega arith);
+          rest = one-more ∙ ap (λ (b : Bool). cond b (some k) (seek u (suc last + (i + 1)) (8 - (i + 1)))) e;
         }
 
   pub looks-through : {i k : ℕ} → Looking i k → 8 ≤ i → seek u (suc last) 8 ≡ none

@@ -12,12 +12,12 @@ pub fn next_unfinished(last: usize, states: &[[u32; 3]; 8]) -> usize
         r ≡ numberOf (seek (λ k. isUnfinishedPhase (headAt (heads (now (states .entry)) extents checks marks) k .phase)) (suc last) 8)) ⌝ }
 {
     let mut i = 0usize;
-    let mut k = last % 8;
+    let mut k = (last % 8 + 1) % 8;
     while i < 8 {
-        k = (k + 1) % 8;
         if states[k][0] == 3 {
             return k;
         }
+        k = (k + 1) % 8;
         i += 1;
     }
     8

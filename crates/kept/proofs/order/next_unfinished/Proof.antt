@@ -2,7 +2,7 @@
 use mathlib.Core.Path.{sym, ap}
 use mathlib.Core.Bool.{Bool}
 use mathlib.Core.List.{List}
-use Prim.Native.Nat.{ℕ, _+_, _-_, _%_, _<_}
+use Prim.Native.Nat.{ℕ, _-_, _<_}
 use native.Mathlib.Omega.{arith}
 use Rattle.job.specs.Job.{isUnfinishedPhase}
 use Rattle.mirror.specs.declared.CHead.{CHead}
@@ -25,13 +25,13 @@ abbrev μ-loop : tie.MeasureT-loop
 -- the numbers of the job that is looked at
 abbrev numbers-here : tie.In-loop Inv-loop μ-loop → (extents checks marks : List (List ℕ)) → CHead
 numbers-here c extents checks marks =
-    numbersAt (heads (c .before .before .args .states .now) extents checks marks) ((c .before .loop .k + 1) % 8)
+    numbersAt (heads (c .before .before .args .states .now) extents checks marks) (c .before .loop .k)
 
 returns : tie.Need-returns Inv-loop μ-loop
 returns c = λ extents checks marks.
     let inside = c .before .before in
     let here = three-unfinished (numbers-here inside extents checks marks) (c .if1 .taken) in
-    sym (ap numberOf (looks-here _ _ (inside .before .loop .inv .1 extents checks marks) (inside .loop-test .taken) here))
+    sym (ap numberOf (looks-here _ _ (inside .before .loop .inv .1 extents checks marks) (let less = inside .loop-test .taken in omega arith) here))
 
 loop-again : tie.Need-loop-again Inv-loop μ-loop
 loop-again c =
@@ -39,7 +39,7 @@ loop-again c =
       omega arith,
       λ extents checks marks.
           let here = others-not (numbers-here inside extents checks marks) (c .if1 .left) in
-          looks-on _ _ (inside .before .loop .inv .1 extents checks marks) (inside .loop-test .taken) here,
+          looks-on _ _ (inside .before .loop .inv .1 extents checks marks) (let less = inside .loop-test .taken in omega arith) here,
     )
 
 pub next-unfinished-spec : {M : Type 1} → statement M
@@ -48,12 +48,13 @@ next-unfinished-spec =
     (tie.spec
     Inv-loop
     μ-loop
+    (λ c. omega arith)
     (λ c. (omega arith, λ extents checks marks. looks-first _ _))
     (λ c. omega arith)
     (λ c. omega arith)
     (λ c. omega arith)
-    (λ c. omega arith)
     returns
+    (λ c. omega arith)
     (λ c. omega arith)
     (λ c. omega arith)
     loop-again
