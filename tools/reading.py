@@ -265,6 +265,15 @@ ENTRY_POINTS = [
     "slicing::start::start",
     "slicing::next::next",
     "slicing::peek::peek",
+    "dispatch_calls::empty::empty",
+    "dispatch_calls::shape::shape",
+    "dispatch_calls::encode::encode",
+    "dispatch_calls::locate::locate",
+    "dispatch_calls::repair::repair",
+    "dispatch_slices::start::start",
+    "dispatch_slices::peek::peek",
+    "dispatch_steps::step::step",
+    "dispatcher::turn::turn",
 ]
 
 # What the program does with the bytes that it is given. Its callers meet what these ask for.
