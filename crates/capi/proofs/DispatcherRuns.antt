@@ -4,13 +4,13 @@ use mathlib.Core.List.{List, [], _∷_}
 use Prim.Native.Nat.{ℕ}
 use Rattle.dispatch.specs.Calls.{EmptyDoes}
 use Rattle.eight_jobs.specs.Eight.{jobs, emptied, dispatched}
-use Rattle.job.specs.Calls.{Call, shape, encode, locate, repair, start, next, peek}
-use Rattle.kept.specs.Kept.{Heads, Kept, kept, arraysAt, jobsOf, keptAfter}
-use Rattle.kept.specs.Runs.{EightKept, Keeps, KeptRuns, keptRun, emptyHeads}
+use Rattle.job.specs.Calls.{shape, encode, locate, repair, start, next, peek}
+use Rattle.kept.specs.Kept.{Heads, Kept, kept, arraysAt, jobsOf}
+use Rattle.kept.specs.Runs.{EightKept, Keeps, KeptRuns, keptRun}
 use Rattle.kept.proofs.FirstJobs.{starts-empty}
 use Rattle.kept.proofs.Runs.{faithful}
-use Rattle.turns.specs.Dispatcher.{Event, on, turn, Reply, reply}
-use Rattle.capi.specs.DispatcherRuns.{DReply, number, answer, peeked, turned, DReturn, DStep, DRun, replyFor, frameFor, DGiven, DReturned, DEdge}
+use Rattle.turns.specs.Dispatcher.{Event, on, turn, reply}
+use Rattle.capi.specs.DispatcherRuns.{number, answer, peeked, turned, DReturn, DStep, DRun, replyFor, frameFor, DGiven, DReturned, DEdge}
 
 -- by what the function promises of each struct
 given : (p : Kept) (e : Event jobs) (r : DReturn) → DStep p e r → DGiven p e r

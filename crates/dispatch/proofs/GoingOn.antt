@@ -1,5 +1,5 @@
 -- A step made in place, of a head in numbers: one that goes on is the call, and where it does not go on nothing has changed.
-use mathlib.Core.Path.{_≡_, sym, ap, ap₂, _∙_}
+use mathlib.Core.Path.{_≡_, sym, ap, _∙_}
 use mathlib.Core.Bool.{Bool, true, false, cond, and-eq-true-iff}
 use mathlib.Core.List.{List, []}
 use Prim.Native.Nat.{ℕ}
@@ -7,7 +7,7 @@ use lib.Dec.{eqb}
 use borrow.Author.Tests.{eqb-true}
 use Rattle.frame.specs.declared.Shape.{Shape}
 use Rattle.job.specs.Answers.{answeredOutcome}
-use Rattle.job.specs.Calls.{Outcome, step, next}
+use Rattle.job.specs.Calls.{step, next}
 use Rattle.job.specs.Job.{beside}
 use Rattle.job.specs.declared.Head.{Head}
 use Rattle.job.specs.declared.Phase.{Phase}

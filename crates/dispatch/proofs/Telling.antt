@@ -10,7 +10,7 @@ use Rattle.eight_jobs.specs.Eight.{jobs}
 use Rattle.job.specs.Calls.{Call, next}
 use Rattle.job.specs.Refusals.{lentTo}
 use Rattle.kept.specs.Kept.{Kept, withLast, jobsOf, madeOf, servedOf, keptAfter, numberOf}
-use Rattle.turns.specs.Dispatcher.{on, turn, turnReply, reply, served}
+use Rattle.turns.specs.Dispatcher.{turn, turnReply, reply, served}
 use Rattle.turns.proofs.Calling.{calling}
 use Rattle.turns.proofs.Seeking.{Looked, looked, found-below}
 use Rattle.dispatch.specs.Calls.{Made}

@@ -1,5 +1,5 @@
--- What each function of the dispatcher does, of what it is lent: parts that it is not lent may hold anything and stay. A name after `→` of a part is what is left
--- in its place.
+-- What each function of the dispatcher does with what it is lent: before the answer stand the parts as they are lent, after it those that are left in their place.
+-- Parts that are not lent may hold anything, and stay.
 use mathlib.Core.Path.{_≡_}
 use mathlib.Core.List.{List, []}
 use Prim.Native.Nat.{ℕ}

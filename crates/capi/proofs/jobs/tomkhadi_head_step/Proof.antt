@@ -1,5 +1,5 @@
 -- `capi::jobs::tomkhadi_head_step` meets its contract, by those of the functions that it calls.
-use mathlib.Core.Path.{_≡_, ap, ap₂, _∙_}
+use mathlib.Core.Path.{ap, ap₂, _∙_}
 use mathlib.Core.List.{[]}
 use denote.Ref.{now}
 use borrow.Author.Needs.{needs}

@@ -1,10 +1,9 @@
 -- `dispatch_calls::locate::locate` meets its contract, by that of the call on one job.
 use mathlib.Core.Path.{refl, ap, _∙_}
-use mathlib.Core.List.{List, []}
 use Prim.Native.Nat.{ℕ}
 use borrow.Author.Needs.{needs}
 use Rattle.job.specs.Calls.{Call, locate, step}
-use Rattle.job.specs.Job.{beside, withFound}
+use Rattle.job.specs.Job.{beside}
 use Rattle.job.specs.declared.Head.{Head}
 use Rattle.kept.specs.Kept.{heads, Searches, Kept, kept, arraysAt}
 use Rattle.dispatch.proofs.Making.{made, found-put}
