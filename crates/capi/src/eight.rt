@@ -45,7 +45,8 @@ pub extern "C" fn tomkhadi_jobs_shape(
     given: &[u16],
     exponent: u32,
 ) -> u32
-    ensures { λ r. ⌜ JobsShape job (heads (now (states .entry)) (now (extents .entry)) (now (checks .entry)) (now (marks .entry))) columns (now (given .entry)) exponent r
+    ensures { λ r. ⌜ JobsShape job (heads (now (states .entry)) (now (extents .entry)) (now (checks .entry)) (now (marks .entry))) columns
+        (now (given .entry)) exponent r
         (heads (now (states .exit)) (now (extents .exit)) (now (checks .exit)) (now (marks .exit))) ⌝ }
 {
     refusal_of(dispatch_calls::shape::shape(
@@ -69,7 +70,8 @@ pub extern "C" fn tomkhadi_jobs_encode(
     marks: &[[u64; 4]; 8],
     frame: &mut [u16],
 ) -> u32
-    ensures { λ r. ⌜ JobsEncode job (heads (now (states .entry)) (now (extents .entry)) (now (checks .entry)) (now (marks .entry))) (now (frame .entry)) r (now (frame .exit)) ⌝ }
+    ensures { λ r. ⌜ JobsEncode job (heads (now (states .entry)) (now (extents .entry)) (now (checks .entry)) (now (marks .entry)))
+        (now (frame .entry)) r (now (frame .exit)) ⌝ }
 {
     refusal_of(dispatch_calls::encode::encode(job, states, extents, checks, marks, frame))
 }
@@ -87,7 +89,8 @@ pub extern "C" fn tomkhadi_jobs_locate(
     declared: &[u64; 32],
     frame: &[u16],
 ) -> CAnswer
-    ensures { λ r. ⌜ JobsLocate job (heads (now (states .entry)) (now (extents .entry)) (now (checks .entry)) (now (marks .entry))) (now (sums .entry)) (now (taps .entry)) (now (held .entry)) (now (declared .entry)) (now (frame .entry)) r
+    ensures { λ r. ⌜ JobsLocate job (heads (now (states .entry)) (now (extents .entry)) (now (checks .entry)) (now (marks .entry))) (now (sums .entry))
+        (now (taps .entry)) (now (held .entry)) (now (declared .entry)) (now (frame .entry)) r
         (heads (now (states .exit)) (now (extents .exit)) (now (checks .exit)) (now (marks .exit))) (now (sums .exit)) (now (taps .exit)) (now (held .exit)) ⌝ }
 {
     said_of(dispatch_calls::locate::locate(
@@ -115,7 +118,8 @@ pub extern "C" fn tomkhadi_jobs_repair(
     held: &[[u64; 32]; 8],
     frame: &mut [u16],
 ) -> CAnswer
-    ensures { λ r. ⌜ JobsRepair job (heads (now (states .entry)) (now (extents .entry)) (now (checks .entry)) (now (marks .entry))) (now (sums .entry)) (now (held .entry)) (now (frame .entry)) r
+    ensures { λ r. ⌜ JobsRepair job (heads (now (states .entry)) (now (extents .entry)) (now (checks .entry)) (now (marks .entry))) (now (sums .entry))
+        (now (held .entry)) (now (frame .entry)) r
         (heads (now (states .exit)) (now (extents .exit)) (now (checks .exit)) (now (marks .exit))) (now (frame .exit)) ⌝ }
 {
     said_of(dispatch_calls::repair::repair(job, states, extents, checks, marks, sums, held, frame))
@@ -143,7 +147,8 @@ pub extern "C" fn tomkhadi_jobs_start(
     declared: &[u64; 32],
     frame: &[u16],
 ) -> CAnswer
-    ensures { λ r. ⌜ JobsStart job (heads (now (states .entry)) (now (extents .entry)) (now (checks .entry)) (now (marks .entry))) (now (sums .entry)) (now (taps .entry)) (now (held .entry))
+    ensures { λ r. ⌜ JobsStart job (heads (now (states .entry)) (now (extents .entry)) (now (checks .entry)) (now (marks .entry))) (now (sums .entry))
+        (now (taps .entry)) (now (held .entry))
         (searches (now (counts .entry)) (now (lengths .entry)) (now (symbols .entry)) (now (places .entry)) (now (sizes .entry))
         (now (discs .entry)) (now (quotients .entry)) (now (current .entry)) (now (saved .entry)))
         (now (declared .entry)) (now (frame .entry)) r (heads (now (states .exit)) (now (extents .exit)) (now (checks .exit)) (now (marks .exit)))
@@ -194,7 +199,8 @@ pub extern "C" fn tomkhadi_jobs_step(
     current: &mut [[u16; 144]; 8],
     saved: &mut [[u16; 1152]; 8],
 ) -> CAnswer
-    ensures { λ r. ⌜ JobsStep job (heads (now (states .entry)) (now (extents .entry)) (now (checks .entry)) (now (marks .entry))) (now (sums .entry)) (now (taps .entry)) (now (held .entry))
+    ensures { λ r. ⌜ JobsStep job (heads (now (states .entry)) (now (extents .entry)) (now (checks .entry)) (now (marks .entry))) (now (sums .entry))
+        (now (taps .entry)) (now (held .entry))
         (searches (now (counts .entry)) (now (lengths .entry)) (now (symbols .entry)) (now (places .entry)) (now (sizes .entry))
         (now (discs .entry)) (now (quotients .entry)) (now (current .entry)) (now (saved .entry)))
         r (heads (now (states .exit)) (now (extents .exit)) (now (checks .exit)) (now (marks .exit))) (now (taps .exit))
@@ -241,7 +247,8 @@ pub extern "C" fn tomkhadi_jobs_peek(
     current: &[[u16; 144]; 8],
     saved: &[[u16; 1152]; 8],
 ) -> CPeeked
-    ensures { λ r. ⌜ JobsPeek job (heads (now (states .entry)) (now (extents .entry)) (now (checks .entry)) (now (marks .entry))) (now (sums .entry)) (now (held .entry))
+    ensures { λ r. ⌜ JobsPeek job (heads (now (states .entry)) (now (extents .entry)) (now (checks .entry)) (now (marks .entry))) (now (sums .entry))
+        (now (held .entry))
         (searches (now (counts .entry)) (now (lengths .entry)) (now (symbols .entry)) (now (places .entry)) (now (sizes .entry))
         (now (discs .entry)) (now (quotients .entry)) (now (current .entry)) (now (saved .entry))) r ⌝ }
 {
@@ -285,11 +292,13 @@ pub extern "C" fn tomkhadi_jobs_turn(
     current: &mut [[u16; 144]; 8],
     saved: &mut [[u16; 1152]; 8],
 ) -> CTurned
-    ensures { λ r. ⌜ TurnGives (kept (heads (now (states .entry)) (now (extents .entry)) (now (checks .entry)) (now (marks .entry))) (now (sums .entry)) (now (taps .entry)) (now (held .entry))
+    ensures { λ r. ⌜ TurnGives (kept (heads (now (states .entry)) (now (extents .entry)) (now (checks .entry)) (now (marks .entry))) (now (sums .entry))
+        (now (taps .entry)) (now (held .entry))
         (searches (now (counts .entry)) (now (lengths .entry)) (now (symbols .entry)) (now (places .entry)) (now (sizes .entry))
         (now (discs .entry)) (now (quotients .entry)) (now (current .entry)) (now (saved .entry))) (now (last .entry)))
         r
-        (kept (heads (now (states .exit)) (now (extents .exit)) (now (checks .exit)) (now (marks .exit))) (now (sums .entry)) (now (taps .exit)) (now (held .entry))
+        (kept (heads (now (states .exit)) (now (extents .exit)) (now (checks .exit)) (now (marks .exit))) (now (sums .entry)) (now (taps .exit))
+        (now (held .entry))
         (searches (now (counts .exit)) (now (lengths .entry)) (now (symbols .entry)) (now (places .exit)) (now (sizes .exit))
         (now (discs .exit)) (now (quotients .exit)) (now (current .exit)) (now (saved .exit))) (now (last .exit))) ⌝ }
 {

@@ -14,7 +14,8 @@ pub fn encode(
     marks: &[[u64; 4]; 8],
     frame: &mut [u16],
 ) -> Checked
-    ensures { λ r. ⌜ EncodeDoes k (heads (now (states .entry)) (now (extents .entry)) (now (checks .entry)) (now (marks .entry))) (now (frame .entry)) r (now (frame .exit)) ⌝ }
+    ensures { λ r. ⌜ EncodeDoes k (heads (now (states .entry)) (now (extents .entry)) (now (checks .entry)) (now (marks .entry))) (now (frame .entry)) r
+        (now (frame .exit)) ⌝ }
 {
     if k >= 8 {
         return Checked::Refuse(Refusal::NotUnfinished);

@@ -20,7 +20,8 @@ pub fn locate(
     declared: &[u64; 32],
     frame: &[u16],
 ) -> Said
-    ensures { λ r. ⌜ LocateDoes k (heads (now (states .entry)) (now (extents .entry)) (now (checks .entry)) (now (marks .entry))) (now (sums .entry)) (now (taps .entry)) (now (held .entry)) (now (declared .entry)) (now (frame .entry)) r
+    ensures { λ r. ⌜ LocateDoes k (heads (now (states .entry)) (now (extents .entry)) (now (checks .entry)) (now (marks .entry))) (now (sums .entry))
+        (now (taps .entry)) (now (held .entry)) (now (declared .entry)) (now (frame .entry)) r
         (heads (now (states .exit)) (now (extents .exit)) (now (checks .exit)) (now (marks .exit))) (now (sums .exit)) (now (taps .exit)) (now (held .exit)) ⌝ }
 {
     if k >= 8 {

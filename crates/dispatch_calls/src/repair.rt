@@ -18,7 +18,8 @@ pub fn repair(
     held: &[[u64; 32]; 8],
     frame: &mut [u16],
 ) -> Said
-    ensures { λ r. ⌜ RepairDoes k (heads (now (states .entry)) (now (extents .entry)) (now (checks .entry)) (now (marks .entry))) (now (sums .entry)) (now (held .entry)) (now (frame .entry)) r
+    ensures { λ r. ⌜ RepairDoes k (heads (now (states .entry)) (now (extents .entry)) (now (checks .entry)) (now (marks .entry))) (now (sums .entry))
+        (now (held .entry)) (now (frame .entry)) r
         (heads (now (states .exit)) (now (extents .exit)) (now (checks .exit)) (now (marks .exit))) (now (frame .exit)) ⌝ }
 {
     if k >= 8 {

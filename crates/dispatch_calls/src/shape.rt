@@ -17,7 +17,8 @@ pub fn shape(
     given: &[u16],
     exponent: u32,
 ) -> Checked
-    ensures { λ r. ⌜ ShapeDoes k (heads (now (states .entry)) (now (extents .entry)) (now (checks .entry)) (now (marks .entry))) columns (now (given .entry)) exponent r
+    ensures { λ r. ⌜ ShapeDoes k (heads (now (states .entry)) (now (extents .entry)) (now (checks .entry)) (now (marks .entry))) columns
+        (now (given .entry)) exponent r
         (heads (now (states .exit)) (now (extents .exit)) (now (checks .exit)) (now (marks .exit))) ⌝ }
 {
     if k >= 8 {

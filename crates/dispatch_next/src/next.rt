@@ -28,7 +28,8 @@ pub fn next(
     saved: &mut [[u16; 1152]; 8],
 ) -> Said
     requires { ⌜ k < 8 ⌝ }
-    ensures { λ r. ⌜ Served k (heads (now (states .entry)) (now (extents .entry)) (now (checks .entry)) (now (marks .entry))) (now (sums .entry)) (now (taps .entry)) (now (held .entry))
+    ensures { λ r. ⌜ Served k (heads (now (states .entry)) (now (extents .entry)) (now (checks .entry)) (now (marks .entry))) (now (sums .entry))
+        (now (taps .entry)) (now (held .entry))
         (searches (now (counts .entry)) (now (lengths .entry)) (now (symbols .entry)) (now (places .entry)) (now (sizes .entry))
         (now (discs .entry)) (now (quotients .entry)) (now (register .entry)) (now (saved .entry)))
         r (heads (now (states .exit)) (now (extents .exit)) (now (checks .exit)) (now (marks .exit))) (now (taps .exit))

@@ -24,7 +24,8 @@ pub fn peek(
     register: &[[u16; 144]; 8],
     saved: &[[u16; 1152]; 8],
 ) -> Peeked
-    ensures { λ r. ⌜ PeekDoes k (heads (now (states .entry)) (now (extents .entry)) (now (checks .entry)) (now (marks .entry))) (now (sums .entry)) (now (held .entry))
+    ensures { λ r. ⌜ PeekDoes k (heads (now (states .entry)) (now (extents .entry)) (now (checks .entry)) (now (marks .entry))) (now (sums .entry))
+        (now (held .entry))
         (searches (now (counts .entry)) (now (lengths .entry)) (now (symbols .entry)) (now (places .entry)) (now (sizes .entry))
         (now (discs .entry)) (now (quotients .entry)) (now (register .entry)) (now (saved .entry))) r ⌝ }
 {

@@ -29,7 +29,8 @@ pub fn start(
     declared: &[u64; 32],
     frame: &[u16],
 ) -> Said
-    ensures { λ r. ⌜ StartDoes k (heads (now (states .entry)) (now (extents .entry)) (now (checks .entry)) (now (marks .entry))) (now (sums .entry)) (now (taps .entry)) (now (held .entry))
+    ensures { λ r. ⌜ StartDoes k (heads (now (states .entry)) (now (extents .entry)) (now (checks .entry)) (now (marks .entry))) (now (sums .entry))
+        (now (taps .entry)) (now (held .entry))
         (searches (now (counts .entry)) (now (lengths .entry)) (now (symbols .entry)) (now (places .entry)) (now (sizes .entry))
         (now (discs .entry)) (now (quotients .entry)) (now (register .entry)) (now (saved .entry)))
         (now (declared .entry)) (now (frame .entry)) r (heads (now (states .exit)) (now (extents .exit)) (now (checks .exit)) (now (marks .exit)))

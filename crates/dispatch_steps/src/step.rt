@@ -8,7 +8,7 @@ ghost use Prim.Native.Nat.{_<_};
 ghost use Rattle.dispatch.specs.Calls.{Served, StepDoes};
 ghost use Rattle.kept.specs.Kept.{heads, searches};
 
-// All steps but the last one go on where they are; of the head only what a forged one could have beside the phase is written.
+// All steps but the last one are made in place, and leave the head as a start does: numbers that only a forged one has are written over.
 pub fn serve(
     k: usize,
     states: &mut [[u32; 3]; 8],
@@ -29,7 +29,8 @@ pub fn serve(
     saved: &mut [[u16; 1152]; 8],
 ) -> Said
     requires { ⌜ k < 8 ⌝ }
-    ensures { λ r. ⌜ Served k (heads (now (states .entry)) (now (extents .entry)) (now (checks .entry)) (now (marks .entry))) (now (sums .entry)) (now (taps .entry)) (now (held .entry))
+    ensures { λ r. ⌜ Served k (heads (now (states .entry)) (now (extents .entry)) (now (checks .entry)) (now (marks .entry))) (now (sums .entry))
+        (now (taps .entry)) (now (held .entry))
         (searches (now (counts .entry)) (now (lengths .entry)) (now (symbols .entry)) (now (places .entry)) (now (sizes .entry))
         (now (discs .entry)) (now (quotients .entry)) (now (register .entry)) (now (saved .entry)))
         r (heads (now (states .exit)) (now (extents .exit)) (now (checks .exit)) (now (marks .exit))) (now (taps .exit))
@@ -97,7 +98,8 @@ pub fn step(
     register: &mut [[u16; 144]; 8],
     saved: &mut [[u16; 1152]; 8],
 ) -> Said
-    ensures { λ r. ⌜ StepDoes k (heads (now (states .entry)) (now (extents .entry)) (now (checks .entry)) (now (marks .entry))) (now (sums .entry)) (now (taps .entry)) (now (held .entry))
+    ensures { λ r. ⌜ StepDoes k (heads (now (states .entry)) (now (extents .entry)) (now (checks .entry)) (now (marks .entry))) (now (sums .entry))
+        (now (taps .entry)) (now (held .entry))
         (searches (now (counts .entry)) (now (lengths .entry)) (now (symbols .entry)) (now (places .entry)) (now (sizes .entry))
         (now (discs .entry)) (now (quotients .entry)) (now (register .entry)) (now (saved .entry)))
         r (heads (now (states .exit)) (now (extents .exit)) (now (checks .exit)) (now (marks .exit))) (now (taps .exit))

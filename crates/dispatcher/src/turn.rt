@@ -25,11 +25,13 @@ pub fn turn(
     register: &mut [[u16; 144]; 8],
     saved: &mut [[u16; 1152]; 8],
 ) -> Turned
-    ensures { λ r. ⌜ TurnDoes (kept (heads (now (states .entry)) (now (extents .entry)) (now (checks .entry)) (now (marks .entry))) (now (sums .entry)) (now (taps .entry)) (now (held .entry))
+    ensures { λ r. ⌜ TurnDoes (kept (heads (now (states .entry)) (now (extents .entry)) (now (checks .entry)) (now (marks .entry))) (now (sums .entry))
+        (now (taps .entry)) (now (held .entry))
         (searches (now (counts .entry)) (now (lengths .entry)) (now (symbols .entry)) (now (places .entry)) (now (sizes .entry))
         (now (discs .entry)) (now (quotients .entry)) (now (register .entry)) (now (saved .entry))) (now (last .entry)))
         r
-        (kept (heads (now (states .exit)) (now (extents .exit)) (now (checks .exit)) (now (marks .exit))) (now (sums .entry)) (now (taps .exit)) (now (held .entry))
+        (kept (heads (now (states .exit)) (now (extents .exit)) (now (checks .exit)) (now (marks .exit))) (now (sums .entry)) (now (taps .exit))
+        (now (held .entry))
         (searches (now (counts .exit)) (now (lengths .entry)) (now (symbols .entry)) (now (places .exit)) (now (sizes .exit))
         (now (discs .exit)) (now (quotients .exit)) (now (register .exit)) (now (saved .exit))) (now (last .exit))) ⌝ }
 {
