@@ -1,4 +1,4 @@
-/* The header's calls on a job are inline; here they are functions that interface.rs can name. */
+/* The header's calls on a job and on eight jobs are inline; here they are functions that interface.rs can name. */
 #include "tomkhadi.h"
 
 void header_empty(tomkhadi_job *job) {
@@ -31,4 +31,40 @@ tomkhadi_answer header_step(tomkhadi_job *job) {
 
 tomkhadi_peek_answer header_peek(const tomkhadi_job *job) {
   return tomkhadi_peek(job);
+}
+
+void header_dispatcher_empty(tomkhadi_dispatcher *d) {
+  tomkhadi_dispatcher_empty(d);
+}
+
+uint32_t header_dispatcher_shape(tomkhadi_dispatcher *d, size_t job, size_t columns, const uint16_t *checks, size_t rows, uint32_t exponent) {
+  return tomkhadi_dispatcher_shape(d, job, columns, checks, rows, exponent);
+}
+
+uint32_t header_dispatcher_encode(const tomkhadi_dispatcher *d, size_t job, uint16_t *frame, size_t size) {
+  return tomkhadi_dispatcher_encode(d, job, frame, size);
+}
+
+tomkhadi_answer header_dispatcher_locate(tomkhadi_dispatcher *d, size_t job, const uint64_t declared[32], const uint16_t *frame, size_t size) {
+  return tomkhadi_dispatcher_locate(d, job, declared, frame, size);
+}
+
+tomkhadi_answer header_dispatcher_repair(tomkhadi_dispatcher *d, size_t job, uint16_t *frame, size_t size) {
+  return tomkhadi_dispatcher_repair(d, job, frame, size);
+}
+
+tomkhadi_answer header_dispatcher_start(tomkhadi_dispatcher *d, size_t job, const uint64_t declared[32], const uint16_t *frame, size_t size) {
+  return tomkhadi_dispatcher_start(d, job, declared, frame, size);
+}
+
+tomkhadi_answer header_dispatcher_step(tomkhadi_dispatcher *d, size_t job) {
+  return tomkhadi_dispatcher_step(d, job);
+}
+
+tomkhadi_peek_answer header_dispatcher_peek(const tomkhadi_dispatcher *d, size_t job) {
+  return tomkhadi_dispatcher_peek(d, job);
+}
+
+tomkhadi_turned header_dispatcher_turn(tomkhadi_dispatcher *d) {
+  return tomkhadi_dispatcher_turn(d);
 }

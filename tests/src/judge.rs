@@ -6,13 +6,14 @@ use std::collections::BTreeMap;
 use std::fmt::Debug;
 
 use common::interface::{
-    Answer, Calls, Columns, Declared, EMPTY, Head, Job, LOCATED, NOTHING, Register, Slices,
+    Answer, Calls, Columns, Declared, EMPTY, EightJobs, Head, Job, LOCATED, NOTHING, Register,
+    Slices,
 };
 
 use crate::independent::{Independent, shape_of};
 
 /// The answers that the inputs tried must bring about, each at least once.
-const ANSWERS: [(&str, &[u32]); 9] = [
+const ANSWERS: [(&str, &[u32]); 17] = [
     ("find", &[0, 1, 2, 3, 4, 8]),
     ("search", &[0, 4, 5]),
     ("shape", &[0, 2, 5, 6, 32]),
@@ -22,6 +23,14 @@ const ANSWERS: [(&str, &[u32]); 9] = [
     ("start", &[0, 4, 7, 21, 31]),
     ("step", &[0, 21, 24, 25, 26, 33]),
     ("peek", &[0, 21, 33]),
+    ("jobs_shape", &[0, 2, 5, 6, 32, 33]),
+    ("jobs_encode", &[0, 4, 7, 21, 33]),
+    ("jobs_locate", &[0, 4, 7, 21, 24, 25, 26, 31, 33]),
+    ("jobs_repair", &[0, 4, 7, 21, 22, 23, 33]),
+    ("jobs_start", &[0, 4, 7, 21, 31, 33]),
+    ("jobs_step", &[0, 21, 24, 25, 26, 33]),
+    ("jobs_peek", &[0, 21, 33]),
+    ("jobs_turn", &[0, 21, 24, 25, 26, 33]),
 ];
 
 pub struct Judge<'a> {
@@ -51,17 +60,17 @@ pub const FILLED: Job = Job {
 
 /// A lent buffer, between two margins that no call may touch.
 #[derive(Clone, Debug, PartialEq)]
-struct Lent(Vec<u16>);
+pub struct Lent(Vec<u16>);
 
 const MARGIN: usize = 3;
 
 impl Lent {
-    fn new(contents: &[u16]) -> Lent {
+    pub fn new(contents: &[u16]) -> Lent {
         let margin = [0xa5a5; MARGIN];
         Lent([&margin, contents, &margin].concat())
     }
 
-    fn contents(&mut self) -> &mut [u16] {
+    pub fn contents(&mut self) -> &mut [u16] {
         let end = self.0.len() - MARGIN;
         &mut self.0[MARGIN..end]
     }
@@ -105,7 +114,7 @@ fn refused(job: &Job, refusal: u32) -> Job {
 
 /// The head without the differences that nobody can see between values that count as the same: the
 /// phase of one that counts as empty, and the length and alone mark of one that is not located.
-fn settled(head: &Head) -> Head {
+pub fn settled(head: &Head) -> Head {
     match shape_of(head) {
         None => Head {
             phase: EMPTY,
@@ -165,6 +174,18 @@ impl<'a> Judge<'a> {
     /// Its calls that locate in slices, where it has them.
     pub fn slices(&self) -> Option<&'a dyn Slices> {
         self.subject.slices()
+    }
+
+    /// Its calls on eight jobs, where it has them.
+    pub fn eight_jobs(&self) -> Option<&'a dyn EightJobs> {
+        self.subject.eight_jobs()
+    }
+
+    fn has(&self, call: &str) -> bool {
+        match call {
+            "start" | "step" | "peek" => self.slices().is_some(),
+            _ => !call.starts_with("jobs_") || self.eight_jobs().is_some(),
+        }
     }
 
     pub fn answered(&mut self, call: &'static str, refusal: u32) {
@@ -313,14 +334,13 @@ impl<'a> Judge<'a> {
 
     /// Prints how often each answer came, and the verdict. True if all is well.
     pub fn finish(mut self) -> bool {
-        let in_slices = ["start", "step", "peek"];
         for (call, refusals) in ANSWERS {
-            if self.slices().is_none() && in_slices.contains(&call) {
+            if !self.has(call) {
                 continue;
             }
             for &refusal in refusals {
                 let count = self.answers.get(&(call, refusal)).copied().unwrap_or(0);
-                println!("{call:>6} {refusal:>2}: {count}");
+                println!("{call:>11} {refusal:>2}: {count}");
                 self.expect(
                     "an answer that was never given",
                     &(call, refusal),

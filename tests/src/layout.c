@@ -1,7 +1,7 @@
 /* Sizes and places in the structs of the header, in the order of trials/layout.rs. */
 #include "tomkhadi.h"
 
-const size_t tomkhadi_layout[54] = {
+const size_t tomkhadi_layout[77] = {
     sizeof(tomkhadi_register),
     _Alignof(tomkhadi_register),
     offsetof(tomkhadi_register, refusal),
@@ -56,4 +56,27 @@ const size_t tomkhadi_layout[54] = {
     _Alignof(tomkhadi_head_answered),
     offsetof(tomkhadi_head_answered, answer),
     offsetof(tomkhadi_head_answered, head),
+    sizeof(tomkhadi_dispatcher),
+    _Alignof(tomkhadi_dispatcher),
+    offsetof(tomkhadi_dispatcher, last),
+    offsetof(tomkhadi_dispatcher, states),
+    offsetof(tomkhadi_dispatcher, extents),
+    offsetof(tomkhadi_dispatcher, checks),
+    offsetof(tomkhadi_dispatcher, marks),
+    offsetof(tomkhadi_dispatcher, declared),
+    offsetof(tomkhadi_dispatcher, sums),
+    offsetof(tomkhadi_dispatcher, taps),
+    offsetof(tomkhadi_dispatcher, counts),
+    offsetof(tomkhadi_dispatcher, lengths),
+    offsetof(tomkhadi_dispatcher, places),
+    offsetof(tomkhadi_dispatcher, sizes),
+    offsetof(tomkhadi_dispatcher, discs),
+    offsetof(tomkhadi_dispatcher, quotients),
+    offsetof(tomkhadi_dispatcher, current),
+    offsetof(tomkhadi_dispatcher, symbols),
+    offsetof(tomkhadi_dispatcher, saved),
+    sizeof(tomkhadi_turned),
+    _Alignof(tomkhadi_turned),
+    offsetof(tomkhadi_turned, job),
+    offsetof(tomkhadi_turned, answer),
 };

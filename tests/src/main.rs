@@ -28,7 +28,7 @@ fn subject() -> Box<dyn Calls> {
 
 type Trial = fn(&mut Judge);
 
-const TRIALS: [(&str, Trial); 13] = [
+const TRIALS: [(&str, Trial); 14] = [
     ("layout", trials::layout::run),
     ("prototypes", trials::prototypes::run),
     ("examples", trials::examples::run),
@@ -42,6 +42,7 @@ const TRIALS: [(&str, Trial); 13] = [
     ("slices", trials::slices::run),
     ("forged jobs", trials::forged::run),
     ("lists of calls", trials::lists::run),
+    ("eight jobs", trials::dispatcher::run),
 ];
 
 fn main() -> ExitCode {

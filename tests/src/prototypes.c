@@ -23,6 +23,27 @@ static tomkhadi_head_answered (*const head_step)(tomkhadi_head, const uint16_t *
 static tomkhadi_peek_answer (*const head_peek)(tomkhadi_head, const uint16_t *, const uint64_t *, const uint16_t *, const uint16_t *, const uint16_t *,
                                                const uint16_t *, const uint16_t *, const uint16_t *, const uint16_t *, const uint16_t *,
                                                const uint16_t *) = tomkhadi_head_peek;
+static void (*const jobs_empty)(uint64_t *, uint32_t *, uint64_t *, uint16_t *, uint64_t *) = tomkhadi_jobs_empty;
+static uint32_t (*const jobs_shape)(size_t, uint32_t *, uint64_t *, uint16_t *, uint64_t *, size_t, const uint16_t *, size_t,
+                                    uint32_t) = tomkhadi_jobs_shape;
+static uint32_t (*const jobs_encode)(size_t, const uint32_t *, const uint64_t *, const uint16_t *, const uint64_t *, uint16_t *,
+                                     size_t) = tomkhadi_jobs_encode;
+static tomkhadi_answer (*const jobs_locate)(size_t, uint32_t *, uint64_t *, uint16_t *, uint64_t *, uint16_t *, uint16_t *, uint64_t *, const uint64_t *,
+                                            const uint16_t *, size_t) = tomkhadi_jobs_locate;
+static tomkhadi_answer (*const jobs_repair)(size_t, uint32_t *, uint64_t *, uint16_t *, uint64_t *, const uint16_t *, const uint64_t *, uint16_t *,
+                                            size_t) = tomkhadi_jobs_repair;
+static tomkhadi_answer (*const jobs_start)(size_t, uint32_t *, uint64_t *, uint16_t *, uint64_t *, uint16_t *, uint16_t *, uint64_t *, uint16_t *,
+                                           uint16_t *, uint16_t *, uint16_t *, uint16_t *, uint16_t *, uint16_t *, uint16_t *, uint16_t *,
+                                           const uint64_t *, const uint16_t *, size_t) = tomkhadi_jobs_start;
+static tomkhadi_answer (*const jobs_step)(size_t, uint32_t *, uint64_t *, uint16_t *, uint64_t *, const uint16_t *, uint16_t *, const uint64_t *, uint16_t *,
+                                          const uint16_t *, const uint16_t *, uint16_t *, uint16_t *, uint16_t *, uint16_t *, uint16_t *,
+                                          uint16_t *) = tomkhadi_jobs_step;
+static tomkhadi_peek_answer (*const jobs_peek)(size_t, const uint32_t *, const uint64_t *, const uint16_t *, const uint64_t *, const uint16_t *,
+                                               const uint64_t *, const uint16_t *, const uint16_t *, const uint16_t *, const uint16_t *, const uint16_t *,
+                                               const uint16_t *, const uint16_t *, const uint16_t *, const uint16_t *) = tomkhadi_jobs_peek;
+static tomkhadi_turned (*const jobs_turn)(uint64_t *, uint32_t *, uint64_t *, uint16_t *, uint64_t *, const uint16_t *, uint16_t *, const uint64_t *,
+                                          uint16_t *, const uint16_t *, const uint16_t *, uint16_t *, uint16_t *, uint16_t *, uint16_t *, uint16_t *,
+                                          uint16_t *) = tomkhadi_jobs_turn;
 
 /* Those of the header. */
 static void (*const empty)(tomkhadi_job *) = tomkhadi_empty;
@@ -33,6 +54,15 @@ static tomkhadi_answer (*const repair)(tomkhadi_job *, uint16_t *, size_t) = tom
 static tomkhadi_answer (*const start)(tomkhadi_job *, const uint64_t *, const uint16_t *, size_t) = tomkhadi_start;
 static tomkhadi_answer (*const step)(tomkhadi_job *) = tomkhadi_step;
 static tomkhadi_peek_answer (*const peek)(const tomkhadi_job *) = tomkhadi_peek;
+static void (*const dispatcher_empty)(tomkhadi_dispatcher *) = tomkhadi_dispatcher_empty;
+static uint32_t (*const dispatcher_shape)(tomkhadi_dispatcher *, size_t, size_t, const uint16_t *, size_t, uint32_t) = tomkhadi_dispatcher_shape;
+static uint32_t (*const dispatcher_encode)(const tomkhadi_dispatcher *, size_t, uint16_t *, size_t) = tomkhadi_dispatcher_encode;
+static tomkhadi_answer (*const dispatcher_locate)(tomkhadi_dispatcher *, size_t, const uint64_t *, const uint16_t *, size_t) = tomkhadi_dispatcher_locate;
+static tomkhadi_answer (*const dispatcher_repair)(tomkhadi_dispatcher *, size_t, uint16_t *, size_t) = tomkhadi_dispatcher_repair;
+static tomkhadi_answer (*const dispatcher_start)(tomkhadi_dispatcher *, size_t, const uint64_t *, const uint16_t *, size_t) = tomkhadi_dispatcher_start;
+static tomkhadi_answer (*const dispatcher_step)(tomkhadi_dispatcher *, size_t) = tomkhadi_dispatcher_step;
+static tomkhadi_peek_answer (*const dispatcher_peek)(const tomkhadi_dispatcher *, size_t) = tomkhadi_dispatcher_peek;
+static tomkhadi_turned (*const dispatcher_turn)(tomkhadi_dispatcher *) = tomkhadi_dispatcher_turn;
 
 enum { ROWS = 2, COLUMNS = 8, SIZE = ROWS * COLUMNS };
 
@@ -376,6 +406,120 @@ static void sliced_heads(void) {
   SAME(job.taps, taps);
 }
 
+/* Job k of eight. */
+#define PART(array) memcpy(job.array, d->array + k * (sizeof job.array / sizeof job.array[0]), sizeof job.array)
+
+static tomkhadi_job part(const tomkhadi_dispatcher *d, size_t k) {
+  static tomkhadi_job job;
+  const uint32_t *state = d->states + 3 * k;
+  const uint64_t *extent = d->extents + 3 * k;
+  job.head = (tomkhadi_head){.phase = state[0], .alone = state[1], .length = extent[2], .rows = extent[0], .columns = extent[1], .exponent = state[2]};
+  memcpy(job.head.checks, d->checks + 8 * k, sizeof job.head.checks);
+  memcpy(job.head.marks, d->marks + 4 * k, sizeof job.head.marks);
+  PART(declared), PART(sums), PART(taps), PART(counts), PART(lengths), PART(places);
+  PART(sizes), PART(discs), PART(quotients), PART(current), PART(symbols), PART(saved);
+  return job;
+}
+
+static int is_part(const tomkhadi_dispatcher *d, size_t k, tomkhadi_head head, int held) {
+  tomkhadi_job job = part(d, k);
+  return is_job(&job, head, held);
+}
+
+/* What stands in the arrays of job k before a step of this number. */
+static int is_at(const tomkhadi_dispatcher *d, size_t k, int made) {
+  tomkhadi_job job = part(d, k);
+  return made == 0 ? is_begun(&job) : made != 2 || is_second(&job);
+}
+
+static const tomkhadi_dispatcher eight_empty = {.last = 7};
+
+/* Jobs 5 and 2 of eight, the same frame with both. */
+static void dispatchers(void) {
+  static tomkhadi_dispatcher d;
+  memset(&d, 0xa5, sizeof d);
+  dispatcher_empty(&d);
+  uint16_t frame[SIZE];
+  memcpy(frame, data, sizeof frame);
+  CHECK(dispatcher_shape(&d, 8, COLUMNS, checks, ROWS, 1) == 33 && dispatcher_encode(&d, 8, frame, SIZE) == 33);
+  CHECK(is_answer(dispatcher_locate(&d, 8, declared, received, SIZE), 33, 0) && is_answer(dispatcher_repair(&d, 8, frame, SIZE), 33, 0));
+  CHECK(is_answer(dispatcher_start(&d, 8, declared, received, SIZE), 33, 0) && is_answer(dispatcher_step(&d, 8), 33, 0));
+  CHECK(is_length(dispatcher_peek(&d, 8), 33, 0));
+  tomkhadi_turned turned = dispatcher_turn(&d);
+  CHECK(turned.job == 8 && is_answer(turned.answer, 33, 0));
+  CHECK(memcmp(&d, &eight_empty, sizeof d) == 0);
+  SAME(frame, data);
+
+  CHECK(dispatcher_shape(&d, 5, COLUMNS, checks, ROWS, 1) == 0);
+  CHECK(dispatcher_shape(&d, 5, 4, checks, ROWS, 1) == 6 && dispatcher_shape(&d, 5, COLUMNS, checks, ROWS, 256) == 32);
+  CHECK(is_part(&d, 5, shaped, 0) && is_part(&d, 2, zeros, 0));
+  CHECK(dispatcher_encode(&d, 2, frame, SIZE) == 21 && dispatcher_encode(&d, 5, frame, SIZE) == 0);
+  SAME(frame, sent);
+  memcpy(frame, received, sizeof frame);
+  CHECK(is_answer(dispatcher_locate(&d, 2, declared, frame, SIZE), 21, 0) && is_answer(dispatcher_locate(&d, 5, past, frame, SIZE), 31, 0));
+  CHECK(is_answer(dispatcher_locate(&d, 5, declared, frame, SIZE), 0, 6));
+  CHECK(is_part(&d, 5, located, 1) && is_part(&d, 2, zeros, 0));
+  CHECK(is_answer(dispatcher_repair(&d, 2, frame, SIZE), 21, 0) && is_answer(dispatcher_repair(&d, 5, frame, SIZE), 0, 0));
+  SAME(frame, sent);
+  CHECK(is_part(&d, 5, shaped, 1));
+
+  /* Job 2 comes before job 5, and both take turns: but the last step of job 2 is made by call. */
+  CHECK(dispatcher_shape(&d, 2, COLUMNS, checks, ROWS, 1) == 0);
+  CHECK(is_unfinished(dispatcher_start(&d, 5, declared, received, SIZE)) && is_unfinished(dispatcher_start(&d, 2, declared, received, SIZE)));
+  for (int made = 0; made + 1 < STEPS; made++) {
+    for (size_t k = 2; k <= 5; k += 3) {
+      CHECK(is_at(&d, k, made) && is_length(dispatcher_peek(&d, k), 0, made >= ROWS));
+      turned = dispatcher_turn(&d);
+      CHECK(turned.job == k && d.last == k && is_unfinished(turned.answer));
+    }
+  }
+  CHECK(is_answer(dispatcher_step(&d, 2), 0, 6) && d.last == 5 && is_answer(dispatcher_step(&d, 2), 33, 0));
+  CHECK(is_part(&d, 2, located, 1));
+  turned = dispatcher_turn(&d);
+  CHECK(turned.job == 5 && is_answer(turned.answer, 0, 6) && is_part(&d, 5, located, 1));
+  turned = dispatcher_turn(&d);
+  CHECK(turned.job == 8 && d.last == 5 && is_answer(turned.answer, 33, 0));
+}
+
+/* The archive's functions alone, on the parts of a dispatcher. */
+static void eight_heads(void) {
+  static tomkhadi_dispatcher d;
+  d.last = 3, d.states[3 * 4] = 1, d.extents[3 * 4] = 1, d.checks[8 * 4] = 1, d.marks[4 * 4] = 1;
+  jobs_empty(&d.last, d.states, d.extents, d.checks, d.marks);
+  CHECK(memcmp(&d, &eight_empty, sizeof d) == 0);
+  CHECK(jobs_shape(5, d.states, d.extents, d.checks, d.marks, COLUMNS, checks, ROWS, 1) == 0);
+  CHECK(is_part(&d, 5, shaped, 0));
+
+  uint16_t frame[SIZE];
+  memcpy(frame, data, sizeof frame);
+  CHECK(jobs_encode(5, d.states, d.extents, d.checks, d.marks, frame, SIZE) == 0);
+  SAME(frame, sent);
+  memcpy(frame, received, sizeof frame);
+  CHECK(is_answer(jobs_locate(5, d.states, d.extents, d.checks, d.marks, d.sums, d.taps, d.declared, declared, frame, SIZE), 0, 6));
+  CHECK(is_part(&d, 5, located, 1));
+  CHECK(is_answer(jobs_repair(5, d.states, d.extents, d.checks, d.marks, d.sums, d.declared, frame, SIZE), 0, 0));
+  SAME(frame, sent);
+
+  /* Every other step is made by a turn. */
+  CHECK(is_unfinished(jobs_start(5, d.states, d.extents, d.checks, d.marks, d.sums, d.taps, d.declared, d.counts, d.lengths, d.symbols, d.places, d.sizes,
+                                 d.discs, d.quotients, d.current, d.saved, declared, received, SIZE)));
+  for (int made = 0; made < STEPS; made++) {
+    tomkhadi_peek_answer peeked = jobs_peek(5, d.states, d.extents, d.checks, d.marks, d.sums, d.declared, d.counts, d.lengths, d.symbols, d.places, d.sizes,
+                                            d.discs, d.quotients, d.current, d.saved);
+    CHECK(is_at(&d, 5, made) && is_length(peeked, 0, made >= ROWS));
+    if (made % 2 == 0) {
+      CHECK(is_unfinished(jobs_step(5, d.states, d.extents, d.checks, d.marks, d.sums, d.taps, d.declared, d.counts, d.lengths, d.symbols, d.places, d.sizes,
+                                    d.discs, d.quotients, d.current, d.saved)));
+      continue;
+    }
+    tomkhadi_turned turned = jobs_turn(&d.last, d.states, d.extents, d.checks, d.marks, d.sums, d.taps, d.declared, d.counts, d.lengths, d.symbols, d.places,
+                                       d.sizes, d.discs, d.quotients, d.current, d.saved);
+    CHECK(turned.job == 5 && d.last == 5);
+    CHECK(made + 1 < STEPS ? is_unfinished(turned.answer) : is_answer(turned.answer, 0, 6));
+  }
+  CHECK(is_part(&d, 5, located, 1));
+}
+
 int main(void) {
   registers();
   searches();
@@ -384,6 +528,8 @@ int main(void) {
   exponents();
   slices();
   sliced_heads();
+  dispatchers();
+  eight_heads();
   printf("tests/src/prototypes.c: %d checks, %d failed\n", checked, failed);
   return failed != 0;
 }

@@ -106,7 +106,7 @@ fn some_number(random: &mut Random) -> u64 {
     ])
 }
 
-fn forge(random: &mut Random, job: &mut Job, shape: &Shape) {
+pub fn forge(random: &mut Random, job: &mut Job, shape: &Shape) {
     let number = some_number(random);
     match random.below(18) {
         0 => job.head.phase = random.pick(&[EMPTY, SHAPED, LOCATED, UNFINISHED]),

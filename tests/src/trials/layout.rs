@@ -3,7 +3,7 @@
 
 use std::mem::{align_of, offset_of, size_of};
 
-use common::interface::{Answer, Columns, Head, Job, Peeked, Register};
+use common::interface::{Answer, Columns, Dispatcher, Head, Job, Peeked, Register, Turned};
 
 use crate::judge::Judge;
 
@@ -26,7 +26,7 @@ unsafe extern "C" {
     static tomkhadi_layout: [usize; RUST.len()];
 }
 
-const RUST: [usize; 54] = [
+const RUST: [usize; 77] = [
     size_of::<Register>(),
     align_of::<Register>(),
     offset_of!(Register, refusal),
@@ -81,6 +81,29 @@ const RUST: [usize; 54] = [
     align_of::<HeadAnswered>(),
     offset_of!(HeadAnswered, answer),
     offset_of!(HeadAnswered, head),
+    size_of::<Dispatcher>(),
+    align_of::<Dispatcher>(),
+    offset_of!(Dispatcher, last),
+    offset_of!(Dispatcher, states),
+    offset_of!(Dispatcher, extents),
+    offset_of!(Dispatcher, checks),
+    offset_of!(Dispatcher, marks),
+    offset_of!(Dispatcher, declared),
+    offset_of!(Dispatcher, sums),
+    offset_of!(Dispatcher, taps),
+    offset_of!(Dispatcher, counts),
+    offset_of!(Dispatcher, lengths),
+    offset_of!(Dispatcher, places),
+    offset_of!(Dispatcher, sizes),
+    offset_of!(Dispatcher, discs),
+    offset_of!(Dispatcher, quotients),
+    offset_of!(Dispatcher, current),
+    offset_of!(Dispatcher, symbols),
+    offset_of!(Dispatcher, saved),
+    size_of::<Turned>(),
+    align_of::<Turned>(),
+    offset_of!(Turned, job),
+    offset_of!(Turned, answer),
 ];
 
 pub fn run(judge: &mut Judge) {

@@ -1,6 +1,7 @@
 //! The inputs that the calls are tried on, and what they have in common.
 
 pub mod declared;
+pub mod dispatcher;
 pub mod examples;
 pub mod exponents;
 pub mod finder;

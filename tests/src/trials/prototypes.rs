@@ -5,10 +5,11 @@ use crate::judge::Judge;
 
 const HEADER: &str = include_str!("../../../include/tomkhadi.h");
 
-const SOURCES: [&str; 3] = [
+const SOURCES: [&str; 4] = [
     include_str!("../../../crates/capi/src/find.rt"),
     include_str!("../../../crates/capi/src/roots.rt"),
     include_str!("../../../crates/capi/src/jobs.rt"),
+    include_str!("../../../crates/capi/src/eight.rt"),
 ];
 
 pub fn run(judge: &mut Judge) {
@@ -26,8 +27,10 @@ fn exported() -> Vec<String> {
 fn prototype(function: &str) -> String {
     let (name, rest) = function.split_once('(').expect("parameters");
     let (parameters, rest) = rest.split_once(')').expect("their end");
-    let result = rest.trim_start().strip_prefix("-> ").expect("a result");
-    let result = c_type(result.split_whitespace().next().expect("its type"));
+    let result = match rest.trim_start().strip_prefix("-> ") {
+        Some(result) => c_type(result.split_whitespace().next().expect("its type")),
+        None => "void",
+    };
     let mut written: Vec<String> = parameters.split(',').filter_map(parameter).collect();
     if written.is_empty() {
         written.push("void".to_string());
@@ -38,16 +41,34 @@ fn prototype(function: &str) -> String {
 fn parameter(text: &str) -> Option<String> {
     let (name, of) = text.split_once(": ")?;
     let name = name.trim();
-    let (constant, lent) = match (of.strip_prefix("&mut ["), of.strip_prefix("&[")) {
+    let (constant, lent) = match (of.strip_prefix("&mut "), of.strip_prefix('&')) {
         (Some(lent), _) => ("", lent),
         (_, Some(lent)) => ("const ", lent),
         _ => return Some(format!("{} {name}", c_type(of))),
     };
+    let Some(lent) = lent.strip_prefix('[') else {
+        return Some(format!("{constant}{} *{name}", lent_type(lent)));
+    };
     let lent = lent.strip_suffix(']').expect("the end of an array");
-    Some(match lent.split_once("; ") {
-        Some((of, length)) => format!("{constant}{} {name}[{length}]", c_type(of)),
-        None => format!("{constant}{} *{name}, size_t", c_type(lent)),
+    // An array of arrays, `[of; inner]; outer`, lies in C as one.
+    Some(match lent.rsplit_once("; ") {
+        Some((part, outer)) => match part.strip_prefix('[').and_then(|p| p.strip_suffix(']')) {
+            Some(part) => {
+                let (of, inner) = part.split_once("; ").expect("the length of a part");
+                format!("{constant}{} {name}[{outer} * {inner}]", lent_type(of))
+            }
+            None => format!("{constant}{} {name}[{outer}]", lent_type(part)),
+        },
+        None => format!("{constant}{} *{name}, size_t", lent_type(lent)),
     })
+}
+
+/// A `usize` in memory has 64 bits.
+fn lent_type(of: &str) -> &str {
+    match of {
+        "usize" => "uint64_t",
+        _ => c_type(of),
+    }
 }
 
 fn c_type(of: &str) -> &str {
@@ -60,8 +81,10 @@ fn c_type(of: &str) -> &str {
         "CColumns" => "tomkhadi_columns",
         "CHead" => "tomkhadi_head",
         "CShaped" => "tomkhadi_head_shaped",
+        "CAnswer" => "tomkhadi_answer",
         "CAnswered" => "tomkhadi_head_answered",
         "CPeeked" => "tomkhadi_peek_answer",
+        "CTurned" => "tomkhadi_turned",
         _ => panic!("a type that the header does not have: {of}"),
     }
 }
@@ -76,7 +99,7 @@ fn declared() -> Vec<String> {
     words
         .join(" ")
         .split(';')
-        .filter(|statement| statement.ends_with(')') && !statement.contains(['{', '=', '#']))
+        .filter(|statement| statement.ends_with(')') && !statement.contains(['{', '=', '#', '&']))
         .map(|statement| {
             let (name, parameters) = statement.trim().split_once('(').expect("parameters");
             format!("{name}({}", without_counts(parameters))
@@ -90,7 +113,7 @@ fn without_counts(parameters: &str) -> String {
     for parameter in parameters.trim_end_matches(')').split(", ") {
         let is_count = after_pointer && parameter.starts_with("size_t ");
         written.push(if is_count { "size_t" } else { parameter });
-        after_pointer = parameter.contains('*');
+        after_pointer = parameter.contains('*') && !parameter.ends_with(']');
     }
     format!("{})", written.join(", "))
 }

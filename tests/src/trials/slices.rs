@@ -62,6 +62,26 @@ pub fn run(judge: &mut Judge) {
     }
 }
 
+/// Anything in some place of the arrays of a locate in slices.
+pub fn forge_arrays(random: &mut Random, job: &mut Job) {
+    let any = random.bits() as u16;
+    let value = random.pick(&[any, 0, 1, 64, 256, 257, 65535]);
+    let arrays: [&mut [u16]; 9] = [
+        &mut job.counts,
+        &mut job.lengths,
+        &mut job.symbols,
+        &mut job.places,
+        &mut job.sizes,
+        &mut job.discs,
+        &mut job.quotients,
+        &mut job.current,
+        &mut job.saved,
+    ];
+    let array = random.below(9);
+    let place = random.below(arrays[array].len().min(160));
+    arrays.into_iter().nth(array).expect("one of nine")[place] = value;
+}
+
 impl Slicer<'_, '_> {
     /// A frame with declared cells and damage, now and then with a row or all rows declared as far as
     /// they have checks.
@@ -309,23 +329,7 @@ impl Slicer<'_, '_> {
         let refusal = self.slices.step(&mut bad).refusal;
         self.expect("a step past the rows", &started, refusal == 33);
         for _ in 0..self.random.from_to(1, 6) {
-            let any = self.random.bits() as u16;
-            let value = self.random.pick(&[any, 0, 1, 64, 256, 257, 65535]);
-            let job = &mut self.job;
-            let arrays: [&mut [u16]; 9] = [
-                &mut job.counts,
-                &mut job.lengths,
-                &mut job.symbols,
-                &mut job.places,
-                &mut job.sizes,
-                &mut job.discs,
-                &mut job.quotients,
-                &mut job.current,
-                &mut job.saved,
-            ];
-            let array = self.random.below(9);
-            let place = self.random.below(arrays[array].len().min(160));
-            arrays.into_iter().nth(array).expect("one of nine")[place] = value;
+            forge_arrays(self.random, &mut self.job);
         }
         for _ in 0..600 {
             let [step, peek] = [self.slices.step(&mut self.job).refusal, self.peek().refusal];
