@@ -1,6 +1,6 @@
 //! Times locating in slices beside locating at once, on the same frames in one run: the share of a step
-//! in a locate, a step, the longest single step, a start, and what the check sums cost. `bench/run`
-//! builds and runs it.
+//! in a locate, a step, the longest single step, a start, and what the check sums cost; then turns of
+//! eight jobs. `bench/run` builds and runs it.
 
 #[allow(dead_code, reason = "the benchmark of the calls names the rest")]
 mod calls;
@@ -8,6 +8,7 @@ mod calls;
 mod cases;
 #[allow(dead_code, reason = "the benchmark of the calls names the rest")]
 mod timing;
+mod turns;
 
 use std::hint::black_box;
 use std::time::Instant;
@@ -28,8 +29,8 @@ struct Input {
 }
 
 impl Input {
-    fn new(case: &Case) -> Input {
-        let work = case.draw(0);
+    fn new(case: &Case, number: u64) -> Input {
+        let work = case.draw(number);
         let Call::Locate {
             head,
             declared,
@@ -90,7 +91,7 @@ fn other_sums(input: &Input) -> Job {
 }
 
 fn measure(case: &Case) {
-    let input = Input::new(case);
+    let input = Input::new(case, 0);
     let mut jobs = [input.job; 4];
     input.start(&mut jobs[3]);
     let steps = input.step(&mut jobs[3]);
@@ -143,4 +144,5 @@ fn main() {
             measure(&case);
         }
     }
+    turns::print();
 }
