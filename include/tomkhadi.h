@@ -4,7 +4,7 @@
  * that the documentation gives it; 0 means that nothing is refused. Nothing here allocates, blocks or keeps state: what a call knows stands in the job
  * and in what is lent. A pointer must be valid for the count of 16-bit numbers that follows it, `declared` for 32 64-bit numbers, and what is written must
  * not overlap the job or anything else lent. Lend no null pointer, not even with the count 0. The job itself is written: do not lend the `declared` of a job
- * to its own locate or start.
+ * to its own locate or start, and no part of a dispatcher to one of its own calls, that of another job or the check counts lent to shape not either.
  *
  * The calls on a job, which is empty, shaped, unfinished or located: what each wants, and how it leaves the job
  *   tomkhadi_empty    wants nothing; the job is empty, whatever it was
@@ -26,11 +26,12 @@
  * no more. An unfinished job counts as shaped: encode takes it, repair is refused by 22, and shape, locate or another start drops what is unfinished, unless
  * a refusal leaves the job as it was.
  *
- * A dispatcher is for one processor with eight heads. It has eight jobs, 0 to 7, each with all the calls above (tomkhadi_dispatcher_shape and so on, with the
- * number of the job), and the turn: tomkhadi_dispatcher_turn makes one step of the next unfinished job after the one that was served last, in circular order,
- * and answers its number and what the step said. Only turns serve: a step by call counts as no service. An unfinished job is served within any eight turns, and
- * a locate that was started, and is not dropped, is done within 4,096 turns, and within eight times as many turns as it has steps, whatever is done to the
- * other jobs meanwhile. What each job answers is what it would answer by itself to the calls on it and the steps by turns.
+ * A dispatcher is for one processor with eight heads. It has eight jobs, 0 to 7, each with all the calls above but the first (tomkhadi_dispatcher_shape and so
+ * on, with the number of the job; tomkhadi_dispatcher_empty makes all eight empty), and the turn: tomkhadi_dispatcher_turn makes one step of the next
+ * unfinished job after the one that was served last, in circular order, and answers its number and what the step said. Only turns serve: a step by call counts
+ * as no service. An unfinished job is served within any eight turns, and a locate that was started, and is not dropped, is done within 4,096 turns, and within
+ * eight times as many turns as it has steps, whatever is done to the other jobs meanwhile. What each job answers is what it would answer by itself to the
+ * calls on it and the steps by turns.
  *
  * Two calls take no job: tomkhadi_find finds the shortest register of any sequences, and tomkhadi_search the columns that the taps of a register name.
  *
@@ -47,9 +48,10 @@
  * The search for the columns that a register names goes up from column 0, and ends as soon as it has found as many as the register is long. Locate, the last
  * step and search tell how many columns it tried: none where the length is 0, else those up to and with the last one found, or all where fewer are named.
  *
- * What is proved: the functions of the archive do what is said here, whatever they are given (crates/capi/src). The calls on a job are inline functions of
- * one to four statements over them, and C is not proved: that such statements, in a list of any length, do what is said here is proved of their description
- * (crates/capi/specs/Runs.antt), and that they are as described is tested (tests/src/prototypes.c, and all of tests/src/trials).
+ * What is proved: the functions of the archive do what is said here, whatever they are given (crates/capi/src). The calls on a job are inline functions of one
+ * to four statements over them, and C is not proved: that such statements, in a list of any length, do what is said here is proved of their description
+ * (crates/capi/specs/Runs.antt, of a dispatcher DispatcherRuns.antt), and that they are as described is tested (tests/src/prototypes.c, and all of
+ * tests/src/trials).
  *
  * Refusals because of the input
  *    1  p is below 2, above 65521 or not prime
@@ -258,10 +260,11 @@ static inline tomkhadi_peek_answer tomkhadi_peek(const tomkhadi_job *job) {
 
 /* ---- eight jobs */
 
-/* Eight jobs and the number of the one that was served last. Treat it as opaque: make it empty, then hand it from call to call. Each array has eight parts of
- * one size, part k for job k: in states its phase, alone mark and exponent, in extents its rows, columns and length, in the others what they are called in a
- * job. Any value is safe, as of a job. Whom a turn serves goes by the phases alone: a job whose phase is 3 and which counts as empty or shaped, made by
- * nobody's call, is served too, and its step is refused by 21 or 33. Of `last` what counts is the remainder by 8. */
+/* Eight jobs and the number of the one that was served last. Treat it as opaque: make it empty, then hand it from call to call. One of zeros has eight
+ * empty jobs, but job 0 served last. Each array has eight parts of one size, part k for job k: in states its phase, alone mark and exponent, in extents its
+ * rows, columns and length, in the others what they are called in a job. Any value is safe, as of a job. Whom a turn serves goes by the phases alone: a job
+ * whose phase is 3 and which counts as empty or shaped, as no call leaves one, is served too; its step is refused by 21 or 33, and it stays. Of `last` what
+ * counts is the remainder by 8. */
 typedef struct {
   uint64_t last;
   uint32_t states[8 * 3];

@@ -1,17 +1,18 @@
 -- What the exported functions of the dispatcher do, by the definitions of eight jobs. The header's struct of eight jobs has these arrays, and its inline functions
--- lend them and do no more.
+-- lend them and do no more, but that the one that empties the jobs clears the struct first.
 use mathlib.Core.Path.{_≡_}
-use mathlib.Core.List.{List, []}
+use mathlib.Core.List.{List, [], _∷_}
 use Prim.Native.Nat.{ℕ}
-use Rattle.dispatch.specs.Told.{Told, TurnTold, told, turnTold}
+use Rattle.dispatch.specs.Told.{Told, TurnTold, toldBy, nobody, told, turnTold}
 use Rattle.eight_jobs.specs.Eight.{jobs}
-use Rattle.job.specs.Calls.{Call, shape, encode, locate, repair, start, next, peek}
+use Rattle.job.specs.Calls.{Call, shape, encode, locate, repair, start, next, peek, Outcome}
+use Rattle.job.specs.Refusals.{lentTo}
 use Rattle.kept.specs.Kept.{Heads, Searches, Kept, kept, jobsOf, keptAfter}
-use Rattle.mirror.specs.Mirror.{refusalOf, peekedOf, answerOf}
+use Rattle.mirror.specs.Mirror.{refusalOf, peekedOf, answerOf, answeredOf}
 use Rattle.mirror.specs.declared.CAnswer.{CAnswer}
 use Rattle.mirror.specs.declared.CPeeked.{CPeeked}
 use Rattle.mirror.specs.declared.CTurned.{CTurned}
-use Rattle.turns.specs.Dispatcher.{on, turn, reply}
+use Rattle.turns.specs.Dispatcher.{on, turn, says, refused-33, reply}
 
 -- ---- what C is given of what is told
 
@@ -28,6 +29,23 @@ peekedFor t = peekedOf (t .answer)
 
 abbrev pub turnedFor : TurnTold → CTurned
 turnedFor t = record { job = t .job; answer = answerFor (t .said) }
+
+-- The same to the number: of an outcome C is given what it is given of a job by itself; of a number that is no job's, and of a turn that serves nobody, 33 and
+-- zeros, and the number 8. Proved in proofs/ToldMirrors.antt.
+pub record ToldMirrors : Type 0 where
+  pub refusal : (o : Outcome) → refusalFor (toldBy o) ≡ refusalOf (o .answer)
+  pub answered : (o : Outcome) → answerFor (toldBy o) ≡ answeredOf o .answer
+  pub peeked : (o : Outcome) → peekedFor (toldBy o) ≡ peekedOf (o .answer)
+  pub frame : (o : Outcome) → toldBy o .frame ≡ o .frame
+  pub turned : (k : ℕ) (o : Outcome) → turnedFor (turnTold (says k o)) ≡ record { job = k; answer = answeredOf o .answer }
+  pub no-job : (f : List ℕ) → refusalFor (nobody f) ≡ 33
+  pub no-job-answered :
+      (f : List ℕ) → answerFor (nobody f) ≡ record { refusal = 33; unfinished = 0; count = 0; tried = 0; marks = 0 ∷ 0 ∷ 0 ∷ 0 ∷ [] }
+  pub no-job-peeked : (f : List ℕ) → peekedFor (nobody f) ≡ record { refusal = 33; length = 0 }
+  pub no-job-frame : (c : Call) → told c refused-33 .frame ≡ lentTo c
+  pub nobody-served :
+      turnedFor (turnTold refused-33) ≡
+      record { job = 8; answer = record { refusal = 33; unfinished = 0; count = 0; tried = 0; marks = 0 ∷ 0 ∷ 0 ∷ 0 ∷ [] } }
 
 -- A call with the number k on what is kept as p: r is what C is given of what is told, the lent frame is left as f, and q stands where p stood.
 pub record Gives (A : Type 0) (given : Told → A) (p : Kept) (k : ℕ) (c : Call) (r : A) (f : List ℕ) (q : Kept) : Type 0 where

@@ -1,5 +1,5 @@
--- Lists of calls and turns through the C interface. Each inline function of the dispatcher in include/tomkhadi.h is one exported function on the arrays of the
--- struct; that the header's text is these is read, and tried by tests/. A list of them answers and leaves what eight jobs do. Proved in
+-- Lists of calls and turns through the C interface. Each inline function of the dispatcher in include/tomkhadi.h, but for the one that empties the jobs, is one
+-- exported function on the arrays of the struct; that the header's text is these is read, and tried by tests/. A list of them answers and leaves what eight jobs do. Proved in
 -- proofs/DispatcherRuns.antt.
 use mathlib.Core.Path.{_≡_}
 use mathlib.Core.List.{List, [], _∷_}

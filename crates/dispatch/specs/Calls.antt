@@ -63,7 +63,7 @@ pub record Made (p : Kept) (k : ℕ) (c : Call) (t : Told) (q : Kept) : Type 0 w
   pub leaves : q ≡ madeOf p k c
 
 -- a step of job k, whoever asks for it
-abbrev pub Served :
+abbrev pub StepMade :
     (k : ℕ) → Heads → (sums taps held : List (List ℕ)) → Searches → Said → Heads → (tapsLeft : List (List ℕ)) → Searches → Type 0
-Served k hs sums taps held x r left tapsLeft y =
+StepMade k hs sums taps held x r left tapsLeft y =
     (last : ℕ) → Made (kept hs sums taps held x last) k next (saidTold r []) (kept left sums tapsLeft held y last)

@@ -5,7 +5,7 @@ use kept::heads::head_at;
 use kept::heads::put_head;
 use slicing::next::next as next_one;
 ghost use Prim.Native.Nat.{_<_};
-ghost use Rattle.dispatch.specs.Calls.{Served};
+ghost use Rattle.dispatch.specs.Calls.{StepMade};
 ghost use Rattle.kept.specs.Kept.{heads, searches};
 
 pub fn next(
@@ -28,7 +28,7 @@ pub fn next(
     saved: &mut [[u16; 1152]; 8],
 ) -> Said
     requires { ⌜ k < 8 ⌝ }
-    ensures { λ r. ⌜ Served k (heads (now (states .entry)) (now (extents .entry)) (now (checks .entry)) (now (marks .entry))) (now (sums .entry))
+    ensures { λ r. ⌜ StepMade k (heads (now (states .entry)) (now (extents .entry)) (now (checks .entry)) (now (marks .entry))) (now (sums .entry))
         (now (taps .entry)) (now (held .entry))
         (searches (now (counts .entry)) (now (lengths .entry)) (now (symbols .entry)) (now (places .entry)) (now (sizes .entry))
         (now (discs .entry)) (now (quotients .entry)) (now (register .entry)) (now (saved .entry)))

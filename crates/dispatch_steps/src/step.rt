@@ -5,11 +5,11 @@ use dispatch::answers::still_unfinished;
 use dispatch_next::next::next;
 use onward::go_on;
 ghost use Prim.Native.Nat.{_<_};
-ghost use Rattle.dispatch.specs.Calls.{Served, StepDoes};
+ghost use Rattle.dispatch.specs.Calls.{StepDoes, StepMade};
 ghost use Rattle.kept.specs.Kept.{heads, searches};
 
 // All steps but the last one are made in place, and leave the head as a start does: numbers that only a forged one has are written over.
-pub fn serve(
+pub fn make_step(
     k: usize,
     states: &mut [[u32; 3]; 8],
     extents: &mut [[usize; 3]; 8],
@@ -29,7 +29,7 @@ pub fn serve(
     saved: &mut [[u16; 1152]; 8],
 ) -> Said
     requires { ⌜ k < 8 ⌝ }
-    ensures { λ r. ⌜ Served k (heads (now (states .entry)) (now (extents .entry)) (now (checks .entry)) (now (marks .entry))) (now (sums .entry))
+    ensures { λ r. ⌜ StepMade k (heads (now (states .entry)) (now (extents .entry)) (now (checks .entry)) (now (marks .entry))) (now (sums .entry))
         (now (taps .entry)) (now (held .entry))
         (searches (now (counts .entry)) (now (lengths .entry)) (now (symbols .entry)) (now (places .entry)) (now (sizes .entry))
         (now (discs .entry)) (now (quotients .entry)) (now (register .entry)) (now (saved .entry)))
@@ -109,7 +109,7 @@ pub fn step(
     if k >= 8 {
         return no_job();
     }
-    serve(
+    make_step(
         k,
         states,
         extents,

@@ -1,7 +1,7 @@
 // A turn: the next unfinished job after the one served last, in circular order, makes a step.
 use dispatch::Turned;
 use dispatch::answers::no_job;
-use dispatch_steps::step::serve;
+use dispatch_steps::step::make_step;
 use kept::order::next_unfinished;
 ghost use Rattle.dispatch.specs.Calls.{TurnDoes};
 ghost use Rattle.kept.specs.Kept.{heads, kept, searches};
@@ -41,7 +41,7 @@ pub fn turn(
         return Turned { job: 8, said };
     }
     *last = k;
-    let said = serve(
+    let said = make_step(
         k,
         states,
         extents,

@@ -9,6 +9,7 @@ use Rattle.job.specs.Job.{Arrays, Job}
 use Rattle.job.specs.Runs.{run}
 use Rattle.turns.specs.Dispatcher.{Jobs, after, runFrom, callOn, callsOn, alone, turns}
 use Rattle.turns.proofs.Appending.{run-append}
+use Rattle.turns.proofs.Counting.{turns-counted}
 use Rattle.turns.proofs.RoundAndRound.{round-and-round}
 use Rattle.eight_jobs.specs.Demands.{longStarts, Reached4096}
 use Rattle.eight_jobs.specs.Eight.{jobs, emptied, dispatched, callsTo}
@@ -39,7 +40,8 @@ module _ (a : ℕ → Arrays) where
 
 -- 4,095 turns are 511 rounds, and seven turns that do not come to job 7 again
 pub reached-4096 : Reached4096
-reached-4096 a =
+reached-4096 a = (
+    turns-counted jobs 4095,
     ap (λ (d : Jobs jobs). jobs .unfinished (d .at 7)) (run-append jobs (emptied a) (longStarts 8) (turns jobs 4095))
     ∙ ap (jobs .unfinished) (round-and-round jobs (dispatched a (longStarts 8)) 512 4095 7 (last-7 a) (each-goes a) (omega arith) (omega arith))
-    ∙ each-goes a 7 511 (omega arith) (omega arith)
+    ∙ each-goes a 7 511 (omega arith) (omega arith))

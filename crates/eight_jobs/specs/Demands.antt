@@ -44,7 +44,8 @@ pub record Done (d : Jobs jobs) (k steps : ℕ) (located : Outcome) (es : List (
       (served jobs (runFrom jobs d es) ≡ some k → reply jobs (runFrom jobs d es) turn ≡ says k o)
 
 -- A start on job k after `before` is not refused, and the events `es` after it do not drop it: the calls on job k among them, its steps by turns included, are
--- steps, peeks, encodes, or refused by other numbers than 24, 25, 26. What is done to the other jobs plays no part.
+-- steps, peeks, encodes, or refused by other numbers than 24, 25, 26. What is done to the other jobs plays no part. (Of a list in which more is done to job k
+-- once its locate is done, take the part before.)
 abbrev pub DoneWithin4096 : Type 0
 DoneWithin4096 =
     (a : ℕ → Arrays) (before es : List (Event jobs)) (k : ℕ) (s : Shape) (words f : List ℕ) → k < 8 → lastShape (callsTo a k before) ≡ some s →
@@ -57,9 +58,11 @@ unfoldable pub longStarts : (n : ℕ) → List (Event jobs)
 longStarts zero = []
 longStarts (suc n) = longStarts n ++ (on n (shape 65 (replicate 8 64) 1) ∷ (on n (start noWords (replicate 520 0)) ∷ []))
 
--- The bound is reached: started so, job 7 is unfinished after 4,095 turns.
+-- The bound is reached: started so, job 7 is unfinished after 4,095 turns, with no call between them.
 abbrev pub Reached4096 : Type 0
-Reached4096 = (a : ℕ → Arrays) → jobs .unfinished (dispatched a (longStarts 8 ++ turns jobs 4095) .at 7) ≡ true
+Reached4096 =
+    (a : ℕ → Arrays) →
+    (turnsIn jobs (turns jobs 4095) ≡ 4095) × (jobs .unfinished (dispatched a (longStarts 8 ++ turns jobs 4095) .at 7) ≡ true)
 
 pub record Dispatches : Type 0 where
   pub projected : (a : ℕ → Arrays) (es : List (Event jobs)) (k : ℕ) → k < 8 → Projected a es k

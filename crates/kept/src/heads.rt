@@ -17,7 +17,7 @@ pub fn head_at(
     requires { ⌜ k < 8 ⌝ }
     ensures { λ r. ⌜ r ≡ headAt (heads (now (states .entry)) (now (extents .entry)) (now (checks .entry)) (now (marks .entry))) k ⌝ }
 {
-    let each = checks[k];
+    let counts = checks[k];
     let words = marks[k];
     head_of(CHead {
         phase: states[k][0],
@@ -26,7 +26,7 @@ pub fn head_at(
         rows: extents[k][0],
         columns: extents[k][1],
         marks: words,
-        checks: each,
+        checks: counts,
         exponent: states[k][2],
     })
 }
@@ -45,10 +45,10 @@ pub fn put_head(
         withHead (heads (now (states .entry)) (now (extents .entry)) (now (checks .entry)) (now (marks .entry))) k head ⌝ }
 {
     let m = mirror_of(head);
-    let each = m.checks;
+    let counts = m.checks;
     let words = m.marks;
     states[k] = [m.phase, m.alone, m.exponent];
     extents[k] = [m.rows, m.columns, m.length];
-    checks[k] = each;
+    checks[k] = counts;
     marks[k] = words;
 }

@@ -4,7 +4,7 @@ use mathlib.Core.Bool.{Bool, true, false, cond}
 use Prim.Native.Nat.{ℕ, _≤_, _<_}
 use lib.Dec.{ltb}
 use borrow.Author.Tests.{lt-ltb, le-ltb}
-use Rattle.turns.specs.Dispatcher.{Kind, Jobs, on, says, refused-33, after, reply, put}
+use Rattle.turns.specs.Dispatcher.{Kind, Jobs, on, Reply, says, refused-33, after, reply, put}
 use Rattle.turns.specs.Turning.{Calling}
 use Rattle.turns.proofs.Putting.{put-there, put-elsewhere}
 
@@ -29,9 +29,13 @@ module _ (K : Kind) (d : Jobs K) (k : ℕ) (c : K .call) where
       pick true = refl
       pick false = refl
 
+  -- what is answered, by the same
+  abbrev said : Bool → Reply K
+  said t = cond t (says k (K .answers (d .at k) c)) refused-33
+
   answer : k < 8 → reply K d (on k c) ≡ says k (K .answers (d .at k) c)
   unfolding reply
-  answer b = rw (lt-ltb k 8 b) refl
+  answer b = ap said (lt-ltb k 8 b)
 
   job : k < 8 → after K d (on k c) .at k ≡ K .leaves (d .at k) c
   unfolding after
@@ -39,7 +43,7 @@ module _ (K : Kind) (d : Jobs K) (k : ℕ) (c : K .call) where
 
   outside : 8 ≤ k → (reply K d (on k c) ≡ refused-33) × (after K d (on k c) ≡ d)
   unfolding reply after
-  outside b = (rw (le-ltb k 8 b) refl, rw (le-ltb k 8 b) refl)
+  outside b = (ap said (le-ltb k 8 b), ap left (le-ltb k 8 b))
 
   pub calling : Calling K d k c
   calling = record { answer = answer; job = job; others = others; no-service = no-service; outside = outside }

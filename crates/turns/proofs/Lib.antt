@@ -3,6 +3,7 @@ pub mod Appending
 pub mod Calling
 pub mod Circle
 pub mod Closest
+pub mod Counting
 pub mod Fairness
 pub mod LastServed
 pub mod Projecting

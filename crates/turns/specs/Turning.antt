@@ -41,6 +41,10 @@ module _ (K : Kind) where
     pub serving : (k : ℕ) → served K d ≡ some k → Serving d k
     pub idle : ((i : ℕ) → i < 8 → K .unfinished (d .at i) ≡ false) → (reply K d turn ≡ refused-33) × (after K d turn ≡ d)
 
+  -- n turns are counted as n
+  abbrev pub TurnsCounted : Type 0
+  TurnsCounted = (n : ℕ) → turnsIn K (turns K n) ≡ n
+
   -- job k is unfinished at each turn of the events
   abbrev pub Unfinished : ℕ → Jobs K → List (Event K) → Type 0
   Unfinished k d [] = Unit {0}

@@ -23,7 +23,7 @@ returns c = λ last.
 returns-2 : tie.Need-returns-2
 returns-2 c = λ last.
     let one = c .before .before .before .before .before .before .before .before .before .before .before .before .before in
-    inside (lent (one .before) last) (one .before .args .k) next (one .if1 .left) (c .serve .ensures last)
+    inside (lent (one .before) last) (one .before .args .k) next (one .if1 .left) (c .make-step .ensures last)
 
 pub step-spec : {M : Type 1} → statement M
 step-spec =

@@ -32,7 +32,7 @@ returns-2 : tie.Need-returns-2
 returns-2 c =
     let one = c .before .before .before .before .before .before .before .before .before .before .before .before .before in
     let start = one .before .before .before .before in
-    serving (lent start) _ (found-of (one .before)) (one .if1 .left) (c .serve .ensures (start .args .last .now))
+    serving (lent start) _ (found-of (one .before)) (one .if1 .left) (c .make-step .ensures (start .args .last .now))
 
 pub turn-spec : {M : Type 1} → statement M
 turn-spec =

@@ -1,4 +1,4 @@
--- `dispatch_steps::step::serve` meets its contract.
+-- `dispatch_steps::step::make_step` meets its contract.
 use mathlib.Core.Path.{refl}
 use mathlib.Core.List.{[]}
 use Prim.Native.Nat.{ℕ}
@@ -9,8 +9,8 @@ use Rattle.job.specs.Job.{unfinishedHead}
 use Rattle.kept.specs.Kept.{heads, numbersAt, headAt, searches, searchAt, Kept, kept}
 use Rattle.dispatch.proofs.GoingOn.{as-lent, gone-on}
 use Rattle.dispatch.proofs.Making.{made, from-same, going-put, unfinished-put, nothing-put}
-use Rattle.dispatch_steps.proofs.step.serve.Statement.{statement}
-use Rattle.dispatch_steps.proofs.step.serve.Tie as tie
+use Rattle.dispatch_steps.proofs.step.make_step.Statement.{statement}
+use Rattle.dispatch_steps.proofs.step.make_step.Tie as tie
 
 -- what is kept, whoever was served last
 abbrev lent : tie.Start → ℕ → Kept
@@ -45,8 +45,8 @@ returns-2 c = λ last.
     let kept-still = nothing-put k (p .searches) (as-lent (numbersAt (p .heads) k) (searchAt (p .searches) k) (gone .go-on .ensures) (other .if1 .left)) in
     from-same p k next kept-still (c .next .ensures last)
 
-pub serve-spec : {M : Type 1} → statement M
-serve-spec =
+pub make-step-spec : {M : Type 1} → statement M
+make-step-spec =
     tie.close
     (tie.spec
     (λ c. search needs)
