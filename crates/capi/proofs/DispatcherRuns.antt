@@ -11,6 +11,7 @@ use Rattle.kept.proofs.FirstJobs.{starts-empty}
 use Rattle.kept.proofs.Runs.{faithful}
 use Rattle.turns.specs.Dispatcher.{Event, on, turn, reply}
 use Rattle.capi.specs.DispatcherRuns.{number, answer, peeked, turned, DReturn, DStep, DRun, replyFor, frameFor, DGiven, DReturned, DEdge}
+use Rattle.capi.proofs.DispatcherTotal.{dispatcher-total}
 
 -- by what the function promises of each struct
 given : (p : Kept) (e : Event jobs) (r : DReturn) → DStep p e r → DGiven p e r
@@ -66,6 +67,7 @@ module _ (p : Kept) (es : List (Event jobs)) (q : Kept) (eight : EightKept p) (e
 pub dispatcher-edge : DEdge
 dispatcher-edge =
     record {
+      total = dispatcher-total;
       given = given;
       left = λ p es q eight empty ran. left p es q eight empty ran;
       returned = λ p es q e r eight empty ran done. returned p es q eight empty ran e r done;

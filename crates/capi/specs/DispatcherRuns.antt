@@ -103,6 +103,8 @@ pub record DReturned (a : ℕ → Arrays) (es : List (Event jobs)) (e : Event jo
   pub frame : r .frame ≡ frameFor e (reply jobs (dispatched a es) e)
 
 pub record DEdge : Type 0 where
+  -- what the exported functions promise can be given, whatever the struct
+  pub total : (p : Kept) (e : Event jobs) → (r : DReturn) × DStep p e r
   -- from any struct
   pub given : (p : Kept) (e : Event jobs) (r : DReturn) → DStep p e r → DGiven p e r
   -- from the struct that tomkhadi_dispatcher_empty leaves, p, whose arrays have eight parts
