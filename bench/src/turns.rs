@@ -147,6 +147,8 @@ pub fn print() {
     let locates = cases::all()
         .into_iter()
         .filter(|case| matches!(case, Case::Frame(Step::Locate, _)) && case.beside().is_none());
+    // The first six, by the order of `cases::all`: three of the full frame and three of the small one.
+    // Those with given columns damaged come after them.
     let most = locates
         .take(6)
         .map(|case| measure(&case))

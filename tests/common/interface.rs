@@ -422,8 +422,9 @@ mod library {
         fn header_dispatcher_turn(d: *mut Dispatcher) -> Turned;
     }
 
-    // SAFETY, of every call: a pointer is that of a job or a dispatcher, of 32 words, or of a slice and followed by its length;
-    // what is lent mutably overlaps nothing else, and the header's functions keep nothing of it.
+    // SAFETY, of every call: a pointer is that of a job or a dispatcher, of 32 words, or of a slice
+    // and followed by its length; what is lent mutably overlaps nothing else, and the header's
+    // functions keep nothing of it.
     impl Calls for Library {
         fn find(&self, p: u32, lengths: &[u16], symbols: &[u16], taps: &mut [u16]) -> Register {
             unsafe {

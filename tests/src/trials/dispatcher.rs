@@ -254,8 +254,8 @@ impl<'a, 'b> Trial<'a, 'b> {
         );
     }
 
-    /// The call on job k and on the same job by itself.
-    fn call(&mut self, k: usize, event: &Event) {
+    /// The call on job k and on the same job by itself. Answers what the latter says.
+    fn call(&mut self, k: usize, event: &Event) -> Said {
         let name = event.name();
         let before = self.jobs[k].head;
         let (mut expected, mut got) = (Lent::new(&event.frame), Lent::new(&event.frame));
@@ -276,7 +276,8 @@ impl<'a, 'b> Trial<'a, 'b> {
         if matches!(event.call, Call::Locate | Call::Start) && said.refusal() == 0 {
             self.lent[k] = Some(event.clone());
         }
-        self.begins(k, event, said.refusal());
+        self.begins(k, event, wanted.refusal());
+        wanted
     }
 
     /// A start that is not refused begins to wait, and what leaves nothing unfinished ends that.
@@ -454,16 +455,19 @@ impl<'a, 'b> Trial<'a, 'b> {
         }
     }
 
-    /// Starts job k, with another shape half of the time, where there are steps to make.
+    /// Starts job k, with another shape half of the time: until a start is not refused and there are steps to
+    /// make. One that is refused leaves what an earlier one began.
     fn start(&mut self, k: usize) {
-        if self.random.once_in(2) || shape_of(&self.jobs[k].head).is_none() {
-            let shape = self.some_shape();
-            self.call(k, &shape);
-        }
-        let event = self.some_frame(k, Call::Start);
-        self.call(k, &event);
-        if !self.is_unfinished(k) {
-            self.start(k);
+        loop {
+            if self.random.once_in(2) || shape_of(&self.jobs[k].head).is_none() {
+                let shape = self.some_shape();
+                self.call(k, &shape);
+            }
+            let event = self.some_frame(k, Call::Start);
+            let said = self.call(k, &event);
+            if said.refusal() == 0 && self.is_unfinished(k) {
+                return;
+            }
         }
     }
 
@@ -528,6 +532,7 @@ impl<'a, 'b> Trial<'a, 'b> {
     /// A job is stepped while all others are unfinished in every turn, ended, dropped and started anew as
     /// they may be: each of its steps but the first takes eight turns.
     fn never_at_rest(&mut self) {
+        self.shape_most();
         for _ in 0..self.random.below(20) {
             self.some_event();
         }
