@@ -41,7 +41,8 @@ module _ (a : ℕ → Arrays) where
 -- 4,095 turns are 511 rounds, and seven turns that do not come to job 7 again
 pub reached-4096 : Reached4096
 reached-4096 a = (
-    turns-counted jobs 4095,
-    ap (λ (d : Jobs jobs). jobs .unfinished (d .at 7)) (run-append jobs (emptied a) (longStarts 8) (turns jobs 4095))
-    ∙ ap (jobs .unfinished) (round-and-round jobs (dispatched a (longStarts 8)) 512 4095 7 (last-7 a) (each-goes a) (omega arith) (omega arith))
-    ∙ each-goes a 7 511 (omega arith) (omega arith))
+  turns-counted jobs 4095,
+  ap (λ (d : Jobs jobs). jobs .unfinished (d .at 7)) (run-append jobs (emptied a) (longStarts 8) (turns jobs 4095))
+      ∙ ap (jobs .unfinished) (round-and-round jobs (dispatched a (longStarts 8)) 512 4095 7 (last-7 a) (each-goes a) (omega arith) (omega arith))
+      ∙ each-goes a 7 511 (omega arith) (omega arith),
+)
