@@ -24,6 +24,12 @@ pub record Projected (a : ℕ → Arrays) (es : List (Event jobs)) (k : ℕ) : T
   -- of jobs that calls leave the phase tells alone whether a locate is unfinished
   pub by-phase : jobs .unfinished (dispatched a es .at k) ≡ isUnfinished (dispatched a es .at k)
 
+-- Each turn that is counted as serving job k is a step of it.
+abbrev pub ServiceSteps : Type 0
+ServiceSteps =
+    (a : ℕ → Arrays) (before es : List (Event jobs)) (k : ℕ) →
+    servesIn jobs k (dispatched a before) es ≤ stepsIn (callsOn jobs k (dispatched a before) es)
+
 -- While job k is unfinished it is served within any eight turns.
 abbrev pub ServedWithin8 : Type 0
 ServedWithin8 =
@@ -68,6 +74,7 @@ pub record Dispatches : Type 0 where
   pub projected : (a : ℕ → Arrays) (es : List (Event jobs)) (k : ℕ) → k < 8 → Projected a es k
   pub calling : (a : ℕ → Arrays) (es : List (Event jobs)) (k : ℕ) (c : Call) → Calling jobs (dispatched a es) k c
   pub turning : (a : ℕ → Arrays) (es : List (Event jobs)) → Turning jobs (dispatched a es)
+  pub service-steps : ServiceSteps
   pub served-within-8 : ServedWithin8
   pub done-within-4096 : DoneWithin4096
   pub reached-4096 : Reached4096
