@@ -24,7 +24,7 @@ refusals =
     refusal.Modulus ∷ refusal.Count ∷ refusal.Lengths ∷ refusal.Symbol ∷ refusal.Columns ∷ refusal.Checks ∷ refusal.FrameSize ∷ refusal.TapBuffer ∷
     refusal.BadRecord ∷
     refusal.Empty ∷ refusal.NotLocated ∷ refusal.SumsDiffer ∷ refusal.NotAlone ∷ refusal.ShortRow ∷ refusal.NoFrame ∷ refusal.BadCells ∷
-    refusal.Exponent ∷ refusal.NotUnfinished ∷ []
+    refusal.Exponent ∷ refusal.NotUnfinished ∷ refusal.UniformFrame ∷ []
 
 pub record Literals : Type 0 where
   -- the lowest bits of words 0 and 1 and the highest bit of word 3
@@ -34,7 +34,7 @@ pub record Literals : Type 0 where
   -- of each column alone: bit i mod 64 of word i / 64
   pub each : tabulate 256 (λ i. columnsOf (eqb i) .words) ≡ tabulate 256 (λ i. tabulate 4 (λ w. cond (eqb w (i / 64)) (2 ^ (i % 64)) 0))
   pub none : noColumns .words ≡ 0 ∷ 0 ∷ 0 ∷ 0 ∷ []
-  pub numbers : map number refusals ≡ 1 ∷ 2 ∷ 3 ∷ 4 ∷ 5 ∷ 6 ∷ 7 ∷ 8 ∷ 9 ∷ 21 ∷ 22 ∷ 23 ∷ 24 ∷ 25 ∷ 26 ∷ 31 ∷ 32 ∷ 33 ∷ []
+  pub numbers : map number refusals ≡ 1 ∷ 2 ∷ 3 ∷ 4 ∷ 5 ∷ 6 ∷ 7 ∷ 8 ∷ 9 ∷ 21 ∷ 22 ∷ 23 ∷ 24 ∷ 25 ∷ 26 ∷ 31 ∷ 32 ∷ 33 ∷ 34 ∷ []
   -- the job is shaped after 24, 25, 26 and after no other
   pub shaping :
       map late (map number refusals) ≡

@@ -9,13 +9,12 @@ use native.Mathlib.Omega.{arith}
 use lib.ListN.{length}
 use Rattle.columns.specs.Columns.{has}
 use Rattle.columns.proofs.Listing.{by-test}
-use Rattle.refusal.proofs.Orders.{outcome-refused, outcome-passed}
+use Rattle.refusal.proofs.Orders.{outcome-in-turn, outcome-refused, passed-pass}
 use Rattle.frame.proofs.Declarable.{read-says}
 use Rattle.frame.proofs.Distances.{agree, row-of-difference}
-use Rattle.frame.proofs.Encoding.{encoder}
+use Rattle.frame.proofs.EncodeReasons.{encode-says, encode-passes}
 use Rattle.frame.proofs.ReadFrames.{length-read, read-declared, read-kept}
-use Rattle.frame.proofs.Reasons.{shape-says, encode-says, frame-says}
-use Rattle.frame.proofs.Shapes.{shape-ranges}
+use Rattle.frame.proofs.Reasons.{shape-says, frame-says}
 use Rattle.frame.specs.DeclaredCells.{Declared, asRead, readTests, readReasons, differsRead, DiffersAt, Reading}
 use Rattle.frame.specs.Demands.{Demand1, Demand2, shapeReasons, encodeReasons, frameReasons}
 use Rattle.frame.specs.Encode.{encodeTests}
@@ -26,16 +25,12 @@ use Rattle.frame.specs.declared.Shape.{Shape}
 pub demand-1 : Demand1
 demand-1 = record {
   shape = λ n checks b. outcome-refused (shapeTests n checks b) (shapeReasons n checks b) (shape-says n checks b);
-  encode = λ s f. outcome-refused (encodeTests s f) (encodeReasons s f) (encode-says s f);
+  encode = λ s f k shape. outcome-in-turn (encodeTests s f) (encodeReasons s f) (encode-says s f shape) k;
   frame = λ s f. outcome-refused (frameTests s f) (frameReasons s f) (frame-says s f);
 }
 
 pub demand-2 : Demand2
-demand-2 s f shape pass =
-    let (size, (symbol, none)) = outcome-passed (encodeTests s f) (encodeReasons s f) (encode-says s f) .0 pass in
-    encoder s f (shape-ranges s shape)
-    (elim (ℕ-discrete (length f) (s .rows * s .columns)) [ yes e ↦ e | no n ↦ absurd (size n) ])
-    (λ h i r d c. elim (decLt (cell (s .columns) f h i) 257) [ yes l ↦ l | no n ↦ absurd (symbol (h, i, r, d, c, omega arith)) ])
+demand-2 s f shape pass = encode-passes s f shape (passed-pass (encodeTests s f) pass)
 
 -- a column of the frames as read differs exactly where an undeclared cell of it does
 module _ (s : Shape) (D : Declared) (f g : List ℕ) (whole : length f ≡ s .rows * s .columns) (sized : length g ≡ s .rows * s .columns) (i : ℕ)

@@ -1,4 +1,4 @@
--- The encoder: each row completed at its check columns 0 .. N_h − 1 is legal, keeps the data, and is the only such frame.
+-- The encoder: each row completed at its check columns 0 .. N_h − 1 is a codeword, keeps the data, and is the only such frame.
 use mathlib.Core.Path.{_≡_, sym, ap, _∙_}
 use mathlib.Core.Bool.{true, false, false≢true}
 use mathlib.Core.List.{List}
@@ -16,8 +16,8 @@ use Rattle.frame.proofs.CompletedFrames.{length-completedFrame, complet
 use Rattle.field257.proofs.Members.{size, Below}
 use Rattle.frame.proofs.Rows.{cell-place, each-symbol}
 use Rattle.frame.proofs.Shapes.{Ranges}
-use Rattle.frame.specs.Encode.{encoded, OnlyLegal}
-use Rattle.frame.specs.Frame.{row, cell, checkSum}
+use Rattle.frame.specs.Encode.{encoded, SameData}
+use Rattle.frame.specs.Frame.{row, cell, checkSum, Coded}
 use Rattle.frame.specs.Shape.{checksOf}
 use Rattle.frame.specs.declared.Shape.{Shape}
 
@@ -42,6 +42,12 @@ has-not-first m i h le = has-columnsOf (λ i. ltb i m) i h ∙ le-ltb i m le
 
 -- ---- the encoded frame
 
+-- e has the data of f, and is the only codeword that does
+pub record OnlyCoded (s : Shape) (f e : List ℕ) : Type 0 where
+  pub coded : Coded s e
+  pub same-data : SameData s f e
+  pub only : (g : List ℕ) → Coded s g → SameData s f g → g ≡ e
+
 module _ (s : Shape) (f : List ℕ) (ranges : Ranges s) (whole : length f ≡ s .rows * s .columns)
     (small : (h i : ℕ) → h < s .rows → checksOf s h ≤ i → i < s .columns → cell (s .columns) f h i < 257) where
   abbrev checkColumns : ℕ → Columns
@@ -60,10 +66,10 @@ module _ (s : Shape) (f : List ℕ) (ranges : Ranges s) (whole : length f ≡ s 
   not-check : (h i : ℕ) → i < s .columns → has (checkColumns h) i ≡ false → checksOf s h ≤ i
   not-check h i c e = ltb-false i (checksOf s h) (sym (has-columnsOf (λ k. ltb k (checksOf s h)) i (let b = narrow in omega arith)) ∙ e)
 
-  pub encoder : OnlyLegal s f (encoded s f)
+  pub encoder : OnlyCoded s f (encoded s f)
   unfolding encoded
   encoder = record {
-    legal = record {
+    coded = record {
       well-formed = record {
         size = length-completedFrame (s .exponent) (s .columns) (s .rows) checkColumns f whole;
         symbols = each-symbol (λ x. x < 257) (s .columns) (s .rows) (encoded s f)
@@ -79,10 +85,10 @@ module _ (s : Shape) (f : List ℕ) (ranges : Ranges s) (whole : length f ≡ s 
     same-data = λ h i r d c.
         sym (completedFrame-kept (s .exponent) (s .columns) (s .rows) checkColumns f whole h i r c
         (has-not-first (checksOf s h) i (let b = narrow in omega arith) d));
-    only = λ g legal same.
-        completedFrame-only (s .exponent) (s .columns) (s .rows) checkColumns f whole narrow checks-below g (legal .well-formed .size)
-        (λ h i r c. legal .well-formed .symbols (h * s .columns + i)
-        (let e = legal .well-formed .size in let p = cell-place (s .columns) (s .rows) h i r c in omega arith))
+    only = λ g coded same.
+        completedFrame-only (s .exponent) (s .columns) (s .rows) checkColumns f whole narrow checks-below g (coded .well-formed .size)
+        (λ h i r c. coded .well-formed .symbols (h * s .columns + i)
+        (let e = coded .well-formed .size in let p = cell-place (s .columns) (s .rows) h i r c in omega arith))
         (λ h i r c e. sym (same h i r (not-check h i c e) c))
-        (λ h j r l. legal .codeword h (suc j) r (omega arith) (let e = size-checks h r in omega arith));
+        (λ h j r l. coded .codeword h (suc j) r (omega arith) (let e = size-checks h r in omega arith));
   }

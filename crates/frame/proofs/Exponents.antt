@@ -43,7 +43,7 @@ pub exponent-one : ExponentOne
 exponent-one = record {
   weights = weight-one;
   sums = sums;
-  legal = λ s f e. (
+  coded = λ s f e. (
     (λ l. (l .well-formed, λ h j r one within. sym (at-one s (row (s .columns) f h) j e) ∙ l .codeword h j r one within)),
     (λ (w, zeros). record { well-formed = w; codeword = λ h j r one within. at-one s (row (s .columns) f h) j e ∙ zeros h j r one within }),
   );

@@ -9,8 +9,8 @@ use lib.Dec.{ltb, eqb}
 use lib.ListN.{length, getD}
 use borrow.Author.Tests.{lt-ltb, le-ltb}
 use borrow.Rule.Slice.PartMut.{midOf, mid-len}
-use Rattle.frame.specs.Encode.{dataBelow, encodeTests}
-use Rattle.frame.specs.Frame.{cell, frameTests}
+use Rattle.frame.specs.Encode.{dataBelow, encoded, encodeTests}
+use Rattle.frame.specs.Frame.{cell, frameTests, uniform}
 use Rattle.frame.specs.Shape.{checksOf}
 use Rattle.frame.specs.declared.Shape.{Shape}
 use Rattle.lists.specs.Tabulate.{every}
@@ -19,19 +19,20 @@ use Rattle.lists.proofs.Tabulated.{every-at, every-of, every-fails, every-witne
 use Rattle.refusal.specs.Order.{firstOf}
 use Rattle.frame.proofs.RowPlace.{RowPlace}
 
--- what follows from the tests of the encoder, and of a frame, once their answers are known
+-- what follows from the tests of a frame, and of the encoder, once their answers are known
 module _ {A : Type 0} (refuse : ℕ → A) (otherwise : A) (s : Shape) (f : List ℕ) (size below : Bool)
     (sized : eqb (length f) (s .rows * s .columns) ≡ size) where
   abbrev answer : Bool → Bool → A
   answer l b = cond (not l) (refuse 7) (cond (not b) (refuse 4) otherwise)
 
-  pub by-encode-tests : dataBelow s f ≡ below → answer size below ≡ firstOf refuse (encodeTests s f) otherwise
-  unfolding encodeTests
-  by-encode-tests e = sym (ap₂ answer sized e)
-
   pub by-frame-tests : every (length f) (λ k. ltb (getD f k 0) 257) ≡ below → answer size below ≡ firstOf refuse (frameTests s f) otherwise
   unfolding frameTests
   by-frame-tests e = sym (ap₂ answer sized e)
+
+  pub by-encode-tests : (one : Bool) → dataBelow s f ≡ below → uniform (encoded s f) ≡ one
+      → cond (not size) (refuse 7) (cond (not below) (refuse 4) (cond one (refuse 34) otherwise)) ≡ firstOf refuse (encodeTests s f) otherwise
+  unfolding encodeTests
+  by-encode-tests one e u = rw (sized, e, u) refl
 
 -- ---- the data of a row
 

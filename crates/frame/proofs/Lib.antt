@@ -6,6 +6,7 @@ pub mod CompletionLaws
 pub mod Declarable
 pub mod Demands
 pub mod Distances
+pub mod EncodeReasons
 pub mod Encoding
 pub mod Exponents
 pub mod FrameTests
@@ -33,4 +34,6 @@ pub mod ShapeTests
 pub mod Shapes
 pub mod Symbols
 pub mod SymbolsPut
+pub mod Uniform
+pub mod UniformFrames
 pub mod Weights

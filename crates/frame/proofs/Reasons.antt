@@ -14,8 +14,8 @@ use Rattle.lists.specs.Tabulate.{every}
 use Rattle.lists.proofs.Tabulated.{every-at, every-of, every-witness, every-ext}
 use Rattle.refusal.proofs.Orders.{Pass, no-fail, Says, SayAll, says-not}
 use Rattle.refusal.proofs.Ranges.{outside-says}
-use Rattle.frame.specs.Demands.{BadChecks, columnsReason, shapeReasons, encodeReasons, frameReasons, sizeReason, symbolsReason}
-use Rattle.frame.specs.Encode.{encodeTests, dataBelow}
+use Rattle.frame.specs.Demands.{BadChecks, columnsReason, shapeReasons, dataReason, frameReasons, sizeReason, symbolsReason}
+use Rattle.frame.specs.Encode.{dataBelow}
 use Rattle.frame.specs.Frame.{cell, WellFormed, symbolsTest, frameTests}
 use Rattle.frame.specs.Shape.{checksOf, shapeOf, columnsTest, shapeTests, isShape, rowsInRange, columnsInRange, checksInRange, exponentInRange}
 use Rattle.frame.specs.declared.Shape.{Shape}
@@ -69,18 +69,13 @@ pub size-says : (s : Shape) (f : List ℕ)
     → Says (record { number = 7; fails = not (eqb (length f) (s .rows * s .columns)) }) (sizeReason s f)
 size-says s f = says-not 7 (eqb (length f) (s .rows * s .columns)) _ (λ e n. n (eqb-true _ _ e)) (eqb-false _ _)
 
-pub encode-says : (s : Shape) (f : List ℕ) → SayAll (encodeTests s f) (encodeReasons s f)
-unfolding encodeTests dataBelow
-encode-says s f = (
-  size-says s f,
-  (
+pub data-says : (s : Shape) (f : List ℕ) → Says (record { number = 4; fails = not (dataBelow s f) }) (dataReason s f)
+unfolding dataBelow
+data-says s f =
     says-not 4 (every (s .rows) (λ h. every (s .columns) (below h))) _
-        (λ e (h, i, r, c, n, x). false≢true (sym (ap₂ _||_ (le-ltb i (checksOf s h) c) (le-ltb (cell (s .columns) f h i) 257 x))
-        ∙ every-at (s .columns) (below h) (every-at (s .rows) _ e h r) i n))
-        found,
-    tt,
-  ),
-)
+    (λ e (h, i, r, c, n, x). false≢true (sym (ap₂ _||_ (le-ltb i (checksOf s h) c) (le-ltb (cell (s .columns) f h i) 257 x))
+    ∙ every-at (s .columns) (below h) (every-at (s .rows) _ e h r) i n))
+    found
   where
     below : ℕ → ℕ → Bool
     below h i = ltb i (checksOf s h) || ltb (cell (s .columns) f h i) 257

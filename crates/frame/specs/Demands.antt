@@ -8,8 +8,8 @@ use Prim.Native.Nat.{ℕ, _*_, _≤_, _<_}
 use lib.ListN.{length, getD}
 use Rattle.refusal.specs.Order.{Reason, First}
 use Rattle.refusal.specs.Outcome.{outcome, passed, refused}
-use Rattle.frame.specs.Encode.{encoded, encodeTests, OnlyLegal}
-use Rattle.frame.specs.Frame.{cell, frameTests}
+use Rattle.frame.specs.Encode.{encoded, encodeTests, SameData, OnlyLegal}
+use Rattle.frame.specs.Frame.{cell, frameTests, Legal}
 use Rattle.frame.specs.Shape.{checksOf, isShape, shapeTests}
 use Rattle.frame.specs.declared.Shape.{Shape}
 
@@ -36,15 +36,20 @@ abbrev pub sizeReason : Shape → (f : List ℕ) → Reason
 sizeReason s f = record { number = 7; holds = length f ≡ s .rows * s .columns → ⊥ }
 
 -- encode looks at data cells only
-abbrev pub encodeReasons : Shape → (f : List ℕ) → List Reason
-encodeReasons s f =
-    sizeReason s f ∷
+abbrev pub dataReason : Shape → (f : List ℕ) → Reason
+dataReason s f =
     record {
       number = 4;
       holds =
           (h : ℕ) × (i : ℕ) × (h < s .rows) × (checksOf s h ≤ i) × (i < s .columns) × (257 ≤ cell (s .columns) f h i);
-    } ∷
-    []
+    }
+
+-- no legal frame has the data: the only codeword that has them is uniform
+abbrev pub uniformReason : Shape → (f : List ℕ) → Reason
+uniformReason s f = record { number = 34; holds = (g : List ℕ) → Legal s g → SameData s f g → ⊥ }
+
+abbrev pub encodeReasons : Shape → (f : List ℕ) → List Reason
+encodeReasons s f = sizeReason s f ∷ dataReason s f ∷ uniformReason s f ∷ []
 
 abbrev pub symbolsReason : (f : List ℕ) → Reason
 symbolsReason f = record { number = 4; holds = (k : ℕ) × (k < length f) × (257 ≤ getD f k 0) }
@@ -55,7 +60,8 @@ frameReasons s f = sizeReason s f ∷ symbolsReason f ∷ []
 pub record Demand1 : Type 0 where
   pub shape :
       (n : ℕ) (checks : List ℕ) (b k : ℕ) → (outcome (shapeTests n checks b) ≡ refused k) ↔ First k (shapeReasons n checks b)
-  pub encode : (s : Shape) (f : List ℕ) (k : ℕ) → (outcome (encodeTests s f) ≡ refused k) ↔ First k (encodeReasons s f)
+  pub encode :
+      (s : Shape) (f : List ℕ) (k : ℕ) → isShape s ≡ true → (outcome (encodeTests s f) ≡ refused k) ↔ First k (encodeReasons s f)
   pub frame : (s : Shape) (f : List ℕ) (k : ℕ) → (outcome (frameTests s f) ≡ refused k) ↔ First k (frameReasons s f)
 
 -- Demand 2 of the encoder

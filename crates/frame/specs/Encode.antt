@@ -10,7 +10,7 @@ use Rattle.lists.specs.Parts.{replaced}
 use Rattle.lists.specs.Tabulate.{every}
 use Rattle.refusal.specs.Order.{Test}
 use Rattle.frame.specs.Completion.{completed}
-use Rattle.frame.specs.Frame.{row, cell, Legal}
+use Rattle.frame.specs.Frame.{row, cell, Legal, uniform}
 use Rattle.frame.specs.Shape.{checksOf}
 use Rattle.frame.specs.declared.Shape.{Shape}
 
@@ -37,6 +37,7 @@ unfoldable pub encodeTests : Shape → (f : List ℕ) → List Test
 encodeTests s f =
     record { number = 7; fails = not (eqb (length f) (s .rows * s .columns)) } ∷
     record { number = 4; fails = not (dataBelow s f) } ∷
+    record { number = 34; fails = uniform (encoded s f) } ∷
     []
 
 -- two frames have the same data

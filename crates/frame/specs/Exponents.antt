@@ -9,7 +9,7 @@ use lib.ListN.{getD}
 use Rattle.lists.specs.Total.{total}
 use Rattle.refusal.specs.Order.{First}
 use Rattle.frame.specs.Demands.{rowsReason, columnsReason, checksReason, shapeReasons}
-use Rattle.frame.specs.Frame.{row, weight, checkSum, WellFormed, Legal}
+use Rattle.frame.specs.Frame.{row, weight, checkSum, WellFormed, Coded}
 use Rattle.frame.specs.Shape.{checksOf}
 use Rattle.frame.specs.declared.Shape.{Shape}
 
@@ -24,8 +24,8 @@ sumFromOne n x j = total n (λ i. getD x i 0 * 3 ^ (i * j)) % 257
 pub record ExponentOne : Type 0 where
   pub weights : (i j : ℕ) → weight 1 i j ≡ 3 ^ (i * j)
   pub sums : (n : ℕ) (x : List ℕ) (j : ℕ) → checkSum 1 n x j ≡ sumFromOne n x j
-  pub legal : (s : Shape) (f : List ℕ) → s .exponent ≡ 1 →
-      Legal s f ↔
+  pub coded : (s : Shape) (f : List ℕ) → s .exponent ≡ 1 →
+      Coded s f ↔
       (WellFormed s f ×
       ((h j : ℕ) → h < s .rows → 1 ≤ j → j ≤ checksOf s h → sumFromOne (s .columns) (row (s .columns) f h) j ≡ 0))
   pub refused : (n : ℕ) (checks : List ℕ) (k : ℕ) →

@@ -74,10 +74,23 @@ abbrev pub Codeword : Shape → (f : List ℕ) → Type 0
 Codeword s f =
     (h j : ℕ) → h < s .rows → 1 ≤ j → j ≤ checksOf s h → checkSum (s .exponent) (s .columns) (row (s .columns) f h) j ≡ 0
 
--- the specification's term: a frame that the encoder may send
-pub record Legal (s : Shape) (f : List ℕ) : Type 0 where
+-- well-formed, with every check sum 0
+pub record Coded (s : Shape) (f : List ℕ) : Type 0 where
   pub well-formed : WellFormed s f
   pub codeword : Codeword s f
+
+-- two of the symbols differ
+abbrev pub Varied : (f : List ℕ) → Type 0
+Varied f = (j : ℕ) × (k : ℕ) × (j < length f) × (k < length f) × (getD f j 0 ≡ getD f k 0 → ⊥)
+
+-- no two do: all are the first one
+unfoldable pub uniform : (f : List ℕ) → Bool
+uniform f = every (length f) (λ k. eqb (getD f k 0) (getD f 0 0))
+
+-- the specification's term: a frame that the encoder may send. A broken cable delivers one symbol throughout, so that no such frame is sent.
+pub record Legal (s : Shape) (f : List ℕ) : Type 0 where
+  pub coded : Coded s f
+  pub varied : Varied f
 
 -- whether any row of two frames differs in column i
 unfoldable pub differs : Shape → (f g : List ℕ) (i : ℕ) → Bool

@@ -76,7 +76,7 @@ SayInTurn [] (r ∷ rs) = ⊥
 SayInTurn (t ∷ ts) [] = ⊥
 SayInTurn (t ∷ ts) (r ∷ rs) = Says t r × ((r .holds → ⊥) → SayInTurn ts rs)
 
-in-turn : (ts : List Test) (rs : List Reason) → SayAll ts rs → SayInTurn ts rs
+pub in-turn : (ts : List Test) (rs : List Reason) → SayAll ts rs → SayInTurn ts rs
 in-turn [] [] s = s
 in-turn [] (r ∷ rs) s = s
 in-turn (t ∷ ts) [] s = s
@@ -105,17 +105,23 @@ fails-not t r s n = pick (t .fails) refl
     pick true e = absurd (n (s .reason e))
     pick false e = refl
 
+pub pass-none-in-turn : (ts : List Test) (rs : List Reason) → SayInTurn ts rs → Pass ts → None rs
+pass-none-in-turn [] [] s p = tt
+pass-none-in-turn [] (r ∷ rs) s p = absurd s
+pass-none-in-turn (t ∷ ts) [] s p = absurd s
+pass-none-in-turn (t ∷ ts) (r ∷ rs) s p = let n = passes t r (s .0) (p .0) in (n, pass-none-in-turn ts rs (s .1 n) (p .1))
+
+pub none-pass-in-turn : (ts : List Test) (rs : List Reason) → SayInTurn ts rs → None rs → Pass ts
+none-pass-in-turn [] [] s n = tt
+none-pass-in-turn [] (r ∷ rs) s n = absurd s
+none-pass-in-turn (t ∷ ts) [] s n = absurd s
+none-pass-in-turn (t ∷ ts) (r ∷ rs) s n = (fails-not t r (s .0) (n .0), none-pass-in-turn ts rs (s .1 (n .0)) (n .1))
+
 pub pass-none : (ts : List Test) (rs : List Reason) → SayAll ts rs → Pass ts → None rs
-pass-none [] [] s p = tt
-pass-none [] (r ∷ rs) s p = absurd s
-pass-none (t ∷ ts) [] s p = absurd s
-pass-none (t ∷ ts) (r ∷ rs) s p = (passes t r (s .0) (p .0), pass-none ts rs (s .1) (p .1))
+pass-none ts rs s = pass-none-in-turn ts rs (in-turn ts rs s)
 
 pub none-pass : (ts : List Test) (rs : List Reason) → SayAll ts rs → None rs → Pass ts
-none-pass [] [] s n = tt
-none-pass [] (r ∷ rs) s n = absurd s
-none-pass (t ∷ ts) [] s n = absurd s
-none-pass (t ∷ ts) (r ∷ rs) s n = (fails-not t r (s .0) (n .0), none-pass ts rs (s .1) (n .1))
+none-pass ts rs s = none-pass-in-turn ts rs (in-turn ts rs s)
 
 -- Gives a says that a is the refusal k. Where no reason of an order holds, what is given goes on with the order `rest`.
 module _ {A : Type 0} (Gives : A → Type 0) (k : ℕ) (refuse : ℕ → A) (tells : (m : ℕ) → Gives (refuse m) ↔ (k ≡ m)) where
@@ -166,13 +172,16 @@ passed-differs k e = let z : _≡_ {A = ℕ} 0 1 = cc in omega arith
 pub passed-pass : (ts : List Test) → outcome ts ≡ passed → Pass ts
 passed-pass ts = by-tests refused passed (λ o. o ≡ passed → Pass ts) ts (λ k a e. absurd (passed-differs k (sym e))) (λ p e. p)
 
+-- a number is answered exactly where its reason is the first that holds
+pub outcome-in-turn : (ts : List Test) (rs : List Reason) → SayInTurn ts rs → (k : ℕ) → (outcome ts ≡ refused k) ↔ First k rs
+outcome-in-turn ts rs say k =
+    subst (λ (l : List Reason). (outcome ts ≡ refused k) ↔ First k l) (append-nil rs)
+    (gives-in-turn (λ o. o ≡ refused k) k refused (λ m. (refused-tells k m, λ e. cc)) ts rs passed [] say
+    (λ n. (passed-differs k, λ e. absurd e)))
+
 module _ (ts : List Test) (rs : List Reason) (say : SayAll ts rs) where
-  -- a number is answered exactly where its reason is the first that holds
   pub outcome-refused : (k : ℕ) → (outcome ts ≡ refused k) ↔ First k rs
-  outcome-refused k =
-      subst (λ (l : List Reason). (outcome ts ≡ refused k) ↔ First k l) (append-nil rs)
-      (gives-first (λ o. o ≡ refused k) k refused (λ m. (refused-tells k m, λ e. cc)) ts rs passed [] say
-      (λ n. (passed-differs k, λ e. absurd e)))
+  outcome-refused = outcome-in-turn ts rs (in-turn ts rs say)
 
   -- and none where no reason holds
   pub outcome-passed : (outcome ts ≡ passed) ↔ None rs

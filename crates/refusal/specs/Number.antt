@@ -20,6 +20,7 @@ use Rattle.refusal.specs.declared.Refusal.the-variants.{
   BadCells,
   Exponent,
   NotUnfinished,
+  UniformFrame,
 }
 
 abbrev pub number : Refusal → ℕ
@@ -41,3 +42,4 @@ number NoFrame = 26
 number BadCells = 31
 number Exponent = 32
 number NotUnfinished = 33
+number UniformFrame = 34

@@ -21,6 +21,7 @@ pub enum Refusal {
     BadCells,
     Exponent,
     NotUnfinished,
+    UniformFrame,
 }
 
 // What a test of the input finds: nothing to refuse, or the refusal.
@@ -52,5 +53,6 @@ pub fn number_of(r: Refusal) -> u32
         Refusal::BadCells => 31,
         Refusal::Exponent => 32,
         Refusal::NotUnfinished => 33,
+        Refusal::UniformFrame => 34,
     }
 }

@@ -7,7 +7,7 @@ use lib.ListN.{length}
 use Rattle.refusal.specs.Number.{number}
 use Rattle.refusal.specs.declared.Refusal.{Refusal}
 use Rattle.refusal.specs.declared.Refusal.the-variants.{Modulus, Count, Lengths, Symbol, Columns, Checks, FrameSize, TapBuffer, BadRecord}
-use Rattle.refusal.specs.declared.Refusal.the-variants.{Empty, NotLocated, SumsDiffer, NotAlone, ShortRow, NoFrame, BadCells, Exponent, NotUnfinished}
+use Rattle.refusal.specs.declared.Refusal.the-variants.{Empty, NotLocated, SumsDiffer, NotAlone, ShortRow, NoFrame, BadCells, Exponent, NotUnfinished, UniformFrame}
 use Rattle.text.specs.Text.{spaced, line}
 use Rattle.text.specs.Written.{Written}
 use Rattle.text.proofs.Digits.{spaced-append}
@@ -33,6 +33,7 @@ number-small NoFrame = omega arith
 number-small BadCells = omega arith
 number-small Exponent = omega arith
 number-small NotUnfinished = omega arith
+number-small UniformFrame = omega arith
 
 module _ (l : List ℕ) (at letter : ℕ) (xs m : List ℕ) (e : ℕ) (fits : e ≤ length l) (w : Written l at (letter ∷ spaced xs) m e) where
   pub line-more : (ys q : List ℕ) (f : ℕ) → Written m e (spaced ys) q f → Written l at (letter ∷ spaced (xs ++ ys)) q f

@@ -1,0 +1,2 @@
+-- A frame completed at columns of its own for each row is uniform exactly where the cells outside these columns hold one symbol and that symbol in every cell
+-- makes the first check sums of each row 0, as many as the row has such columns. So this can be told without completing.
