@@ -4,6 +4,7 @@ pub mod DamageSums
 pub mod FrameSums
 pub mod LeftLengths
 pub mod LeftSequences
+pub mod LegalNearest
 pub mod MendedFrame
 pub mod NamedColumns
 pub mod NothingDeclared

@@ -1,5 +1,5 @@
 -- The mended frame: each row completed at the columns of a set M and its declared ones. It is well-formed, keeps the symbols in all other cells, has all check
--- sums 0 exactly where every row can be completed, and is the only legal frame that keeps these symbols where no row has fewer checks than columns to be
+-- sums 0 exactly where every row can be completed, and is the only codeword that keeps these symbols where no row has fewer checks than columns to be
 -- filled.
 use mathlib.Core.Path.{_≡_, sym, _∙_}
 use mathlib.Core.Bool.{true, false}
@@ -16,7 +16,7 @@ use Rattle.columns.specs.declared.Columns.{Columns}
 use Rattle.decoding.specs.Remaining.{remaining, sumsRead, completable, mended}
 use Rattle.decoding.proofs.CompletedRows.{row-codeword, codeword-row}
 use Rattle.decoding.proofs.FrameSums.{codeword-sums, sums-codeword}
-use Rattle.frame.specs.Frame.{row, cell, checkSum, WellFormed, Codeword, Legal}
+use Rattle.frame.specs.Frame.{row, cell, checkSum, WellFormed, Codeword, Coded}
 use Rattle.frame.specs.DeclaredCells.{Declared, erasures, asRead, WellFormedRead}
 use Rattle.frame.specs.Shape.{isShape, checksOf}
 use Rattle.frame.specs.declared.Shape.{Shape}
@@ -125,12 +125,12 @@ module _ (s : Shape) (shape : isShape s ≡ true) (D : Declared) (f : List ℕ) 
     λ code. keeps-fits E code mended-kept,
   )
 
-  pub mended-only : ((h : ℕ) → h < s .rows → size (either M (D h)) ≤ checksOf s h) → (g : List ℕ) → Legal s g
+  pub mended-only : ((h : ℕ) → h < s .rows → size (either M (D h)) ≤ checksOf s h) → (g : List ℕ) → Coded s g
       → ((h i : ℕ) → h < s .rows → i < s .columns → has (either M (D h)) i ≡ false → cell (s .columns) g h i ≡ cell (s .columns) (asRead s D f) h i)
       → g ≡ mended s D M f
   unfolding mended
-  mended-only reach g legal kept =
-      completedFrame-only b n (s .rows) (λ h. either M (D h)) f (read .size) narrow sets-inside g (legal .well-formed .size)
-      (cell-below s g (legal .well-formed))
+  mended-only reach g coded kept =
+      completedFrame-only b n (s .rows) (λ h. either M (D h)) f (read .size) narrow sets-inside g (coded .well-formed .size)
+      (cell-below s g (coded .well-formed))
       (λ h i below inside out. kept h i below inside out ∙ read-kept s D f (read .size) h i below inside (undeclared h i inside out))
-      (λ h j below few. legal .codeword h (suc j) below (omega arith) (let r = reach h below in omega arith))
+      (λ h j below few. coded .codeword h (suc j) below (omega arith) (let r = reach h below in omega arith))

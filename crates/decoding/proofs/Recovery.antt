@@ -1,4 +1,4 @@
--- Recovery: the legal frame g was sent and the frame f came, damaged in w columns of undeclared cells. Where rows with at least 2·w checks left show the
+-- Recovery: the codeword g was sent and the frame f came, damaged in w columns of undeclared cells. Where rows with at least 2·w checks left show the
 -- damage of every column, and no row has fewer than w checks left, the register of f is alone and has length w, and the mended frame is g.
 use mathlib.Core.Path.{_≡_, sym, _∙_}
 use mathlib.Core.Bool.{true, false}
@@ -16,9 +16,9 @@ use Rattle.decoding.proofs.FrameSums.{error-same-cell}
 use Rattle.decoding.proofs.LeftSequences.{rows-left, length-left, part, part-nonzero, left-power}
 use Rattle.decoding.proofs.MendedFrame.{Read, cell-below}
 use Rattle.decoding.proofs.PowerSums.{Shows, size-shown, alone-shown}
-use Rattle.decoding.proofs.SoleNearest.{legal-at-size, nearest-only}
+use Rattle.decoding.proofs.SoleNearest.{coded-at-size, nearest-only}
 use Rattle.frame.specs.DeclaredCells.{Declared, erasures, checksLeft, asRead, differsRead, distanceRead}
-use Rattle.frame.specs.Frame.{cell, Legal, distance}
+use Rattle.frame.specs.Frame.{cell, Coded, distance}
 use Rattle.frame.specs.Shape.{isShape, checksOf}
 use Rattle.frame.specs.declared.Shape.{Shape}
 use Rattle.frame.proofs.Distances.{row-of-difference}
@@ -53,7 +53,7 @@ all-rows s D g f twice =
           let (h, below, apart) = row-of-difference s (asRead s D g) (asRead s D f) i differ in (h, below, below, apart);
     }
 
-module _ (s : Shape) (shape : isShape s ≡ true) (D : Declared) (g f : List ℕ) (legal : Legal s g) (read : Read s D f)
+module _ (s : Shape) (shape : isShape s ≡ true) (D : Declared) (g f : List ℕ) (coded : Coded s g) (read : Read s D f)
     (R : ℕ → Type 0) (damage : Shown s D g f R) where
   abbrev n : ℕ
   n = s .columns
@@ -62,7 +62,7 @@ module _ (s : Shape) (shape : isShape s ≡ true) (D : Declared) (g f : List ℕ
   c = sizeOf (readSequences s D f)
 
   sized : length g ≡ s .rows * s .columns
-  sized = legal .well-formed .size
+  sized = coded .well-formed .size
 
   -- a cell in which the frames as read differ is not declared
   undeclared : (h i : ℕ) → h < s .rows → i < n → (cell n (asRead s D g) h i ≡ cell n (asRead s D f) h i → ⊥) → has (D h) i ≡ false
@@ -84,16 +84,16 @@ module _ (s : Shape) (shape : isShape s ≡ true) (D : Declared) (g f : List ℕ
         part-nonzero s D f g h i few out (λ z. apart (read-kept s D g sized h i below inside out
             ∙ sym (error-same-cell (s .exponent) n (asRead s D f) g h i
             (rw (read-kept s D f (read .size) h i below inside out) (read .symbols h i below inside out))
-            (cell-below s g (legal .well-formed) h i below inside) z))),
+            (cell-below s g (coded .well-formed) h i below inside) z))),
         (let l = length-left s D f h below in omega (arith, damage .twice h below in-rows)),
       )
 
   size-w : c ≡ distanceRead s D g f
   unfolding distance
-  size-w = size-shown s shape (readSequences s D f) (left-power s D f shape g sized (legal .codeword)) shows
+  size-w = size-shown s shape (readSequences s D f) (left-power s D f shape g sized (coded .codeword)) shows
 
   alone : aloneOf (readSequences s D f) ≡ true
-  alone = alone-shown s shape (readSequences s D f) (left-power s D f shape g sized (legal .codeword)) shows
+  alone = alone-shown s shape (readSequences s D f) (left-power s D f shape g sized (coded .codeword)) shows
 
   reaches : leftReach s D c ≡ true
   unfolding leftReach
@@ -101,17 +101,17 @@ module _ (s : Shape) (shape : isShape s ≡ true) (D : Declared) (g f : List ℕ
 
   recovers : Recovers s D g f
   recovers =
-      let (names, fits) = legal-at-size s shape D f read alone .1 (g, legal, sym size-w) in
+      let (names, fits) = coded-at-size s shape D f read alone .1 (g, coded, sym size-w) in
       record {
         size = size-w;
         alone = alone;
         reaches = reaches;
         names = names;
         fits = fits;
-        frame = sym (nearest-only s shape D f read alone reaches g legal (let q = size-w in omega arith));
+        frame = sym (nearest-only s shape D f read alone reaches g coded (let q = size-w in omega arith));
       }
 
 -- Demand 3 speaks of this: in every row, twice the damaged columns and the declared cells are within the checks.
-pub recovers-twice : (s : Shape) → isShape s ≡ true → (D : Declared) (g f : List ℕ) → Legal s g → Read s D f
+pub recovers-twice : (s : Shape) → isShape s ≡ true → (D : Declared) (g f : List ℕ) → Coded s g → Read s D f
     → ((h : ℕ) → h < s .rows → 2 * distanceRead s D g f + erasures D h ≤ checksOf s h) → Recovers s D g f
-recovers-twice s shape D g f legal read twice = recovers s shape D g f legal read (λ h. h < s .rows) (all-rows s D g f twice)
+recovers-twice s shape D g f coded read twice = recovers s shape D g f coded read (λ h. h < s .rows) (all-rows s D g f twice)

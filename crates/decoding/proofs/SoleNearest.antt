@@ -1,6 +1,6 @@
--- Frames with declared cells. A legal frame at distance d gives a register of length d for the sequences that are left. Where their shortest register is
--- alone, a legal frame lies at the distance of its length exactly where as many columns are named and every row can be completed at its marked and declared
--- columns. Where besides no row has fewer checks left, it is the mended frame alone: every other legal frame lies farther.
+-- Frames with declared cells. A codeword at distance d gives a register of length d for the sequences that are left. Where their shortest register is
+-- alone, a codeword lies at the distance of its length exactly where as many columns are named and every row can be completed at its marked and declared
+-- columns. Where besides no row has fewer checks left, it is the mended frame alone: every other codeword lies farther.
 use mathlib.Core.Path.{_≡_, sym, ap, ap₂, _∙_}
 use mathlib.Core.Bool.{Bool, true, false, _&&_, _||_, false≢true}
 use mathlib.Core.List.{List}
@@ -26,7 +26,7 @@ use Rattle.decoding.proofs.NamedColumns.{names-all, has-named, named-pa
 use Rattle.decoding.proofs.PowerSums.{size-at-most, names-P, names-enough}
 use Rattle.decoding.proofs.SequenceRegister.{generator-of}
 use Rattle.frame.specs.DeclaredCells.{Declared, checksLeft, asRead, differsRead, distanceRead, differingRead}
-use Rattle.frame.specs.Frame.{cell, Codeword, Legal, differs, distance, differing}
+use Rattle.frame.specs.Frame.{cell, Codeword, Coded, differs, distance, differing}
 use Rattle.frame.specs.Shape.{isShape, checksOf}
 use Rattle.frame.specs.declared.Shape.{Shape}
 use Rattle.frame.proofs.Distances.{agreeing}
@@ -105,8 +105,8 @@ module _ (s : Shape) (shape : isShape s ≡ true) (D : Declared) (f : List ℕ) 
     E-codeword : Codeword s E
     E-codeword = completable-says s shape D f read M (named-below s σ) .0 fits
 
-    pub mended-legal : Legal s (mended s D (namedColumns s (tapsOf (readSequences s D f))) f)
-    mended-legal = record { well-formed = mended-well-formed s shape D f read M (named-below s σ); codeword = E-codeword }
+    pub mended-coded : Coded s (mended s D (namedColumns s (tapsOf (readSequences s D f))) f)
+    mended-coded = record { well-formed = mended-well-formed s shape D f read M (named-below s σ); codeword = E-codeword }
 
     within-named : Within n (differs s (asRead s D E) F) (named s σ)
     within-named i inside differ = pick (by-test (named s σ i))
@@ -145,30 +145,30 @@ module _ (s : Shape) (shape : isShape s ≡ true) (D : Declared) (f : List ℕ) 
 
   module _ (alone : aloneOf (readSequences s D f) ≡ true) where
     -- (2) 26 is exact
-    pub legal-at-size : ((namesAll s σ c ≡ true)
+    pub coded-at-size : ((namesAll s σ c ≡ true)
         × (completable s D M (sumsRead s D f) ≡ true))
-        ↔ ((g : List ℕ) × Legal s g × (distanceRead s D g f ≡ sizeOf (readSequences s D f)))
-    legal-at-size = (
-      λ (enough, fits). (E, mended-legal enough fits, mended-distance enough fits),
-      λ (g, legal, at).
+        ↔ ((g : List ℕ) × Coded s g × (distanceRead s D g f ≡ sizeOf (readSequences s D f)))
+    coded-at-size = (
+      λ (enough, fits). (E, mended-coded enough fits, mended-distance enough fits),
+      λ (g, coded, at).
           let near : distanceRead s D g f ≤ c = omega arith in (
-            nearest-names g (legal .well-formed .size) (legal .codeword) alone near,
-            nearest-completable g (legal .well-formed .size) (legal .codeword) alone near,
+            nearest-names g (coded .well-formed .size) (coded .codeword) alone near,
+            nearest-completable g (coded .well-formed .size) (coded .codeword) alone near,
           ),
     )
 
-    module _ (reaches : leftReach s D (sizeOf (readSequences s D f)) ≡ true) (g : List ℕ) (legal : Legal s g) where
+    module _ (reaches : leftReach s D (sizeOf (readSequences s D f)) ≡ true) (g : List ℕ) (coded : Coded s g) where
       -- (3) and that frame is the only one so near
       pub nearest-only : distanceRead s D g f ≤ sizeOf (readSequences s D f) → g ≡ mended s D (namedColumns s (tapsOf (readSequences s D f))) f
       nearest-only near =
-          let sized = legal .well-formed .size in
-          let enough = nearest-names g sized (legal .codeword) alone near in
+          let sized = coded .well-formed .size in
+          let enough = nearest-names g sized (coded .codeword) alone near in
           let all : count n (named s σ) ≡ c = names-all s c σ (generator-of (readSequences s D f) .register) shape .0 enough in
           mended-only s shape D f read M (named-below s σ) (λ h below.
           let r = left-reach s D c reaches h below in
           let l = read .few h below in
-          omega (arith, size-either M (D h), size-named s σ shape)) g legal
-          (nearest-kept g sized (legal .codeword) alone near)
+          omega (arith, size-either M (D h), size-named s σ shape)) g coded
+          (nearest-kept g sized (coded .codeword) alone near)
 
       pub sole-nearest : (g ≡ mended s D (namedColumns s (tapsOf (readSequences s D f))) f → ⊥) → sizeOf (readSequences s D f) < distanceRead s D g f
       sole-nearest other = elim (decLt c (distanceRead s D g f)) [ yes farther ↦ farther | no near ↦ absurd (other (nearest-only (omega arith))) ]
