@@ -34,7 +34,7 @@ late-among b k (t ∷ ts) l (inr a) = late-among b k ts (l .1) a
 keeping-early : (j : Job) (c : Call) → AllLate false (describe j c .keeping)
 unfolding late shapeTests encodeTests readTests rereadTests
 keeping-early j (shape n checks b) = (refl, (refl, (refl, (refl, tt))))
-keeping-early j (encode f) = (refl, (refl, (refl, tt)))
+keeping-early j (encode f) = (refl, (refl, (refl, (refl, tt))))
 keeping-early j (locate words f) = (refl, (refl, (refl, (refl, tt))))
 keeping-early j (repair f) = (refl, (refl, (refl, (refl, (refl, tt)))))
 keeping-early j (start words f) = (refl, (refl, (refl, (refl, tt))))
@@ -58,7 +58,7 @@ unfolding late registerTests
 shaping-late j (shape n checks b) = tt
 shaping-late j (encode f) = tt
 shaping-late j (locate words f) = (refl, (refl, (refl, tt)))
-shaping-late j (repair f) = tt
+shaping-late j (repair f) = (refl, tt)
 shaping-late j (start words f) = arriving-late (j .head .shape) (started (j .head .shape) (j .arrays) words f)
 shaping-late j next = arriving-late (j .head .shape) (stepped (j .head .shape) (j .arrays))
 shaping-late j peek = tt

@@ -1,4 +1,4 @@
--- The refusals by the shortest register of the check sums are those of locate: where as many columns are named as it is long, the rows in which no named
+-- The refusals by the shortest register of the check sums are those of a locate by them: where as many columns are named as it is long, the rows in which no named
 -- column is declared can be completed.
 use mathlib.Core.Path.{_≡_, refl, ap}
 use mathlib.Core.Bool.{Bool, true, false, _&&_}
@@ -13,7 +13,7 @@ use Rattle.decoding.proofs.RowsApart.{meeting-enough}
 use Rattle.frame.specs.DeclaredCells.{Declared}
 use Rattle.frame.specs.Shape.{isShape}
 use Rattle.frame.specs.declared.Shape.{Shape}
-use Rattle.job.specs.Calls.{registerTests, byRegisterTests}
+use Rattle.job.specs.Calls.{unseen, registerTests, byRegisterTests}
 
 module _ (s : Shape) (shape : isShape s ≡ true) (D : Declared) (S : List (List ℕ)) where
   abbrev ss : List (List ℕ)
@@ -33,6 +33,7 @@ module _ (s : Shape) (shape : isShape s ≡ true) (D : Declared) (S : List (List
       pick (inl enough) = ap (λ (b : Bool). named && b) (meeting-enough s shape D S enough)
       pick (inr few) = rw few refl
 
-  pub same-tests : byRegisterTests s D S (sizeOf (allRemaining s D S)) (tapsOf (allRemaining s D S)) (aloneOf (allRemaining s D S)) ≡ registerTests s D S
+  pub same-tests : byRegisterTests s D S (sizeOf (allRemaining s D S)) (tapsOf (allRemaining s D S)) (aloneOf (allRemaining s D S))
+      ≡ registerTests s D S unseen
   unfolding byRegisterTests registerTests
   same-tests = rw same-test refl

@@ -1,16 +1,19 @@
 -- Demands 2 and 3, about every list of calls on one job from an empty one.
 use mathlib.Core.Path.{_≡_, refl, sym, ap, subst, subst⁻¹, _∙_}
-use mathlib.Core.Logic.{_↔_}
+use mathlib.Core.Logic.{_⊎_, inl, inr, _↔_}
 use mathlib.Core.Bool.{Bool, true, false, and-eq-true-iff}
 use mathlib.Core.List.{List, [], _∷_, _++_, append-assoc}
 use mathlib.Core.Option.{some}
 use Prim.Native.Nat.{ℕ, _+_, _*_, _≤_, _<_}
+use Rattle.decoding.specs.Locating.{sizeOf, tapsOf}
 use Rattle.decoding.specs.Remaining.{readSequences}
+use Rattle.decoding.proofs.LegalNearest.{legal-mixed}
 use Rattle.decoding.proofs.MendedFrame.{read-facts}
 use Rattle.decoding.proofs.Recovery.{Recovers, recovers-twice}
+use Rattle.decoding.proofs.SequenceRegister.{register-of, same-size}
 use Rattle.frame.specs.DeclaredCells.{Declared, declaredBy, checksLeft, erasures, WellFormedRead, distanceRead}
 use Rattle.frame.specs.Encode.{encodeTests}
-use Rattle.frame.specs.Frame.{Legal}
+use Rattle.frame.specs.Frame.{Legal, uniform}
 use Rattle.frame.specs.Shape.{checksOf, isShape, shapeOf}
 use Rattle.frame.specs.declared.Shape.{Shape}
 use Rattle.frame.proofs.Demands as frames
@@ -19,13 +22,13 @@ use Rattle.refusal.specs.Outcome.{passed}
 use Rattle.refusal.proofs.Orders.{Pass, no-fail, pass-otherwise}
 use Rattle.register.specs.Register.{Shortest, Alone}
 use Rattle.job.specs.Calls.{Call, shape, encode, locate, repair, done, columns, refused, Outcome, describe, step}
-use Rattle.job.specs.Demands.{ShapeGives, Encoded, Mended, Found, LocateExact, RepairMends, CheckSumsDiffer, RepairExact, DamageMended}
-use Rattle.job.specs.Demands.{Demand2, Demand3}
+use Rattle.job.specs.Demands.{ShapeGives, Encoded, Mended, Found, LocateExact, RepairMends, CheckSumsDiffer, RepairRefused, RepairExact}
+use Rattle.job.specs.Demands.{RepairOfLocated, RepairAfterLocate, DamageMended, Demand2, Demand3}
 use Rattle.job.specs.Job.{Arrays, Job, emptyJob, isEmpty, isLocatedPhase, lengthOf, declaredIn, declaredSound}
 use Rattle.job.specs.Left.{Given, LeftShaped}
 use Rattle.job.specs.Refusals.{LegalAt}
 use Rattle.job.specs.Runs.{run, lastShape, IsRefused, Taken, Between, LocatedBy, at-once, GoesBack}
-use Rattle.job.proofs.AfterRefusal.{never-columns}
+use Rattle.job.proofs.AfterRefusal.{same-number, never-columns}
 use Rattle.job.proofs.Between.{between-keeps}
 use Rattle.job.proofs.Cases.{by-call}
 use Rattle.job.proofs.Emptiness.{has-shape}
@@ -33,11 +36,11 @@ use Rattle.job.proofs.Forms.{Locates, locatedFrame, run-form, run-appen
 use Rattle.job.proofs.GoingBack.{goes-back}
 use Rattle.job.proofs.LastShape.{shape-is-last}
 use Rattle.job.proofs.Left.{shape-given}
-use Rattle.job.proofs.LocatedBy.{located-by}
-use Rattle.job.proofs.Locating.{locate-takes, exact-at, found}
+use Rattle.job.proofs.LocatedBy.{located-by, located-not-empty}
+use Rattle.job.proofs.Locating.{locate-takes, exact-at-size, exact-at, found}
 use Rattle.job.proofs.NoPart.{play-no-part}
-use Rattle.job.proofs.OtherSums.{refused-where-differ}
-use Rattle.job.proofs.Repairing.{repair-mended, repair-takes}
+use Rattle.job.proofs.OtherSums.{differ-held, repair-refused}
+use Rattle.job.proofs.Repairing.{one, repair-mended, repair-takes}
 use Rattle.job.proofs.Soundness.{reached, holds-last-shape, not-empty-held, shape-held}
 
 -- ---- calls that are not refused
@@ -71,7 +74,7 @@ module _ (a : Arrays) (calls : List Call) (f : List ℕ) where
       taken-gives (repair f) MendedBack (lengthOf (run a calls .head .phase)) refl (λ p. p .0) (λ p q. (
         run a calls .arrays .declared,
         goes-back a calls (and-eq-true-iff (isLocatedPhase (run a calls .head .phase)) (soundCells (run a calls)) .0 (no-fail _ (p .1 .0)) .0),
-        repair-mended (run a calls) f (run-form a calls) p,
+        repair-mended (run a calls) f (run-form a calls) p q,
       ))
 
   finds : (words : List ℕ) → After (λ s c o. Found s words f c o) (step (run a calls) (locate words f))
@@ -145,11 +148,40 @@ module _ (a : Arrays) (before locating : List Call) (s : Shape) (words f : List 
       )
 
 repair-exact : RepairExact
-repair-exact a before locating between s words f g last by kept w =
+repair-exact a before locating between s words f g c σ last by kept w shortest =
     let D : Declared = declaredBy words in
     let (b, same) = still-located a before locating s words g last by between kept in
-    subst⁻¹ (λ j. (IsRefused (step j (repair f)) ↔ CheckSumsDiffer s D f g) × ((step j (repair f) .answer ≡ refused 23) ↔ CheckSumsDiffer s D f g)) same
-    (refused-where-differ s b words f g (shaped-so a before s last) (locates a before locating s words g last by) w)
+    subst⁻¹ (λ (n : ℕ). RepairRefused s D f g n (step (run a (before ++ (locating ++ between))) (repair f))) (same-size (readSequences s D g) c σ shortest)
+    (subst⁻¹ (λ j. RepairRefused s D f g (sizeOf (readSequences s D g)) (step j (repair f))) same
+    (repair-refused s b words f g (shaped-so a before s last) (locates a before locating s words g last by) w))
+
+-- of the frame itself
+repair-of-located : RepairOfLocated
+repair-of-located a before locating between words f by kept =
+    let D : Declared = declaredBy words in
+    let j : Job = run a before in
+    let s : Shape = j .head .shape in
+    let not-empty : isEmpty j ≡ false = located-not-empty a before words f locating by in
+    let last = last-shape a before f not-empty in
+    let l : Locates s D f = locates a before locating s words f last by in
+    let t : isShape s ≡ true = has-shape (j .head) not-empty in
+    let no-difference : CheckSumsDiffer s D f f → ⊥ = (λ d. differ-held s D f f d refl) in
+    let exact = exact-at-size j words f not-empty (l .well-formed) (l .alone) (l .reach) in
+    let missing : CheckSumsDiffer s D f f ⊎ (LegalAt s D f (sizeOf (readSequences s D f)) → ⊥) → LegalAt s D f (sizeOf (readSequences s D f)) → ⊥ =
+    (λ why. elim why [ inl d ↦ absurd (no-difference d) | inr none ↦ none ]) in
+    let refuses =
+    repair-exact a before locating between s words f f (sizeOf (readSequences s D f)) (tapsOf (readSequences s D f)) last by kept (l .well-formed)
+    (register-of (readSequences s D f) .shortest) in (
+      (
+        λ refusal. exact .1 (missing (refuses .at-all .0 refusal)),
+        λ refusal. refuses .at-all .1 (inr (exact .0 refusal)),
+      ),
+      λ k e. same-number (sym e ∙ refuses .by-26 .1 (no-difference, missing (refuses .at-all .0 (k, e)))),
+    )
+
+repair-after-locate : RepairAfterLocate
+repair-after-locate a before between words f taken kept refusal =
+    taken (repair-of-located a before (locate words f ∷ []) between words f (at-once a before words f taken) kept .0 .0 refusal)
 
 -- ---- a frame that was damaged
 
@@ -159,29 +191,33 @@ module _ (s : Shape) (t : isShape s ≡ true) (words f g : List ℕ) (legal : Le
   D = declaredBy words
 
   recovers : Recovers s D g f
-  recovers = recovers-twice s t D g f legal (read-facts s t D f w) twice
+  recovers = recovers-twice s t D g f (legal .coded) (read-facts s t D f w) twice
 
   pub damaged-locates : Locates s (declaredBy words) f
   damaged-locates =
       record { well-formed = w; alone = recovers .alone; reach = recovers .reaches; names = recovers .names; fits = recovers .fits }
 
+  -- the frame mended to is g, which is not uniform
+  pub damaged-mixed : one s (declaredBy words) f ≡ false
+  damaged-mixed = subst⁻¹ (λ e. uniform e ≡ false) (recovers .frame) (legal-mixed s g legal)
+
   -- a job that it left located mends it
   pub damaged-mended : (j : Job) (b : Arrays) → j ≡ locatedFrame s b words f → Taken (step j (repair f)) × (step j (repair f) .frame ≡ g)
   damaged-mended j b same =
-      let after = ap (λ i. step i (repair f)) same ∙ repair-takes s b words f t damaged-locates in
+      let after = ap (λ i. step i (repair f)) same ∙ repair-takes s b words f t damaged-locates damaged-mixed in
       (λ (k, refusal). never-columns (sym (ap (λ o. o .answer) after) ∙ refusal), ap (λ o. o .frame) after ∙ recovers .frame)
 
 locate-taken : (a : Arrays) (before : List Call) (s : Shape) (words f : List ℕ) → lastShape before ≡ some s → Locates s (declaredBy words) f
-    → Taken (step (run a before) (locate words f))
+    → one s (declaredBy words) f ≡ false → Taken (step (run a before) (locate words f))
 locate-taken a before s words f last =
     let (not-empty, same) = shape-held a before s last in
-    subst (λ (x : Shape). Locates x (declaredBy words) f → Taken (step (run a before) (locate words f))) same
-    (λ l (k, refusal). never-columns (sym (ap (λ o. o .answer) (locate-takes (run a before) words f not-empty l)) ∙ refusal))
+    subst (λ (x : Shape). Locates x (declaredBy words) f → one x (declaredBy words) f ≡ false → Taken (step (run a before) (locate words f))) same
+    (λ l mixed (k, refusal). never-columns (sym (ap (λ o. o .answer) (locate-takes (run a before) words f not-empty l mixed)) ∙ refusal))
 
 damage-mended : DamageMended
 damage-mended a before between s words f g last legal w twice kept =
     let t : isShape s ≡ true = shaped-so a before s last in
-    let taken = locate-taken a before s words f last (damaged-locates s t words f g legal w twice) in
+    let taken = locate-taken a before s words f last (damaged-locates s t words f g legal w twice) (damaged-mixed s t words f g legal w twice) in
     let (b, same) = still-located a before (locate words f ∷ []) s words f last (at-once a before words f taken) between kept in
     let (mended, frame) = damaged-mended s t words f g legal w twice _ b same in
     record { located = taken; mended = mended; frame = frame }
@@ -198,6 +234,8 @@ demand-3 = record {
   locate-exact = locate-exact;
   repair-mends = repair-mends;
   repair-exact = repair-exact;
+  repair-of-located = repair-of-located;
+  repair-after-locate = repair-after-locate;
   damage-mended = damage-mended;
   arrays = play-no-part;
 }

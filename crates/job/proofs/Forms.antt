@@ -4,6 +4,7 @@ use mathlib.Core.Path.{_≡_, refl, sym, ap, subst, subst⁻¹, _∙_}
 use mathlib.Core.Bool.{Bool, true, false, cond, and-eq-true-iff, false≢true}
 use mathlib.Core.List.{List, [], _∷_, _++_}
 use Prim.Native.Nat.{ℕ}
+use Rattle.columns.specs.declared.Columns.{Columns}
 use Rattle.decoding.specs.Locating.{sizeOf, tapsOf, aloneOf, namesAll, namedColumns}
 use Rattle.decoding.specs.Remaining.{allRemaining, sumsRead, readSequences, leftReach, completable}
 use Rattle.frame.specs.DeclaredCells.{Declared, declaredBy, asRead, WellFormedRead}
@@ -15,16 +16,17 @@ use Rattle.frame.proofs.HeldSums.{held-sequences}
 use Rattle.frame.proofs.Reasons.{shape-passes}
 use Rattle.refusal.proofs.Orders.{Among, Pass, no-fail}
 use Rattle.slices.specs.Synthesis.{size, ended}
-use Rattle.job.specs.Calls.{Call, shape, encode, locate, repair, start, next, peek, Outcome, describe, step, registerTests, locatedBy, locates}
+use Rattle.job.specs.Calls.{Call, shape, encode, locate, repair, start, next, peek, Outcome, describe, step, unseen, registerTests, locatedBy, locates}
 use Rattle.job.specs.Calls.{byRegisterGives, notUnfinishedTest, heldTaps, arrivesTests, arrives, started, stepped}
 use Rattle.job.specs.Calls as calls
 use Rattle.job.specs.Job.{Arrays, Job, emptyJob, shapedJob, unfinishedJob, noColumns}
 use Rattle.job.specs.Runs.{run, runFrom}
 use Rattle.job.proofs.Cases.{by-call}
 use Rattle.job.proofs.Emptiness.{has-shape}
+use Rattle.job.proofs.Seen.{seen-passes}
 use Rattle.job.proofs.Going.{Going, Arrived, on, over, start-arrives, step-arrives}
 
--- a frame that locate takes, D being its declared cells
+-- a frame that a locate by check sums takes, D being its declared cells
 pub record Locates (s : Shape) (D : Declared) (f : List ℕ) : Type 0 where
   pub well-formed : WellFormedRead s D f
   pub alone : aloneOf (readSequences s D f) ≡ true
@@ -49,7 +51,7 @@ pub data Form : Job → Type 0 where
       → Form (locatedFrame s a words f)
 
 module _ (s : Shape) (D : Declared) (f : List ℕ) where
-  of-sequences : WellFormedRead s D f → Pass (registerTests s D (sumsRead s D f)) → Locates s D f
+  of-sequences : WellFormedRead s D f → Pass (registerTests s D (sumsRead s D f) unseen) → Locates s D f
   unfolding registerTests
   of-sequences w (a, (r, (n, u))) =
       let ss : List (List ℕ) = readSequences s D f in
@@ -57,8 +59,16 @@ module _ (s : Shape) (D : Declared) (f : List ℕ) where
       and-eq-true-iff (namesAll s (tapsOf ss) (sizeOf ss)) (completable s D (namedColumns s (tapsOf ss)) (sumsRead s D f)) .0 (no-fail _ n) in
       record { well-formed = w; alone = no-fail _ a; reach = no-fail _ r; names = names; fits = fits }
 
-  pub register-passes : WellFormedRead s D f → Pass (registerTests s D (heldSequences s (heldSums s (asRead s D f)))) → Locates s D f
-  register-passes w p = of-sequences w (subst (λ S. Pass (registerTests s D S)) (held-sequences s (asRead s D f)) p)
+  module _ (one : Columns → Bool) (p : Pass (registerTests s D (heldSequences s (heldSums s (asRead s D f))) one)) where
+    passes : Pass (registerTests s D (sumsRead s D f) unseen) × (one (namedColumns s (tapsOf (readSequences s D f))) ≡ false)
+    passes = seen-passes s D (sumsRead s D f) one (subst (λ S. Pass (registerTests s D S one)) (held-sequences s (asRead s D f)) p)
+
+    pub register-passes : WellFormedRead s D f → Locates s D f
+    register-passes w = of-sequences w (passes .0)
+
+    -- where the cells are seen, the frame that would be mended to is not uniform
+    pub register-mixed : one (namedColumns s (tapsOf (readSequences s D f))) ≡ false
+    register-mixed = passes .1
 
 -- ---- a locate in slices
 
@@ -118,7 +128,7 @@ shaped-before : (j : Job) (c : Call) (k : ℕ) → Pass (describe j c .keeping) 
 shaped-before j (shape n checks b) k p a = absurd a
 shaped-before j (encode f) k p a = absurd a
 shaped-before j (locate words f) k p a = has-shape (j .head) (p .0)
-shaped-before j (repair f) k p a = absurd a
+shaped-before j (repair f) k p a = has-shape (j .head) (p .0)
 shaped-before j (start words f) k p a = has-shape (j .head) (p .0)
 shaped-before j next k p a = has-shape (j .head) (p .0)
 shaped-before j peek k p a = absurd a
@@ -130,7 +140,7 @@ gives-form j (locate words f) form (e, p) q =
     let s : Shape = j .head .shape in
     let D : Declared = declaredBy words in
     subst⁻¹ (λ S. Form (locatedBy s (j .arrays) words (allRemaining s D S) (heldSums s (asRead s D f)))) (held-sequences s (asRead s D f))
-    (located s (j .arrays) words f (has-shape (j .head) e) (register-passes s D f (read-passes s D f p) q))
+    (located s (j .arrays) words f (has-shape (j .head) e) (register-passes s D f _ q (read-passes s D f p)))
 gives-form j (repair f) form (e, p) q = shaped (j .head .shape) (j .arrays) (has-shape (j .head) e)
 gives-form j (start words f) form (e, p) q =
     let s : Shape = j .head .shape in

@@ -28,7 +28,7 @@ use Rattle.slices.proofs.Advancing.{kept-rounds, kept-round, advanced-within, a
 use Rattle.slices.proofs.Ending.{ended-size, ended-taps, ended-mark}
 use Rattle.slices.proofs.Soundness.{kept-sound}
 use Rattle.slices.proofs.Starting.{begun-kept}
-use Rattle.job.specs.Calls.{registerTests, byRegisterTests, locates, byRegisterGives, heldTaps, heldMark}
+use Rattle.job.specs.Calls.{unseen, registerTests, byRegisterTests, locates, byRegisterGives, heldTaps, heldMark}
 use Rattle.job.specs.Calls.{unfinished, arrivesTests, arrives, started, stepped}
 use Rattle.job.specs.Job.{Arrays, noColumns, unfinishedJob, endSound, stepSound}
 use Rattle.job.proofs.ByShortest.{same-tests}
@@ -47,7 +47,7 @@ pub record Over (s : Shape) (a : Arrays) (f : List ℕ) : Type 0 where
   pub well-formed : WellFormedRead s (declaredBy (a .declared)) f
   pub sums : a .sums ≡ heldSums s (asRead s (declaredBy (a .declared)) f)
   pub ended : ended (a .synthesis) ≡ true
-  pub tests : arrivesTests s a ≡ registerTests s (declaredBy (a .declared)) (sumsRead s (declaredBy (a .declared)) f)
+  pub tests : arrivesTests s a ≡ registerTests s (declaredBy (a .declared)) (sumsRead s (declaredBy (a .declared)) f) unseen
   pub gives : (g : List ℕ) → arrives s a g ≡ locates s a (a .declared) (readSequences s (declaredBy (a .declared)) f) (a .sums) g
 
 -- Where a start or a step takes the arrays: they hold an unfinished locate, or all rounds are finished.
@@ -123,7 +123,7 @@ module _ (s : Shape) (shape : isShape s ≡ true) (a : Arrays) (f : List ℕ) (w
   all-finished : ended x ≡ true
   all-finished = eq-eqb (rounds x) (allRounds x) (kept-round kept ∙ sym (kept-rounds kept))
 
-  tests : arrivesTests s a ≡ registerTests s (cells a) (sumsRead s (cells a) f)
+  tests : arrivesTests s a ≡ registerTests s (cells a) (sumsRead s (cells a) f) unseen
   unfolding arrivesTests
   tests =
       ap (λ (b : Bool). cond b (byRegisterTests s (cells a) (heldSequences s (a .sums)) (size x) (heldTaps x) (heldMark s x)) []) all-finished

@@ -2,6 +2,7 @@ pub mod AfterRefusal
 pub mod Beginning
 pub mod Between
 pub mod ByShortest
+pub mod BySums
 pub mod Cases
 pub mod Demands
 pub mod Emptiness
@@ -20,6 +21,7 @@ pub mod OtherSums
 pub mod Reasons
 pub mod Refusals
 pub mod Repairing
+pub mod Seen
 pub mod Slices
 pub mod Soundness
 pub mod Tries

@@ -1,7 +1,7 @@
 -- The job that is located, at once or in slices, is the one that its frame leaves: the start holds the frame's sums, no call between the steps changes what is
 -- kept, and the step that ends the search gives what locate gives.
 use mathlib.Core.Path.{_≡_, refl, sym, ap, subst, _∙_}
-use mathlib.Core.Bool.{true}
+use mathlib.Core.Bool.{true, false}
 use mathlib.Core.List.{List, [], _∷_, _++_, append-assoc}
 use Prim.Native.Nat.{ℕ}
 use native.Mathlib.Omega.{arith}
@@ -14,7 +14,7 @@ use Rattle.frame.proofs.Declarable.{read-passes}
 use Rattle.frame.proofs.HeldSums.{held-sequences}
 use Rattle.job.specs.Calls.{Call, locate, start, next, columns, unfinished, Outcome, step}
 use Rattle.job.specs.Calls.{locatedBy, started, stepped}
-use Rattle.job.specs.Job.{Arrays, Job, unfinishedJob}
+use Rattle.job.specs.Job.{Arrays, Job, unfinishedJob, isEmpty}
 use Rattle.job.specs.Runs.{run, Taken, stepsIn, LocatedBy, at-once, at-start, in-slices}
 use Rattle.job.proofs.AfterRefusal.{never-columns}
 use Rattle.job.proofs.Beginning.{start-passes, is-shape, walked}
@@ -72,7 +72,7 @@ module _ (j : Job) (words f : List ℕ) where
       (λ k m taken. absurd (taken (k, refl))) (λ k p m taken. absurd (taken (k, refl))) (λ (e, p) q taken. (
         ap (λ S. locatedBy s (j .arrays) words (allRemaining s (declaredBy words) S) (heldSums s (asRead s (declaredBy words) f)))
             (held-sequences s (asRead s (declaredBy words) f)),
-        register-passes s (declaredBy words) f (read-passes s (declaredBy words) f p) q,
+        register-passes s (declaredBy words) f _ q (read-passes s (declaredBy words) f p),
       ))
 
 -- ---- every way
@@ -94,3 +94,13 @@ located-by a before words f _ (in-slices _ _ _ _ cs c taken slicing answer) =
     let (b, same, l) =
     step-located (j .head .shape) (is-shape j words f p) words f _ (stepsIn cs) (walked a before cs words f p slicing) c answer in
     (b, run-then a (before ++ (start words f ∷ cs)) next (append-assoc before (start words f ∷ cs) (next ∷ [])) ∙ same, l)
+
+-- the job was not empty before them
+pub located-not-empty : (a : Arrays) (before : List Call) (words f : List ℕ) (locating : List Call) → LocatedBy a before words f locating
+    → isEmpty (run a before) ≡ false
+located-not-empty a before words f _ (at-once _ _ _ _ taken) =
+    by-call (run a before) (locate words f) (λ o. Taken o → isEmpty (run a before) ≡ false) (λ k m t. absurd (t (k, refl)))
+    (λ k p m t. p .0) (λ p q t. p .0) taken
+located-not-empty a before words f _ (at-start _ _ _ _ c answer) =
+    start-passes (run a before) words f (λ (k, refusal). never-columns (sym answer ∙ refusal)) .0
+located-not-empty a before words f _ (in-slices _ _ _ _ cs c taken slicing answer) = start-passes (run a before) words f taken .0

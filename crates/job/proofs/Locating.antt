@@ -1,18 +1,21 @@
 -- Locating a well-formed frame, with declared cells, of a job that has a shape. It is taken where the register is alone, reached by what is left of every row,
--- and names columns at which the rows can be completed; and where it is alone and reached, it is refused exactly when no legal frame lies at a distance of its
--- length.
+-- and names columns at which the rows can be completed, to a frame that is not uniform; and where it is alone and reached, it is refused exactly when no legal
+-- frame lies at a distance of its length.
 use mathlib.Core.Path.{_≡_, refl, ap, ap₂, sym, subst, subst⁻¹, _∙_}
-use mathlib.Core.Bool.{Bool, true, false, not, _&&_, and-eq-true-iff, false≢true}
+use mathlib.Core.Bool.{Bool, true, false, not, _&&_, _||_, and-eq-true-iff, false≢true}
 use mathlib.Core.List.{List}
-use mathlib.Core.Logic.{_↔_}
+use mathlib.Core.Logic.{_⊎_, inl, inr, _↔_}
 use Prim.Native.Nat.{ℕ, _≤_, _<_}
 use native.Mathlib.Omega.{arith}
 use borrow.Author.Tests.{le-leb}
+use Rattle.columns.specs.declared.Columns.{Columns}
+use Rattle.columns.proofs.Listing.{by-test}
 use Rattle.decoding.specs.Locating.{sizeOf, tapsOf, aloneOf, namesAll, namedColumns}
 use Rattle.decoding.specs.Remaining.{allRemaining, sumsRead, readSequences, leftReach, completable, mended}
 use Rattle.decoding.proofs.MendedFrame.{Read, read-facts}
 use Rattle.decoding.proofs.SequenceRegister.{register-of, length-taps, same-size, alone-marked}
-use Rattle.decoding.proofs.SoleNearest.{rows-reach, legal-at-size, mended-legal, mended-distance, mended-differing}
+use Rattle.decoding.proofs.LegalNearest.{coded-legal, legal-at-size}
+use Rattle.decoding.proofs.SoleNearest.{rows-reach, mended-coded, mended-distance, mended-differing}
 use Rattle.frame.specs.DeclaredCells.{Declared, declaredBy, checksLeft, asRead, readTests, WellFormedRead}
 use Rattle.frame.specs.Frame.{heldSums, heldSequences}
 use Rattle.frame.specs.Shape.{isShape}
@@ -20,19 +23,53 @@ use Rattle.frame.specs.declared.Shape.{Shape}
 use Rattle.frame.proofs.Declarable.{read-passes, well-formed-read}
 use Rattle.frame.proofs.HeldSums.{held-sequences}
 use Rattle.lists.proofs.Tabulated.{every-of}
-use Rattle.refusal.proofs.Orders.{Pass, pass-otherwise}
+use Rattle.refusal.proofs.Orders.{Pass, no-fail, pass-otherwise}
 use Rattle.register.specs.Register.{Shortest, Alone}
-use Rattle.job.specs.Calls.{locate, refused, refusing, describe, step, registerTests, locates}
+use Rattle.job.specs.Calls.{locate, refused, refusing, mendsUniform, unseen, registerTests, locating, describe, step, bySums, locates}
 use Rattle.job.specs.Demands.{Found}
 use Rattle.job.specs.Job.{Job, isEmpty, lengthOf}
 use Rattle.job.specs.Refusals.{LegalAt}
 use Rattle.job.specs.Runs.{IsRefused}
 use Rattle.job.proofs.AfterRefusal.{never-columns}
-use Rattle.job.proofs.Cases.{step-gives}
+use Rattle.job.proofs.Cases.{carried-gives, step-gives}
 use Rattle.job.proofs.Emptiness.{has-shape}
-use Rattle.job.proofs.Forms.{Locates, locatesFrame, register-passes}
+use Rattle.job.proofs.Forms.{Locates, locatesFrame, register-passes, register-mixed}
+use Rattle.job.proofs.Seen.{passes-seen}
 use Rattle.job.proofs.Left.{sums-held, taps-held}
 use Rattle.job.proofs.Soundness.{marked-number}
+
+-- ---- what 26 tests
+
+module _ (s : Shape) (D : Declared) (f : List ℕ) where
+  abbrev σ : List ℕ
+  σ = tapsOf (readSequences s D f)
+
+  abbrev c : ℕ
+  c = sizeOf (readSequences s D f)
+
+  abbrev tested : Bool
+  tested = mendsUniform s D f (namedColumns s σ) || not (namesAll s σ c && completable s D (namedColumns s σ) (sumsRead s D f))
+
+  abbrev Each : Type 0
+  Each = (mendsUniform s D f (namedColumns s σ) ≡ false) × ((namesAll s σ c ≡ true) × (completable s D (namedColumns s σ) (sumsRead s D f) ≡ true))
+
+  each : tested ≡ false → Each
+  each e = pick (mendsUniform s D f (namedColumns s σ)) refl
+    where
+      pick : (b : Bool) → mendsUniform s D f (namedColumns s σ) ≡ b → Each
+      pick true u = absurd (false≢true (sym e ∙ ap (λ (b : Bool). b || not (namesAll s σ c && completable s D (namedColumns s σ) (sumsRead s D f))) u))
+      pick false u =
+          (u, and-eq-true-iff (namesAll s σ c) (completable s D (namedColumns s σ) (sumsRead s D f)) .0
+          (no-fail _ (sym (ap (λ (b : Bool). b || not (namesAll s σ c && completable s D (namedColumns s σ) (sumsRead s D f))) u) ∙ e)))
+
+  -- a legal frame lies at the distance c exactly where it does not fail
+  pub legal-there : isShape s ≡ true → WellFormedRead s D f → aloneOf (readSequences s D f) ≡ true
+      → leftReach s D (sizeOf (readSequences s D f)) ≡ true → (tested ≡ false) ↔ LegalAt s D f (sizeOf (readSequences s D f))
+  legal-there t w a r =
+      let exact = legal-at-size s t D f (read-facts s t D f w) a r in (
+        λ e. let (mixed, (names, fits)) = each e in exact .0 (names, fits, mixed),
+        λ l. let (names, fits, mixed) = exact .1 l in ap₂ _||_ mixed (ap not (ap₂ _&&_ names fits)),
+      )
 
 module _ (j : Job) (words f : List ℕ) (not-empty : isEmpty j ≡ false) where
   abbrev s : Shape
@@ -44,9 +81,15 @@ module _ (j : Job) (words f : List ℕ) (not-empty : isEmpty j ≡ false) where
   abbrev ss : List (List ℕ)
   ss = readSequences s D f
 
-  -- what 26 tests
+  abbrev M : Columns
+  M = namedColumns s (tapsOf ss)
+
+  -- what 26 tests: of the check sums, and of the cells
   abbrev fitting : Bool
-  fitting = namesAll s (tapsOf ss) (sizeOf ss) && completable s D (namedColumns s (tapsOf ss)) (sumsRead s D f)
+  fitting = namesAll s (tapsOf ss) (sizeOf ss) && completable s D M (sumsRead s D f)
+
+  abbrev one : Bool
+  one = mendsUniform s D f M
 
   t : isShape s ≡ true
   t = has-shape (j .head) not-empty
@@ -54,41 +97,50 @@ module _ (j : Job) (words f : List ℕ) (not-empty : isEmpty j ≡ false) where
   same-sums : heldSequences s (heldSums s (asRead s D f)) ≡ sumsRead s D f
   same-sums = held-sequences s (asRead s D f)
 
-  passes-register : Locates s D f → Pass (registerTests s D (sumsRead s D f))
+  passes-register : Locates s D f → Pass (registerTests s D (sumsRead s D f) unseen)
   unfolding registerTests
   passes-register l = (ap not (l .alone), (ap not (l .reach), (ap not (ap₂ _&&_ (l .names) (l .fits)), tt)))
 
-  pub locate-takes : Locates (j .head .shape) (declaredBy words) f → step j (locate words f) ≡ locatesFrame (j .head .shape) (j .arrays) words f
-  locate-takes l =
-      step-gives j (locate words f) (not-empty, well-formed-read s D f (l .well-formed))
-      (subst⁻¹ (λ S. Pass (registerTests s D S)) same-sums (passes-register l))
-      ∙ ap (λ S. locates s (j .arrays) words (allRemaining s D S) (heldSums s (asRead s D f)) f) same-sums
+  gives-frame : locating j words f unseen .gives ≡ locatesFrame s (j .arrays) words f
+  gives-frame = ap (λ S. locates s (j .arrays) words (allRemaining s D S) (heldSums s (asRead s D f)) f) same-sums
 
-  locate-refuses : WellFormedRead s D f → aloneOf ss ≡ true → leftReach s D (sizeOf ss) ≡ true → fitting ≡ false
+  pub sums-take : Locates (j .head .shape) (declaredBy words) f → bySums j words f ≡ locatesFrame (j .head .shape) (j .arrays) words f
+  unfolding bySums
+  sums-take l =
+      carried-gives j (locating j words f unseen) (not-empty, well-formed-read s D f (l .well-formed))
+      (subst⁻¹ (λ S. Pass (registerTests s D S unseen)) same-sums (passes-register l)) ∙ gives-frame
+
+  pub locate-takes : Locates (j .head .shape) (declaredBy words) f
+      → mendsUniform (j .head .shape) (declaredBy words) f (namedColumns (j .head .shape) (tapsOf (readSequences (j .head .shape) (declaredBy words) f))) ≡ false
+      → step j (locate words f) ≡ locatesFrame (j .head .shape) (j .arrays) words f
+  locate-takes l mixed =
+      step-gives j (locate words f) (not-empty, well-formed-read s D f (l .well-formed))
+      (subst⁻¹ (λ S. Pass (registerTests s D S (mendsUniform s D f))) same-sums
+      (passes-seen s D (sumsRead s D f) (mendsUniform s D f) (passes-register l) mixed)) ∙ gives-frame
+
+  locate-refuses : WellFormedRead s D f → aloneOf ss ≡ true → leftReach s D (sizeOf ss) ≡ true → (one || not fitting) ≡ true
       → step j (locate words f) .answer ≡ refused 26
   unfolding step registerTests
   locate-refuses w a r n =
       rw (pass-otherwise (refusing j f) _ (describe j (locate words f) .keeping) (not-empty, well-formed-read s D f w), same-sums) (rw (a, r, n) refl)
 
-  exact-at-size : WellFormedRead s D f → aloneOf ss ≡ true → leftReach s D (sizeOf ss) ≡ true
-      → IsRefused (step j (locate words f)) ↔ (LegalAt s D f (sizeOf ss) → ⊥)
-  exact-at-size w a r = pick fitting refl
+  pub exact-at-size : WellFormedRead (j .head .shape) (declaredBy words) f → aloneOf (readSequences (j .head .shape) (declaredBy words) f) ≡ true
+      → leftReach (j .head .shape) (declaredBy words) (sizeOf (readSequences (j .head .shape) (declaredBy words) f)) ≡ true
+      → IsRefused (step j (locate words f))
+      ↔ (LegalAt (j .head .shape) (declaredBy words) f (sizeOf (readSequences (j .head .shape) (declaredBy words) f)) → ⊥)
+  exact-at-size w a r = pick (by-test (one || not fitting))
     where
-      both : (fitting ≡ true) ↔ ((namesAll s (tapsOf ss) (sizeOf ss) ≡ true) × (completable s D (namedColumns s (tapsOf ss)) (sumsRead s D f) ≡ true))
-      both = and-eq-true-iff (namesAll s (tapsOf ss) (sizeOf ss)) (completable s D (namedColumns s (tapsOf ss)) (sumsRead s D f))
+      there : ((one || not fitting) ≡ false) ↔ LegalAt s D f (sizeOf ss)
+      there = legal-there s D f t w a r
 
-      legal-there : (fitting ≡ true) ↔ LegalAt s D f (sizeOf ss)
-      legal-there =
-          let exact = legal-at-size s t D f (read-facts s t D f w) a in (λ e. exact .0 (both .0 e), λ l. both .1 (exact .1 l))
-
-      pick : (b : Bool) → fitting ≡ b → IsRefused (step j (locate words f)) ↔ (LegalAt s D f (sizeOf ss) → ⊥)
-      pick true n =
-          let (names, fits) = both .0 n in
-          let taken = locate-takes (record { well-formed = w; alone = a; reach = r; names = names; fits = fits }) in (
+      pick : ((one || not fitting) ≡ true) ⊎ ((one || not fitting) ≡ false) → IsRefused (step j (locate words f)) ↔ (LegalAt s D f (sizeOf ss) → ⊥)
+      pick (inl n) = (λ refusal l. false≢true (sym (there .1 l) ∙ n), λ none. (26, locate-refuses w a r n))
+      pick (inr n) =
+          let (mixed, (names, fits)) = each s D f n in
+          let taken = locate-takes (record { well-formed = w; alone = a; reach = r; names = names; fits = fits }) mixed in (
             λ (k, refusal). absurd (never-columns (sym (ap (λ o. o .answer) taken) ∙ refusal)),
-            λ none. absurd (none (legal-there .0 n)),
+            λ none. absurd (none (there .0 n)),
           )
-      pick false n = (λ refusal l. false≢true (sym n ∙ legal-there .1 l), λ none. (26, locate-refuses w a r n))
 
   pub exact-at : (c : ℕ) (σ : List ℕ) → WellFormedRead (j .head .shape) (declaredBy words) f
       → Shortest 257 c (readSequences (j .head .shape) (declaredBy words) f) σ → Alone 257 c (readSequences (j .head .shape) (declaredBy words) f) σ
@@ -102,8 +154,8 @@ module _ (j : Job) (words f : List ℕ) (not-empty : isEmpty j ≡ false) where
       (every-of (s .rows) _ (λ h l. le-leb (sizeOf ss) (checksLeft s D h) (omega (arith, checks h l)))))
 
   -- what is found
-  located-found : Locates s D f → Found s words f (sizeOf ss) (locatesFrame s (j .arrays) words f)
-  located-found l =
+  located-found : Locates s D f → one ≡ false → Found s words f (sizeOf ss) (locatesFrame s (j .arrays) words f)
+  located-found l mixed =
       let r = register-of ss in
       let read : Read s D f = read-facts s t D f (l .well-formed) in
       record {
@@ -112,7 +164,7 @@ module _ (j : Job) (words f : List ℕ) (not-empty : isEmpty j ≡ false) where
         alone = r .alone (l .alone);
         legal-at = (
           mended s D (namedColumns s (tapsOf ss)) f,
-          mended-legal s t D f read (l .names) (l .fits),
+          coded-legal s _ (mended-coded s t D f read (l .names) (l .fits)) mixed,
           mended-distance s t D f read (l .names) (l .fits),
           sym (mended-differing s t D f read (l .names) (l .fits)),
         );
@@ -132,4 +184,4 @@ module _ (j : Job) (words f : List ℕ) (not-empty : isEmpty j ≡ false) where
       → Found (j .head .shape) words f (lengthOf (describe j (locate words f) .gives .job .head .phase)) (describe j (locate words f) .gives)
   found early late =
       subst⁻¹ (λ S. Found s words f (sizeOf (allRemaining s D S)) (locates s (j .arrays) words (allRemaining s D S) (heldSums s (asRead s D f)) f)) same-sums
-      (located-found (register-passes s D f (read-passes s D f early) late))
+      (located-found (register-passes s D f _ late (read-passes s D f early)) (register-mixed s D f _ late))

@@ -19,7 +19,7 @@ use Rattle.slices.specs.Synthesis.{Synthesis, synthesis, size, ended, lastStep,
 use Rattle.slices.proofs.SameSearch.{same-advanced, same-begun}
 use Rattle.slices.proofs.SameTest.{over, by-over, same-sound}
 use Rattle.job.specs.Calls.{Call, shape, encode, locate, repair, start, next, peek, unfinished, shortest, Outcome, Described, refusing, describe, step}
-use Rattle.job.specs.Calls.{notLocatedTest, notUnfinishedTest, sumsTest, byRegisterGives, heldTaps, arrivesTests, arrives, started, stepped}
+use Rattle.job.specs.Calls.{notLocatedTest, notUnfinishedTest, sumsTest, mendsUniform, byRegisterGives, heldTaps, arrivesTests, arrives, started, stepped}
 use Rattle.job.specs.Demands.{SameFound, SameStarted, Alike, SameOutcome, ArraysPlayNoPart}
 use Rattle.job.specs.Job.{Arrays, Job, beside, withRead, noArrays, noColumns, isLocatedPhase, isUnfinishedPhase, lengthOf}
 use Rattle.job.specs.Job.{declaredSound, endSound, stepSound, isEmpty, isLocated, isUnfinished, shapedJob, unfinishedJob}
@@ -224,7 +224,8 @@ module _ (h : Head) (a b : Arrays) (alike : Alike (beside h a) (beside h b)) whe
             rereadTests s (declaredBy declared) f ++ (sumsTest (beside h (withRead noArrays sums declared)) f ∷ [])) (found l .sums) (found l .declared)),
       ),
     );
-    shaping = λ p. tt;
+    shaping = λ (e, (l, p)).
+        agree _ _ (ap (λ (declared : List ℕ). record { number = 26; fails = mendsUniform s (declaredBy declared) f (h .columns) } ∷ []) (found l .declared));
     gives = λ (e, (l, p)). record {
       answer = refl;
       marks = refl;

@@ -55,7 +55,7 @@ module _ (s : Shape) (t : isShape s ≡ true) (f : List ℕ) (whole : length f �
   same-sequences = sequences-none s t D (none s t) f whole
 
   same-distance : (g : List ℕ) → Legal s g → distanceRead s D g f ≡ distance s g f
-  same-distance g legal = distance-none s t D (none s t) f whole g (legal .well-formed .size)
+  same-distance g legal = distance-none s t D (none s t) f whole g (legal .coded .well-formed .size)
 
   found-whole : (c : ℕ) (o : Outcome) → Found s noWords f c o → FoundWhole s f c o
   found-whole c o found =
@@ -64,7 +64,7 @@ module _ (s : Shape) (t : isShape s ≡ true) (f : List ℕ) (whole : length f �
         taps = found .taps;
         shortest = subst (λ ss. Shortest 257 c ss (found .taps)) same-sequences (found .shortest);
         alone = subst (λ ss. Alone 257 c ss (found .taps)) same-sequences (found .alone);
-        legal-at = (g, legal, sym (same-distance g legal) ∙ at, marks ∙ differing-none s t D (none s t) f whole g (legal .well-formed .size));
+        legal-at = (g, legal, sym (same-distance g legal) ∙ at, marks ∙ differing-none s t D (none s t) f whole g (legal .coded .well-formed .size));
         number = found .number;
         sums = subst (λ (x : List ℕ). HoldsSums s x (o .job .arrays .sums)) (stands s t f whole) (found .job .sums);
       }
@@ -73,7 +73,7 @@ module _ (s : Shape) (t : isShape s ≡ true) (f : List ℕ) (whole : length f �
   mended-whole c j o mended = record {
     legal = mended .legal;
     count = sym (same-distance (o .frame) (mended .legal)) ∙ mended .count;
-    marks = mended .marks ∙ differing-none s t D (none s t) f whole (o .frame) (mended .legal .well-formed .size);
+    marks = mended .marks ∙ differing-none s t D (none s t) f whole (o .frame) (mended .legal .coded .well-formed .size);
     nearest = λ g legal other. subst (λ (d : ℕ). c < d) (same-distance g legal) (mended .nearest g legal other);
   }
 
@@ -99,7 +99,7 @@ unfolding rereadTests
 repaired-size a calls f s last =
     subst (λ (x : Shape). Taken (step (run a calls) (repair f)) → length f ≡ x .rows * x .columns) (shape-held a calls s last .1)
     (by-call (run a calls) (repair f) (λ o. Taken o → length f ≡ run a calls .head .shape .rows * run a calls .head .shape .columns)
-    (λ k m t. absurd (t (k, refl))) (λ k p m. absurd m) (λ (e, (l, (size, p))) q t. eqb-true _ _ (no-fail _ size)))
+    (λ k m t. absurd (t (k, refl))) (λ k p m t. absurd (t (k, refl))) (λ (e, (l, (size, p))) q t. eqb-true _ _ (no-fail _ size)))
 
 -- ---- the parts of demand 3
 
@@ -129,12 +129,20 @@ nothing-declared = record {
         mended-whole s t f (repaired-size a calls f s last taken) c (run a calls) _
             (subst (λ (w : List ℕ). Mended s (declaredBy w) f c (run a calls) (step (run a calls) (repair f))) same mended),
       );
-  repair-exact = λ a before locating between s f g last by kept w.
+  repair-exact = λ a before locating between s f g c σ last by kept w shortest.
       let t : isShape s ≡ true = shaped-so a before s last in
       let sized = locates a before locating s noWords g last by .well-formed .size in
-      let exact = demand-3 .repair-exact a before locating between s noWords f g last by kept (well-formed s t f w) .1 in
+      let exact =
+      demand-3 .repair-exact a before locating between s noWords f g c σ last by kept (well-formed s t f w)
+      (subst⁻¹ (λ ss. Shortest 257 c ss σ) (same-sequences s t g sized) shortest) in
       let same = same-differ s t f g (w .size) sized in
-      (λ refusal. same .0 (exact .0 refusal), λ differ. exact .1 (same .1 differ));
+      let none = none-at s t f (w .size) c in (
+        (λ e. same .0 (exact .by-23 .0 e), λ differ. exact .by-23 .1 (same .1 differ)),
+        (
+          λ e. let (equal, never) = exact .by-26 .0 e in (λ differ. equal (same .1 differ), none .0 never),
+          λ (equal, never). exact .by-26 .1 (λ differ. equal (same .0 differ), none .1 never),
+        ),
+      );
   damage-mended = λ a before between s f g last legal w twice kept.
       let t : isShape s ≡ true = shaped-so a before s last in
       let at = same-distance s t f (w .size) g legal in

@@ -1,41 +1,48 @@
 -- The tests of the calls on a job say their reasons: each fails exactly where its reason holds; those of the register in turn, where the tests before
 -- them pass.
 use mathlib.Core.Path.{_≡_, refl, sym, ap, subst, subst⁻¹, _∙_}
-use mathlib.Core.Logic.{_⊎_, inl, inr}
+use mathlib.Core.Logic.{_⊎_, inl, inr, _↔_}
 use mathlib.Core.Bool.{Bool, true, false, cond, not, _&&_, _||_, or-true, and-eq-true-iff, false≢true}
 use mathlib.Core.List.{List, [], _∷_}
 use Prim.Native.Nat.{ℕ}
 use native.Mathlib.Omega.{arith}
 use lib.Dec.{leb}
 use borrow.Author.Tests.{leb-false, eqb-true, eqb-false}
+use Rattle.columns.proofs.Listing.{by-test}
 use Rattle.decoding.specs.Locating.{sizeOf, tapsOf, aloneOf, namesAll, namedColumns}
-use Rattle.decoding.specs.Remaining.{sumsRead, readSequences, leftReach, completable, meetingCompletable}
+use Rattle.decoding.specs.Remaining.{sumsRead, readSequences, leftReach, completable, meetingCompletable, mended}
 use Rattle.decoding.proofs.MendedFrame.{read-facts}
 use Rattle.decoding.proofs.SequenceRegister.{register-of, same-size, not-alone}
-use Rattle.decoding.proofs.SoleNearest.{left-reach, legal-at-size}
+use Rattle.decoding.proofs.SoleNearest.{left-reach, coded-at-size}
 use Rattle.frame.specs.DeclaredCells.{Declared, declaredBy, declarable, checksLeft, asRead, BadCells, WellFormedRead}
 use Rattle.frame.specs.DeclaredCells.{rereadTests, rereadReasons}
-use Rattle.frame.specs.Frame.{heldSums, heldSequences}
-use Rattle.frame.specs.Shape.{isShape}
+use Rattle.frame.specs.Demands.{shapeReasons, encodeReasons}
+use Rattle.frame.specs.Encode.{encodeTests}
+use Rattle.frame.specs.Frame.{uniform, heldSums, heldSequences}
+use Rattle.frame.specs.Shape.{isShape, shapeTests}
 use Rattle.frame.specs.declared.Shape.{Shape}
 use Rattle.frame.proofs.Declarable.{one-false, good-cells, bad-cells, read-says, read-passes, reread-says}
 use Rattle.frame.proofs.HeldSums.{held-sequences}
-use Rattle.frame.proofs.Reasons.{shape-says, encode-says}
+use Rattle.frame.proofs.EncodeReasons.{encode-says}
+use Rattle.frame.proofs.Reasons.{shape-says}
+use Rattle.frame.proofs.Uniform.{varied-says}
 use Rattle.lists.proofs.Tabulated.{every-at, every-witness}
 use Rattle.refusal.specs.Order.{Test, Reason, None}
-use Rattle.refusal.proofs.Orders.{Pass, Says, SayAll, SayInTurn, no-fail, says-not, say-append, fails-not}
+use Rattle.refusal.proofs.Orders.{Pass, Says, SayInTurn, in-turn, no-fail, says-not, say-append, fails-not}
 use Rattle.register.specs.EachRound.{IsShortest}
 use Rattle.register.specs.Register.{Generator}
 use Rattle.slices.specs.Synthesis.{Synthesis, size, ended}
 use Rattle.job.specs.Calls.{Call, shape, encode, locate, repair, start, next, peek, describe, emptyTest, notLocatedTest, notUnfinishedTest}
-use Rattle.job.specs.Calls.{sameSums, sumsTest, registerTests, byRegisterTests, arrivesTests, heldTaps, heldMark, started, stepped}
+use Rattle.job.specs.Calls.{sameSums, sumsTest, uniformTest, mendsUniform, unseen, locating, registerTests, byRegisterTests, arrivesTests, heldTaps, heldMark, started, stepped}
 use Rattle.job.specs.Job.{Arrays, Job, sound, isEmptyPhase, isLocatedPhase, isLocated, lengthOf, declaredIn, declaredSound, countsEmpty}
 use Rattle.job.specs.Job.{isUnfinishedPhase, stepSound}
-use Rattle.job.specs.Refusals.{LegalAt, ShortRow, emptyReason, notLocatedReason, sumsReason, notUnfinishedReason, reasons}
+use Rattle.job.specs.Refusals.{CodedAt, LegalAt, ShortRow, emptyReason, notLocatedReason, sumsReason, notUnfinishedReason, reasons}
 use Rattle.job.specs.Refusals.{notAloneReason, shortRowReason, noFrameReason, registerReasons, arrivesReasons}
+use Rattle.job.specs.Refusals.{noCodewordReason, bySumsReasons, uniformReason}
 use Rattle.job.specs.declared.Phase.the-variants.{Empty, Shaped, Unfinished, Located}
 use Rattle.job.specs.declared.Phase.{Phase}
 use Rattle.job.proofs.Emptiness.{has-shape}
+use Rattle.job.proofs.Locating.{legal-there}
 
 empty-says : (j : Job) → Says (emptyTest j) (emptyReason j)
 unfolding countsEmpty
@@ -145,22 +152,52 @@ module _ (s : Shape) (D : Declared) (f : List ℕ) (t : isShape s ≡ true) wher
   abbrev fits : Bool
   fits = completable s D (namedColumns s (tapsOf ss)) (sumsRead s D f)
 
-  no-frame-says : WellFormedRead s D f → aloneOf ss ≡ true → Says (record { number = 26; fails = not (names && fits) }) (noFrameReason s D f)
-  no-frame-says w e =
-      let exact = legal-at-size s t D f (read-facts s t D f w) e in
+  no-codeword-says : WellFormedRead s D f → aloneOf ss ≡ true → Says (record { number = 26; fails = not (names && fits) }) (noCodewordReason s D f)
+  no-codeword-says w e =
+      let exact = coded-at-size s t D f (read-facts s t D f w) e in
       says-not 26 (names && fits) _
-      (λ a (c, σ, m, n). n (subst (LegalAt s D f) (sym (same-size ss c σ m)) (exact .0 (and-eq-true-iff names fits .0 a))))
+      (λ a (c, σ, m, n). n (subst (CodedAt s D f) (sym (same-size ss c σ m)) (exact .0 (and-eq-true-iff names fits .0 a))))
       (λ a. (sizeOf ss, tapsOf ss, register .shortest, λ l. false≢true (sym a ∙ and-eq-true-iff names fits .1 (exact .1 l))))
 
+  abbrev one : Bool
+  one = mendsUniform s D f (namedColumns s (tapsOf ss))
+
+  no-frame-says : WellFormedRead s D f → aloneOf ss ≡ true → leftReach s D (sizeOf ss) ≡ true
+      → Says (record { number = 26; fails = one || not (names && fits) }) (noFrameReason s D f)
+  no-frame-says w e r =
+      record {
+        number = refl;
+        reason = λ a. (sizeOf ss, tapsOf ss, register .shortest, λ l. false≢true (sym (exact .1 l) ∙ a));
+        fails = λ (c, σ, m, n).
+            pick (λ l. n (subst (LegalAt s D f) (sym (same-size ss c σ m)) l)) (by-test (one || not (names && fits)));
+      }
+    where
+      exact : ((one || not (names && fits)) ≡ false) ↔ LegalAt s D f (sizeOf ss)
+      exact = legal-there s D f t w e r
+
+      pick : (LegalAt s D f (sizeOf ss) → ⊥) → ((one || not (names && fits)) ≡ true) ⊎ ((one || not (names && fits)) ≡ false)
+          → (one || not (names && fits)) ≡ true
+      pick none (inl a) = a
+      pick none (inr a) = absurd (none (exact .0 a))
+
+  -- the register found is alone where the first reason does not hold; it is reached where the second does not either
+  alone-so : (notAloneReason s D f .holds → ⊥) → aloneOf ss ≡ true
+  alone-so n = no-fail (aloneOf ss) (fails-not _ (notAloneReason s D f) not-alone-says n)
+
+  reached-so : aloneOf ss ≡ true → (shortRowReason s D f .holds → ⊥) → leftReach s D (sizeOf ss) ≡ true
+  reached-so a m = no-fail (leftReach s D (sizeOf ss)) (fails-not _ (shortRowReason s D f) (short-row-says a) m)
+
   -- each where the reasons before it do not hold
-  register-says : WellFormedRead s D f → SayInTurn (registerTests s D (sumsRead s D f)) (registerReasons s D f)
+  register-says : WellFormedRead s D f → SayInTurn (registerTests s D (sumsRead s D f) (mendsUniform s D f)) (registerReasons s D f)
   unfolding registerTests
   register-says w = (
     not-alone-says,
-    λ n.
-        let a : aloneOf ss ≡ true = no-fail (aloneOf ss) (fails-not _ (notAloneReason s D f) not-alone-says n) in
-        (short-row-says a, λ m. (no-frame-says w a, λ l. tt)),
+    λ n. (short-row-says (alone-so n), λ m. (no-frame-says w (alone-so n) (reached-so (alone-so n) m), λ l. tt)),
   )
+
+  by-sums-says : WellFormedRead s D f → SayInTurn (registerTests s D (sumsRead s D f) unseen) (bySumsReasons s D f)
+  unfolding registerTests
+  by-sums-says w = (not-alone-says, λ n. (short-row-says (alone-so n), λ m. (no-codeword-says w (alone-so n), λ l. tt)))
 
 -- ---- in slices
 
@@ -209,11 +246,17 @@ module _ (s : Shape) (a : Arrays) where
 
 -- ---- the calls
 
-pub keeping-says : (j : Job) (c : Call) → SayAll (describe j c .keeping) (reasons j c .keeping)
-keeping-says j (shape n checks b) = shape-says n checks b
-keeping-says j (encode f) = (empty-says j, encode-says (j .head .shape) f)
-keeping-says j (locate words f) = (empty-says j, read-says (j .head .shape) (declaredBy words) f)
-keeping-says j (repair f) = (
+-- where the job is not empty, tests that say their reasons in turn
+after-empty : (j : Job) (ts : List Test) (rs : List Reason) → (isShape (j .head .shape) ≡ true → SayInTurn ts rs)
+    → SayInTurn (emptyTest j ∷ ts) (emptyReason j ∷ rs)
+after-empty j ts rs later = (empty-says j, λ n. later (has-shape (j .head) (fails-not (emptyTest j) (emptyReason j) (empty-says j) n)))
+
+pub keeping-says : (j : Job) (c : Call) → SayInTurn (describe j c .keeping) (reasons j c .keeping)
+keeping-says j (shape n checks b) = in-turn (shapeTests n checks b) (shapeReasons n checks b) (shape-says n checks b)
+keeping-says j (encode f) =
+    after-empty j (encodeTests (j .head .shape) f) (encodeReasons (j .head .shape) f) (encode-says (j .head .shape) f)
+keeping-says j (locate words f) = in-turn (describe j (locate words f) .keeping) (reasons j (locate words f) .keeping) (empty-says j, read-says (j .head .shape) (declaredBy words) f)
+keeping-says j (repair f) = in-turn (describe j (repair f) .keeping) (reasons j (repair f) .keeping) (
   empty-says j,
   (
     not-located-says j,
@@ -221,24 +264,40 @@ keeping-says j (repair f) = (
         (reread-says (j .head .shape) (declaredIn j) f) (sums-say j f, tt),
   ),
 )
-keeping-says j (start words f) = (empty-says j, read-says (j .head .shape) (declaredBy words) f)
-keeping-says j next = (empty-says j, (not-unfinished-says j, tt))
-keeping-says j peek = (empty-says j, (not-unfinished-says j, tt))
+keeping-says j (start words f) = in-turn (describe j (start words f) .keeping) (reasons j (start words f) .keeping) (empty-says j, read-says (j .head .shape) (declaredBy words) f)
+keeping-says j next = in-turn (describe j next .keeping) (reasons j next .keeping) (empty-says j, (not-unfinished-says j, tt))
+keeping-says j peek = in-turn (describe j peek .keeping) (reasons j peek .keeping) (empty-says j, (not-unfinished-says j, tt))
 
--- those of locate, one by one
-pub locate-says : (j : Job) (words f : List ℕ) → Pass (describe j (locate words f) .keeping)
-    → SayInTurn (describe j (locate words f) .shaping) (reasons j (locate words f) .shaping)
-locate-says j words f (e, p) =
-    let s : Shape = j .head .shape in
-    let D : Declared = declaredBy words in
-    subst⁻¹ (λ S. SayInTurn (registerTests s D S) (registerReasons s D f)) (held-sequences s (asRead s D f))
-    (register-says s D f (has-shape (j .head) e) (read-passes s D f p))
+-- those of locate, one by one, with the cells seen and by the check sums alone
+module _ (j : Job) (words f : List ℕ) (p : Pass (describe j (locate words f) .keeping)) where
+  pub locate-says : SayInTurn (describe j (locate words f) .shaping) (reasons j (locate words f) .shaping)
+  locate-says =
+      let s : Shape = j .head .shape in
+      let D : Declared = declaredBy words in
+      subst⁻¹ (λ S. SayInTurn (registerTests s D S (mendsUniform s D f)) (registerReasons s D f)) (held-sequences s (asRead s D f))
+      (register-says s D f (has-shape (j .head) (p .0)) (read-passes s D f (p .1)))
+
+  pub sums-alone-say : SayInTurn (locating j words f unseen .shaping) (bySumsReasons (j .head .shape) (declaredBy words) f)
+  sums-alone-say =
+      let s : Shape = j .head .shape in
+      let D : Declared = declaredBy words in
+      subst⁻¹ (λ S. SayInTurn (registerTests s D S unseen) (bySumsReasons s D f)) (held-sequences s (asRead s D f))
+      (by-sums-says s D f (has-shape (j .head) (p .0)) (read-passes s D f (p .1)))
+
+uniform-says : (j : Job) (f : List ℕ) → Says (uniformTest j f) (uniformReason j f)
+uniform-says j f =
+    let e : List ℕ = mended (j .head .shape) (declaredIn j) (j .head .columns) f in
+    record {
+      number = refl;
+      reason = λ u varied. false≢true (sym (varied-says e .0 varied) ∙ u);
+      fails = λ none. elim (by-test (uniform e)) [ inl u ↦ u | inr v ↦ absurd (none (varied-says e .1 v)) ];
+    }
 
 pub shaping-says : (j : Job) (c : Call) → Pass (describe j c .keeping) → SayOrNone (describe j c .shaping) (reasons j c .shaping)
 shaping-says j (shape n checks b) p = inl tt
 shaping-says j (encode f) p = inl tt
 shaping-says j (locate words f) p = inl (locate-says j words f p)
-shaping-says j (repair f) p = inl tt
+shaping-says j (repair f) p = inl (uniform-says j f, λ n. tt)
 shaping-says j (start words f) p = arriving-says (j .head .shape) (started (j .head .shape) (j .arrays) words f)
 shaping-says j next p = arriving-says (j .head .shape) (stepped (j .head .shape) (j .arrays))
 shaping-says j peek p = inl tt

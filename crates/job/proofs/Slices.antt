@@ -1,4 +1,4 @@
--- Locating in slices: every step but the last goes on, the last one gives what locate would have given, and none comes after; what a peek tells; and the frame
+-- Locating in slices: every step but the last goes on, the last one gives what a locate by the check sums would have, and none comes after; what a peek tells; and the frame
 -- that was sent comes back.
 use mathlib.Core.Path.{_≡_, refl, sym, ap, ap₂, subst, subst⁻¹, _∙_}
 use mathlib.Core.Bool.{Bool, true, false, not, cond, _&&_, false≢true}
@@ -22,8 +22,8 @@ use Rattle.register.specs.Register.{Shortest}
 use Rattle.register.specs.Sequences.{longest, shortened}
 use Rattle.slices.specs.Synthesis.{found}
 use Rattle.slices.proofs.Peeking.{kept-shortest}
-use Rattle.job.specs.Calls.{Call, locate, repair, start, next, peek, columns, unfinished, shortest, refused, Outcome, refusing, step}
-use Rattle.job.specs.Calls.{registerTests, locates, arrives, arrivesTests, stepped, late}
+use Rattle.job.specs.Calls.{Call, repair, start, next, peek, columns, unfinished, shortest, refused, Outcome, refusing, step, bySums}
+use Rattle.job.specs.Calls.{unseen, registerTests, locates, arrives, arrivesTests, stepped, late}
 use Rattle.job.specs.Demands.{Alike, SameOutcome}
 use Rattle.job.specs.Job.{Arrays, Job, shapedJob, isEmpty, sound, stepSound}
 use Rattle.job.specs.Runs.{run, afterCalls, Taken, Between, Slicing, stepsIn, in-slices}
@@ -35,7 +35,8 @@ use Rattle.job.proofs.Demands.{shaped-so, still-located, damaged-locate
 use Rattle.job.proofs.Emptiness.{sound-empty}
 use Rattle.job.proofs.Forms.{Locates, Form, empty, shaped, unfinished as going, located, run-form, run-then}
 use Rattle.job.proofs.Going.{Over}
-use Rattle.job.proofs.Locating.{locate-takes}
+use Rattle.job.proofs.BySums.{by-sums}
+use Rattle.job.proofs.Locating.{sums-take}
 use Rattle.job.proofs.NoPart.{same-tests, agree, related, shaped-alike}
 use Rattle.job.proofs.NothingLeft.{nothing-left}
 use Rattle.job.proofs.Soundness.{form-sound, shape-held}
@@ -43,13 +44,13 @@ use Rattle.job.proofs.Walk.{arrival, arrival-on, next-is, peek-is, Next
 
 -- ---- the end
 
--- what locate refuses and gives of a frame that is well-formed
+-- what a locate by the check sums refuses and gives of a frame that is well-formed
 abbrev locating : Shape → Arrays → (words f : List ℕ) → Outcome
 locating s b words f =
     let D : Declared = declaredBy words in
     let sums : List ℕ = heldSums s (asRead s D f) in
     let S : List (List ℕ) = heldSequences s sums in
-    firstOf (refusing (shapedJob s b) f) (registerTests s D S) (locates s b words (allRemaining s D S) sums f)
+    firstOf (refusing (shapedJob s b) f) (registerTests s D S unseen) (locates s b words (allRemaining s D S) sums f)
 
 module _ (s : Shape) (a b : Arrays) (f g : List ℕ) (o : Over s a f) where
   abbrev D : Declared
@@ -76,7 +77,7 @@ module _ (s : Shape) (a b : Arrays) (f g : List ℕ) (o : Over s a f) where
   end-same =
       let sums : List ℕ = heldSums s (asRead s D f) in
       subst⁻¹ (λ (S : List (List ℕ)).
-      SameAnswer (arrival s a g) (firstOf (refusing (shapedJob s b) f) (registerTests s D S) (locates s b (a .declared) (allRemaining s D S) sums f)))
+      SameAnswer (arrival s a g) (firstOf (refusing (shapedJob s b) f) (registerTests s D S unseen) (locates s b (a .declared) (allRemaining s D S) sums f)))
       (held-sequences s (asRead s D f))
       (related SameAnswer (refusing (shapedJob s a) g) (refusing (shapedJob s b) f) refused-same _ _ (arrivesTests s a) _ (agree _ _ (o .tests)) (λ p.
       subst⁻¹ (λ (x : Outcome). SameAnswer x (locates s b (a .declared) (readSequences s D f) sums f)) (o .gives g) (gives-same (readSequences s D f))))
@@ -91,8 +92,8 @@ locating-frame s b words f =
     let D : Declared = declaredBy words in
     let sums : List ℕ = heldSums s (asRead s D f) in
     let S : List (List ℕ) = heldSequences s sums in
-    by-tests (refusing (shapedJob s b) f) (locates s b words (allRemaining s D S) sums f) (λ (x : Outcome). x .frame ≡ f) (registerTests s D S) (λ k m. refl)
-    (λ p. refl)
+    by-tests (refusing (shapedJob s b) f) (locates s b words (allRemaining s D S) sums f) (λ (x : Outcome). x .frame ≡ f) (registerTests s D S unseen)
+    (λ k m. refl) (λ p. refl)
 
 -- ---- the start
 
@@ -133,9 +134,9 @@ module _ (j : Job) (words f : List ℕ) (p : Pass (tests j words f)) where
   abbrev from : Arrays
   from = first j words f
 
-  locate-is : step j (locate words f) ≡ locating s (j .arrays) words f
-  unfolding step
-  locate-is = pass-otherwise (refusing j f) _ (tests j words f) p
+  by-sums-is : bySums j words f ≡ locating s (j .arrays) words f
+  unfolding bySums
+  by-sums-is = pass-otherwise (refusing j f) _ (tests j words f) p
 
   no-symbols : slicesOf s words f ≡ 0 → N j words f ≡ 0
   no-symbols none = pick (decLt 0 (N j words f))
@@ -156,7 +157,7 @@ module _ (j : Job) (words f : List ℕ) (p : Pass (tests j words f)) where
         job = same .job;
       }
 
-  -- what is given is no refusal: where no step is to be made locate refuses nothing
+  -- what is given is no refusal: where no step is to be made a locate by the check sums refuses nothing
   start-taken : Taken (step j (start words f))
   start-taken (k, e) = pick (decLt 0 (N j words f))
     where
@@ -166,8 +167,8 @@ module _ (j : Job) (words f : List ℕ) (p : Pass (tests j words f)) where
           let zero : N j words f ≡ 0 = omega arith in
           let l : Locates s (declaredBy words) f = nothing-left s (declaredBy words) f zero (well-formed j words f p) in
           let located : step j (start words f) .answer ≡ columns (sizeOf (readSequences s (declaredBy words) f)) =
-          ap (λ (o : Outcome). o .answer) (start-is j words f p) ∙ ends-at-once zero .answer ∙ ap (λ (o : Outcome). o .answer) (sym locate-is)
-          ∙ ap (λ (o : Outcome). o .answer) (locate-takes j words f (p .0) l) in
+          ap (λ (o : Outcome). o .answer) (start-is j words f p) ∙ ends-at-once zero .answer ∙ ap (λ (o : Outcome). o .answer) (sym by-sums-is)
+          ∙ ap (λ (o : Outcome). o .answer) (sums-take j words f (p .0) l) in
           never-columns (sym located ∙ e)
 
 -- ---- the steps
@@ -237,7 +238,7 @@ sliced a before between words f taken slicing =
     record {
       on = next-on x t words f _ (stepsIn between) w;
       last = λ e.
-          subst⁻¹ (SameAnswer (afterCalls a (before ++ (start words f ∷ between)) next)) (locate-is j words f p)
+          subst⁻¹ (SameAnswer (afterCalls a (before ++ (start words f ∷ between)) next)) (by-sums-is j words f p)
           (next-last x t words f _ (stepsIn between) w e (j .arrays));
       over = λ e. next-over x t words f _ (stepsIn between) w e (form-sound _ (run-form a (before ++ (start words f ∷ between))));
       peeked = peek-tells x t words f _ (stepsIn between) w;
@@ -251,8 +252,8 @@ module _ (a : Arrays) (before : List Call) (words f : List ℕ) where
   abbrev i : Job
   i = run a before
 
-  start-at-once : slicesOf (i .head .shape) words f ≡ 0 → SameOutcome (step i (start words f)) (step i (locate words f))
-  unfolding step
+  start-at-once : slicesOf (i .head .shape) words f ≡ 0 → SameOutcome (step i (start words f)) (bySums i words f)
+  unfolding step bySums
   start-at-once none =
       related SameOutcome (refusing i f) (refusing i f) (λ k.
       record { answer = refl; marks = refl; tried = refl; frame = refl; job = alike-self i (run-form a before) }) _ _ (tests i words f) (tests i words f)
@@ -305,14 +306,14 @@ damage a before between after s words f g last legal w twice slicing all kept =
         let read = subst⁻¹ (λ (x : Shape). Pass (readTests x D f)) same (well-formed-read s D f w) in
         start-taken j words f (not-empty, read)
 
-    -- the last step answers what locate would have
+    -- the last step answers what a locate by the check sums would have
     answer : (c : ℕ) × (step (run a (before ++ (start words f ∷ between))) next .answer ≡ columns c)
     answer =
         let (not-empty, same) = shape-held a before s last in (
           sizeOf (readSequences (j .head .shape) (declaredBy words) f),
           slices a before between s words f last started-so slicing .last all .answer
               ∙ ap (λ (o : Outcome). o .answer)
-              (locate-takes j words f not-empty (subst⁻¹ (λ (x : Shape). Locates x (declaredBy words) f) same found-so)),
+              (sums-take j words f not-empty (subst⁻¹ (λ (x : Shape). Locates x (declaredBy words) f) same found-so)),
         )
 
     ended : Taken (step (run a (before ++ (start words f ∷ between))) next)
@@ -334,4 +335,4 @@ damage a before between after s words f g last legal w twice slicing all kept =
         (ap (λ (l : List Call). run a (before ++ (start words f ∷ l))) (sym (append-assoc between (next ∷ []) after)) ∙ same)
 
 pub locates-in-slices : LocatesInSlices
-locates-in-slices = record { slices = slices; start-goes-on = starts; start-early = early; damage-mended = damage }
+locates-in-slices = record { slices = slices; start-goes-on = starts; by-sums = by-sums; start-early = early; damage-mended = damage }

@@ -62,7 +62,7 @@ unfolding step
 shape-step j (shape n checks b) = firstOf-map (λ o. shapeHeld (o .job)) (refusing j []) (shapeTests n checks b) (shapes (j .arrays) n checks b)
 shape-step j (encode f) = kept-shape j (encode f) (λ k p a. absurd a) (λ p. refl)
 shape-step j (locate words f) = kept-shape j (locate words f) (λ k p a. p .0) (λ p. sym (not-empty-held j (p .0)))
-shape-step j (repair f) = kept-shape j (repair f) (λ k p a. absurd a) (λ p. sym (not-empty-held j (p .0)))
+shape-step j (repair f) = kept-shape j (repair f) (λ k p a. p .0) (λ p. sym (not-empty-held j (p .0)))
 shape-step j (start words f) =
     kept-shape j (start words f) (λ k p a. p .0)
     (λ p. arrives-shape (j .head .shape) (started (j .head .shape) (j .arrays) words f) f ∙ sym (not-empty-held j (p .0)))

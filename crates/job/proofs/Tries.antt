@@ -19,7 +19,7 @@ use Rattle.frame.specs.declared.Shape.{Shape}
 use Rattle.frame.proofs.Declarable.{read-passes}
 use Rattle.frame.proofs.Shapes.{shape-ranges}
 use Rattle.refusal.proofs.Orders.{Pass, no-fail}
-use Rattle.job.specs.Calls.{Call, shape, encode, locate, repair, start, next, peek, Outcome, refusing, describe, registerTests, started, stepped, step}
+use Rattle.job.specs.Calls.{Call, shape, encode, locate, repair, start, next, peek, Outcome, refusing, describe, mendsUniform, registerTests, started, stepped, step}
 use Rattle.job.specs.Job.{Arrays, Job, isEmpty}
 use Rattle.job.specs.Runs.{run, Taken}
 use Rattle.job.specs.Tries.{UpToLast, LocateTries, TriesAtEnd, SlicesTry, OthersTryNone}
@@ -28,6 +28,7 @@ use Rattle.job.proofs.Cases.{by-call}
 use Rattle.job.proofs.Emptiness.{has-shape}
 use Rattle.job.proofs.Forms.{Comes, goes, comes, arrived, next-arrives, run-form}
 use Rattle.job.proofs.Going.{start-arrives}
+use Rattle.job.proofs.Seen.{seen-passes}
 use Rattle.job.proofs.LocatedBy.{never-both}
 
 module _ (s : Shape) (t : isShape s ≡ true) (ss : List (List ℕ)) (names : namesAll s (tapsOf ss) (sizeOf ss) ≡ true) where
@@ -60,7 +61,8 @@ module _ (j : Job) (words f : List ℕ) (not-empty : isEmpty j ≡ false) where
   gives-tried : Pass (describe j (locate words f) .shaping)
       → UpToLast (describe j (locate words f) .gives .marks) (describe j (locate words f) .gives .tried)
   unfolding registerTests
-  gives-tried (alone, (reach, (fits, u))) =
+  gives-tried p =
+      let ((alone, (reach, (fits, u))), mixed) = seen-passes (j .head .shape) (declaredBy words) _ (mendsUniform (j .head .shape) (declaredBy words) f) p in
       up-to-last (j .head .shape) (has-shape (j .head) not-empty) _ (and-eq-true-iff _ _ .0 (no-fail _ fits) .0)
 
 pub locate-tries : LocateTries

@@ -1,6 +1,6 @@
 -- What each call on a job answers and leaves, for every job and everything lent (SPECIFICATION.md, "Jobs", and the orders of "Refusals"). Each call is
 -- described once, and `step` carries out what is described.
-use mathlib.Core.Bool.{Bool, cond, not, _&&_, _||_}
+use mathlib.Core.Bool.{Bool, false, cond, not, _&&_, _||_}
 use mathlib.Core.List.{List, [], _∷_, _++_}
 use Prim.Native.Nat.{ℕ, suc}
 use lib.Dec.{eqb}
@@ -12,7 +12,7 @@ use Rattle.decoding.specs.Search.{tried}
 use Rattle.ends.specs.Ends.{aloneMark}
 use Rattle.frame.specs.DeclaredCells.{Declared, declaredBy, asRead, readTests, rereadTests}
 use Rattle.frame.specs.Encode.{encoded, encodeTests}
-use Rattle.frame.specs.Frame.{heldSums, heldSequences}
+use Rattle.frame.specs.Frame.{uniform, heldSums, heldSequences}
 use Rattle.frame.specs.Shape.{shapeOf, shapeTests}
 use Rattle.frame.specs.declared.Shape.{Shape}
 use Rattle.lists.specs.Tabulate.{every}
@@ -87,21 +87,32 @@ sumsTest j f =
     let s : Shape = j .head .shape in
     record { number = 23; fails = not (sameSums (heldSums s (asRead s (declaredIn j) f)) (j .arrays .sums)) }
 
--- the refusals 24, 25, 26 of the check sums of a well-formed frame, S being those of each row
-unfoldable pub registerTests : Shape → Declared → (S : List (List ℕ)) → List Test
-registerTests s D S =
+-- the frame with the marked and declared columns mended is uniform, and so not legal
+abbrev pub mendsUniform : Shape → Declared → (f : List ℕ) (M : Columns) → Bool
+mendsUniform s D f M = uniform (mended s D M f)
+
+-- check sums do not show cells: by them alone nothing is known to be uniform
+abbrev pub unseen : Columns → Bool
+unseen M = false
+
+-- the refusals 24, 25, 26 of the check sums of a well-formed frame, S being those of each row; `one` says of the columns that are named whether the frame
+-- mended there is uniform
+unfoldable pub registerTests : Shape → Declared → (S : List (List ℕ)) (one : Columns → Bool) → List Test
+registerTests s D S one =
     let ss : List (List ℕ) = allRemaining s D S in
+    let M : Columns = namedColumns s (tapsOf ss) in
     record { number = 24; fails = not (aloneOf ss) } ∷
     record { number = 25; fails = not (leftReach s D (sizeOf ss)) } ∷
-    record {
-      number = 26;
-      fails = not (namesAll s (tapsOf ss) (sizeOf ss) && completable s D (namedColumns s (tapsOf ss)) S);
-    } ∷
+    record { number = 26; fails = one M || not (namesAll s (tapsOf ss) (sizeOf ss) && completable s D M S) } ∷
     []
 
+-- the frame that a repair would leave is uniform
+abbrev pub uniformTest : Job → (f : List ℕ) → Test
+uniformTest j f = record { number = 26; fails = mendsUniform (j .head .shape) (declaredIn j) f (j .head .columns) }
+
 -- the refusals 24, 25, 26 of a register of length c with the taps σ, however it was found; the mark says whether it is alone. They do not ask whether it is
--- a register of the sums, so that they are said for all that a job can hold. Of the shortest register of the sums they are those above (`same-tests` of
--- proofs/ByShortest.antt).
+-- a register of the sums, so that they are said for all that a job can hold. Of the shortest register of the sums they are those above, cells unseen
+-- (`same-tests` of proofs/ByShortest.antt).
 unfoldable pub byRegisterTests : Shape → Declared → (S : List (List ℕ)) (c : ℕ) (σ : List ℕ) (alone : Bool) → List Test
 byRegisterTests s D S c σ alone =
     record { number = 24; fails = not alone } ∷
@@ -187,12 +198,9 @@ stepped s a = withSynthesis a (advanced (s .rows) (a .synthesis))
 
 -- ---- the calls
 
-abbrev pub describe : Job → Call → Described
-describe j (shape n checks b) =
-    record { lent = []; keeping = shapeTests n checks b; shaping = []; beside = j .arrays; gives = shapes (j .arrays) n checks b }
-describe j (encode f) =
-    record { lent = f; keeping = emptyTest j ∷ encodeTests (j .head .shape) f; shaping = []; beside = j .arrays; gives = encodes j f }
-describe j (locate words f) =
+-- A locate; `one` is what is known of the cells. What is given does not depend on it.
+abbrev pub locating : Job → (words f : List ℕ) (one : Columns → Bool) → Described
+locating j words f one =
     let s : Shape = j .head .shape in
     let D : Declared = declaredBy words in
     let sums : List ℕ = heldSums s (asRead s D f) in
@@ -200,15 +208,22 @@ describe j (locate words f) =
     record {
       lent = f;
       keeping = emptyTest j ∷ readTests s D f;
-      shaping = registerTests s D S;
+      shaping = registerTests s D S one;
       beside = j .arrays;
       gives = locates s (j .arrays) words (allRemaining s D S) sums f;
     }
+
+abbrev pub describe : Job → Call → Described
+describe j (shape n checks b) =
+    record { lent = []; keeping = shapeTests n checks b; shaping = []; beside = j .arrays; gives = shapes (j .arrays) n checks b }
+describe j (encode f) =
+    record { lent = f; keeping = emptyTest j ∷ encodeTests (j .head .shape) f; shaping = []; beside = j .arrays; gives = encodes j f }
+describe j (locate words f) = locating j words f (mendsUniform (j .head .shape) (declaredBy words) f)
 describe j (repair f) =
     record {
       lent = f;
       keeping = emptyTest j ∷ notLocatedTest j ∷ (rereadTests (j .head .shape) (declaredIn j) f ++ (sumsTest j f ∷ []));
-      shaping = [];
+      shaping = uniformTest j f ∷ [];
       beside = j .arrays;
       gives = repairs j f;
     }
@@ -239,10 +254,16 @@ describe j peek =
       gives = record { answer = shortest (found (j .arrays .synthesis)); marks = noColumns; tried = 0; job = j; frame = [] };
     }
 
-unfoldable pub step : Job → Call → Outcome
-step j c =
-    let d : Described = describe j c in
+abbrev pub carriedOut : Job → Described → Outcome
+carriedOut j d =
     firstOf (refusing j (d .lent)) (d .keeping) (firstOf (refusing (shapedJob (j .head .shape) (d .beside)) (d .lent)) (d .shaping) (d .gives))
+
+unfoldable pub step : Job → Call → Outcome
+step j c = carriedOut j (describe j c)
+
+-- what a locate does that has only the check sums of the frame to go by, as one in slices has
+unfoldable pub bySums : Job → (words f : List ℕ) → Outcome
+bySums j words f = carriedOut j (locating j words f unseen)
 
 -- SPECIFICATION.md, "Refusals": those after which the job is shaped; after every other one it is as it was
 unfoldable pub late : ℕ → Bool

@@ -1,7 +1,7 @@
 -- Demands 2 and 3 about every list of calls on one job from an empty one: what each call does that is not refused, which locates and repairs are refused, and
 -- what is mended. Proved in proofs/Demands.antt.
 use mathlib.Core.Path.{_≡_}
-use mathlib.Core.Logic.{_↔_}
+use mathlib.Core.Logic.{_⊎_, _↔_}
 use mathlib.Core.Bool.{true, false}
 use mathlib.Core.List.{List, [], _∷_, _++_}
 use mathlib.Core.Option.{Option, none, some}
@@ -125,15 +125,35 @@ CheckSumsDiffer s D f g =
     (h : ℕ) × (j : ℕ) × (h < s .rows) × (1 ≤ j) × (j ≤ checksOf s h) ×
     (sumOf s (asRead s D f) h j ≡ sumOf s (asRead s D g) h j → ⊥)
 
--- After calls that located g, at once or in slices, with nothing but encodes and calls refused early since then, a repair of an f that is well-formed with the
--- same declared cells is refused exactly when some check sum of f differs from that of g, and then by 23.
+-- A repair of f is refused by 23 exactly where some check sum of f differs from that of g; by 26 exactly where none does and no legal frame lies at distance c
+-- from f; and by nothing else.
+pub record RepairRefused (s : Shape) (D : Declared) (f g : List ℕ) (c : ℕ) (o : Outcome) : Type 0 where
+  pub at-all : IsRefused o ↔ (CheckSumsDiffer s D f g ⊎ (LegalAt s D f c → ⊥))
+  pub by-23 : (o .answer ≡ refused 23) ↔ CheckSumsDiffer s D f g
+  pub by-26 : (o .answer ≡ refused 26) ↔ ((CheckSumsDiffer s D f g → ⊥) × (LegalAt s D f c → ⊥))
+
+-- It is so after calls that located g, at once or in slices, by a register of length c, with nothing but encodes and calls refused early since then, of an f
+-- that is well-formed with the same declared cells.
 abbrev pub RepairExact : Type 0
 RepairExact =
-    (a : Arrays) (before locating between : List Call) (s : Shape) (words f g : List ℕ) → lastShape before ≡ some s →
+    (a : Arrays) (before locating between : List Call) (s : Shape) (words f g : List ℕ) (c : ℕ) (σ : List ℕ) → lastShape before ≡ some s →
     LocatedBy a before words g locating → Between (run a (before ++ locating)) between → WellFormedRead s (declaredBy words) f →
-    (IsRefused (afterCalls a (before ++ (locating ++ between)) (repair f)) ↔ CheckSumsDiffer s (declaredBy words) f g) ×
-    ((afterCalls a (before ++ (locating ++ between)) (repair f) .answer ≡ refused 23) ↔
-    CheckSumsDiffer s (declaredBy words) f g)
+    Shortest 257 c (readSequences s (declaredBy words) g) σ →
+    RepairRefused s (declaredBy words) f g c (afterCalls a (before ++ (locating ++ between)) (repair f))
+
+-- A repair of the very frame that was located is refused exactly where a locate of it, in the place of the calls that located it, is; and then by 26.
+abbrev pub RepairOfLocated : Type 0
+RepairOfLocated =
+    (a : Arrays) (before locating between : List Call) (words f : List ℕ) → LocatedBy a before words f locating →
+    Between (run a (before ++ locating)) between →
+    (IsRefused (afterCalls a (before ++ (locating ++ between)) (repair f)) ↔ IsRefused (afterCalls a before (locate words f))) ×
+    ((k : ℕ) → afterCalls a (before ++ (locating ++ between)) (repair f) .answer ≡ refused k → k ≡ 26)
+
+-- So after a locate of it, it is not refused.
+abbrev pub RepairAfterLocate : Type 0
+RepairAfterLocate =
+    (a : Arrays) (before between : List Call) (words f : List ℕ) → Taken (afterCalls a before (locate words f)) →
+    Between (run a (before ++ (locate words f ∷ []))) between → Taken (afterCalls a (before ++ (locate words f ∷ between)) (repair f))
 
 -- Demand 3, third part. A legal frame g was sent, and f is what damage made of it: well-formed with the declared cells, and in every row twice the columns
 -- that are altered in undeclared cells, and the declared cells, are within the checks. Then locating f is not refused, nor is a later repair of f with
@@ -195,5 +215,7 @@ pub record Demand3 : Type 0 where
   pub locate-exact : LocateExact
   pub repair-mends : RepairMends
   pub repair-exact : RepairExact
+  pub repair-of-located : RepairOfLocated
+  pub repair-after-locate : RepairAfterLocate
   pub damage-mended : DamageMended
   pub arrays : ArraysPlayNoPart

@@ -56,9 +56,12 @@ pub record NothingDeclared : Type 0 where
       (s : Shape) × (c : ℕ) × (lastShape calls ≡ some s) × (afterCalls a calls (repair f) .answer ≡ columns c) ×
       MendedWhole s f c (afterCalls a calls (repair f))
   pub repair-exact :
-      (a : Arrays) (before locating between : List Call) (s : Shape) (f g : List ℕ) → lastShape before ≡ some s →
+      (a : Arrays) (before locating between : List Call) (s : Shape) (f g : List ℕ) (c : ℕ) (σ : List ℕ) → lastShape before ≡ some s →
       LocatedBy a before noWords g locating → Between (run a (before ++ locating)) between → WellFormed s f →
-      (afterCalls a (before ++ (locating ++ between)) (repair f) .answer ≡ refused 23) ↔ SumsDifferWhole s f g
+      Shortest 257 c (sequences s g) σ →
+      ((afterCalls a (before ++ (locating ++ between)) (repair f) .answer ≡ refused 23) ↔ SumsDifferWhole s f g) ×
+      ((afterCalls a (before ++ (locating ++ between)) (repair f) .answer ≡ refused 26) ↔
+      ((SumsDifferWhole s f g → ⊥) × ((e : List ℕ) × Legal s e × (distance s e f ≡ c) → ⊥)))
   pub damage-mended :
       (a : Arrays) (before between : List Call) (s : Shape) (f g : List ℕ) → lastShape before ≡ some s → Legal s g →
       WellFormed s f → ((h : ℕ) → h < s .rows → 2 * distance s g f ≤ checksOf s h) →

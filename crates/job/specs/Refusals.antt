@@ -7,21 +7,25 @@ use mathlib.Core.List.{List, [], _∷_, _++_}
 use Prim.Native.Nat.{ℕ, _<_}
 use lib.ListN.{getD}
 use Rattle.decoding.specs.Locating.{namesAll, namedColumns}
-use Rattle.decoding.specs.Remaining.{readSequences, meetingCompletable}
+use Rattle.decoding.specs.Remaining.{readSequences, meetingCompletable, mended}
 use Rattle.frame.specs.DeclaredCells.{Declared, declaredBy, checksLeft, asRead, BadCells, readReasons, rereadReasons, distanceRead}
 use Rattle.frame.specs.Demands.{shapeReasons, encodeReasons}
-use Rattle.frame.specs.Frame.{Legal, heldSums, heldSequences}
+use Rattle.frame.specs.Frame.{Coded, Varied, Legal, heldSums, heldSequences}
 use Rattle.frame.specs.declared.Shape.{Shape}
 use Rattle.refusal.specs.Order.{Reason, First}
 use Rattle.register.specs.Register.{Generator, Shortest, Alone}
 use Rattle.slices.specs.Synthesis.{Synthesis, size, ended}
-use Rattle.job.specs.Calls.{Call, shape, encode, locate, repair, start, next, peek, refused, Outcome, step, late}
+use Rattle.job.specs.Calls.{Call, shape, encode, locate, repair, start, next, peek, refused, Outcome, step, bySums, late}
 use Rattle.job.specs.Calls.{heldTaps, heldMark, started, stepped}
 use Rattle.job.specs.Job.{Arrays, Job, noColumns, isLocatedPhase, isUnfinishedPhase, lengthOf, declaredIn, stepSound, sound}
 use Rattle.job.specs.Left.{LeftShaped}
 use Rattle.job.specs.declared.Phase.the-variants.{Empty}
 
--- a legal frame lies at distance c from f
+-- a codeword lies at distance c from f
+abbrev pub CodedAt : Shape → Declared → (f : List ℕ) (c : ℕ) → Type 0
+CodedAt s D f c = (g : List ℕ) × Coded s g × (distanceRead s D g f ≡ c)
+
+-- a legal frame does
 abbrev pub LegalAt : Shape → Declared → (f : List ℕ) (c : ℕ) → Type 0
 LegalAt s D f c = (g : List ℕ) × Legal s g × (distanceRead s D g f ≡ c)
 
@@ -73,6 +77,17 @@ noFrameReason s D f =
 abbrev pub registerReasons : Shape → Declared → (f : List ℕ) → List Reason
 registerReasons s D f = notAloneReason s D f ∷ shortRowReason s D f ∷ noFrameReason s D f ∷ []
 
+-- Of a locate by the check sums alone the last reason is that no codeword lies there.
+abbrev pub noCodewordReason : Shape → Declared → (f : List ℕ) → Reason
+noCodewordReason s D f =
+    record {
+      number = 26;
+      holds = (c : ℕ) × (σ : List ℕ) × Shortest 257 c (readSequences s D f) σ × (CodedAt s D f c → ⊥);
+    }
+
+abbrev pub bySumsReasons : Shape → Declared → (f : List ℕ) → List Reason
+bySumsReasons s D f = notAloneReason s D f ∷ shortRowReason s D f ∷ noCodewordReason s D f ∷ []
+
 -- some of the 512 held sums are not those located
 abbrev pub SumsDiffer : (a b : List ℕ) → Type 0
 SumsDiffer a b = (k : ℕ) × (k < 512) × (getD a k 0 ≡ getD b k 0 → ⊥)
@@ -81,6 +96,11 @@ abbrev pub sumsReason : Job → (f : List ℕ) → Reason
 sumsReason j f =
     let s : Shape = j .head .shape in
     record { number = 23; holds = SumsDiffer (heldSums s (asRead s (declaredIn j) f)) (j .arrays .sums) }
+
+-- no two symbols differ of the frame that a repair would leave
+abbrev pub uniformReason : Job → (f : List ℕ) → Reason
+uniformReason j f =
+    record { number = 26; holds = Varied (mended (j .head .shape) (declaredIn j) (j .head .columns) f) → ⊥ }
 
 -- the job is not unfinished, or holds arrays with which no call leaves it, and counts as shaped
 abbrev pub notUnfinishedReason : Job → Reason
@@ -91,8 +111,8 @@ notUnfinishedReason j =
     }
 
 -- The refusals of a locate in slices that has come to the arrays a, by what these hold: all rounds are finished, and the register is not marked alone; or it is
--- too long for some row; or it names too few columns, or some at which a row cannot be completed. Of a job that calls leave they are those of its locate
--- (specs/Slices.antt).
+-- too long for some row; or it names too few columns, or some at which a row cannot be completed. Of a job that calls leave they are those of a locate by
+-- the check sums alone (specs/Slices.antt).
 abbrev pub arrivesReasons : Shape → Arrays → List Reason
 arrivesReasons s a =
     let x : Synthesis = a .synthesis in
@@ -123,7 +143,7 @@ reasons j (repair f) =
     record {
       keeping =
           emptyReason j ∷ notLocatedReason j ∷ (rereadReasons (j .head .shape) (declaredIn j) f ++ (sumsReason j f ∷ []));
-      shaping = [];
+      shaping = uniformReason j f ∷ [];
     }
 reasons j (start words f) =
     let s : Shape = j .head .shape in
@@ -167,3 +187,7 @@ pub record Refused (j : Job) (c : Call) (k : ℕ) (o : Outcome) : Type 0 where
 pub record Demand1 : Type 0 where
   pub exact : (j : Job) (c : Call) (k : ℕ) → (step j c .answer ≡ refused k) ↔ First k (reasons j c .keeping ++ reasons j c .shaping)
   pub left : (j : Job) (c : Call) (k : ℕ) → step j c .answer ≡ refused k → Refused j c k (step j c)
+  pub by-sums :
+      (j : Job) (words f : List ℕ) (k : ℕ) →
+      (bySums j words f .answer ≡ refused k) ↔
+      First k (reasons j (locate words f) .keeping ++ bySumsReasons (j .head .shape) (declaredBy words) f)

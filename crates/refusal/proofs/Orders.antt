@@ -38,6 +38,17 @@ module _ {A : Type 0} (refuse : ℕ → A) (otherwise : A) where
   pass-otherwise [] p = refl
   pass-otherwise (t ∷ ts) p = rw (p .0) (pass-otherwise ts (p .1))
 
+-- some test fails, and what follows plays no part, or each passes
+pub fails-or-passes : {A : Type 0} (refuse : ℕ → A) (ts : List Test) → ((x y : A) → firstOf refuse ts x ≡ firstOf refuse ts y) ⊎ Pass ts
+fails-or-passes refuse [] = inr tt
+fails-or-passes {A} refuse (t ∷ ts) = pick (t .fails) refl (fails-or-passes refuse ts)
+  where
+    pick : (b : Bool) → t .fails ≡ b → ((x y : A) → firstOf refuse ts x ≡ firstOf refuse ts y) ⊎ Pass ts
+        → ((x y : A) → firstOf refuse (t ∷ ts) x ≡ firstOf refuse (t ∷ ts) y) ⊎ Pass (t ∷ ts)
+    pick true e later = inl (λ x y. rw e refl)
+    pick false e (inl same) = inl (λ x y. rw e (same x y))
+    pick false e (inr p) = inr (e, p)
+
 pub firstOf-map : {A B : Type 0} (h : A → B) (refuse : ℕ → A) (ts : List Test) (otherwise : A)
     → h (firstOf refuse ts otherwise) ≡ firstOf (λ k. h (refuse k)) ts (h otherwise)
 firstOf-map h refuse [] otherwise = refl
