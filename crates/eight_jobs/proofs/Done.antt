@@ -1,4 +1,5 @@
--- A locate that nothing drops has made all its steps after eight times as many turns, so after 4,096, and the last of them does what locate would have.
+-- A locate that nothing drops has made all its steps after eight times as many turns, so after 4,096, and the last of them does what a locate by the check sums would
+-- have.
 use mathlib.Core.Path.{_≡_, ap, subst, subst⁻¹, _∙_}
 use mathlib.Core.Bool.{false}
 use mathlib.Core.List.{List, [], _∷_, _++_}
@@ -7,10 +8,10 @@ use Prim.Native.Nat.{ℕ, suc, _*_, _≤_, _<_}
 use native.Mathlib.Decide.{decLt}
 use native.Mathlib.Omega.{arith}
 use Rattle.frame.specs.declared.Shape.{Shape}
-use Rattle.job.specs.Calls.{Call, locate, start, next, step}
+use Rattle.job.specs.Calls.{Call, start, next, step, bySums}
 use Rattle.job.specs.Job.{Arrays, Job, isUnfinishedPhase}
 use Rattle.job.specs.Runs as job
-use Rattle.job.specs.Runs.{afterCalls, lastShape, Taken, Slicing, stepsIn}
+use Rattle.job.specs.Runs.{run, afterCalls, lastShape, Taken, Slicing, stepsIn}
 use Rattle.job.specs.Slices.{slicesOf, SameAnswer}
 use Rattle.job.proofs.Demands.{shaped-so}
 use Rattle.job.proofs.Walk.{Walked}
@@ -71,12 +72,12 @@ module _ (a : ℕ → Arrays) (before es : List (Event jobs)) (k : ℕ) (s : Sha
         ∙ over (a k) (callsTo a k before) s words f last taken calls by-itself all
 
     last-answer : suc (stepsIn calls) ≡ slicesOf s words f
-        → SameAnswer (step (runFrom jobs d es .at k) next) (afterCalls (a k) (callsTo a k before) (locate words f))
+        → SameAnswer (step (runFrom jobs d es .at k) next) (bySums (run (a k) (callsTo a k before)) words f)
     last-answer all =
-        subst⁻¹ (λ (j : Job). SameAnswer (step j next) (afterCalls (a k) (callsTo a k before) (locate words f))) job-after
+        subst⁻¹ (λ (j : Job). SameAnswer (step j next) (bySums (run (a k) (callsTo a k before)) words f)) job-after
         (last-step (a k) (callsTo a k before) s words f last taken calls by-itself all)
 
-    done : Done d k (slicesOf s words f) (afterCalls (a k) (callsTo a k before) (locate words f)) es
+    done : Done d k (slicesOf s words f) (bySums (run (a k) (callsTo a k before)) words f) es
     done =
         let most = most-512 s words f (shaped-so (a k) (callsTo a k before) s last) in
         record {

@@ -10,7 +10,7 @@ use Rattle.frame.specs.DeclaredCells.{declaredBy}
 use Rattle.frame.specs.Shape.{isShape}
 use Rattle.frame.specs.declared.Shape.{Shape}
 use Rattle.frame.proofs.Shapes.{shape-ranges}
-use Rattle.job.specs.Calls.{Call, locate, start, next, step}
+use Rattle.job.specs.Calls.{Call, start, next, step, bySums}
 use Rattle.job.specs.Job.{Arrays, Job, emptyJob, isUnfinished, isUnfinishedPhase}
 use Rattle.job.specs.Runs.{run, runFrom, afterCalls, lastShape, Taken, Slicing, stepsIn}
 use Rattle.job.specs.Slices.{slicesOf, SameAnswer}
@@ -75,12 +75,12 @@ module _ (a : Arrays) (before : List Call) (s : Shape) (words f : List ℕ) (las
     pub over : slicesOf s words f ≤ stepsIn between → isUnfinishedPhase (runFrom (afterCalls a before (start words f) .job) between .head .phase) ≡ false
     over = walked-over s words f (stepsIn between) _ (after-start between slicing)
 
-    -- the last step does what locate would have
+    -- the last step does what a locate by the check sums would have
     pub last-step : suc (stepsIn between) ≡ slicesOf s words f
-        → SameAnswer (step (runFrom (afterCalls a before (start words f) .job) between) next) (afterCalls a before (locate words f))
+        → SameAnswer (step (runFrom (afterCalls a before (start words f) .job) between) next) (bySums (run a before) words f)
     unfolding runFrom
     last-step all =
-        subst (λ (j : Job). SameAnswer (step j next) (afterCalls a before (locate words f))) (run-append (emptyJob a) before (start words f ∷ between))
+        subst (λ (j : Job). SameAnswer (step j next) (bySums (run a before) words f)) (run-append (emptyJob a) before (start words f ∷ between))
         (locates-in-slices .slices a before between s words f last taken slicing .last all)
 
 -- ---- how many steps

@@ -6,7 +6,7 @@ use mathlib.Core.Option.{some}
 use Prim.Native.Nat.{ℕ, zero, suc, _*_, _≤_, _<_}
 use lib.ListN.{replicate}
 use Rattle.frame.specs.declared.Shape.{Shape}
-use Rattle.job.specs.Calls.{Call, shape, locate, start, next, Outcome}
+use Rattle.job.specs.Calls.{Call, shape, start, next, Outcome, bySums}
 use Rattle.job.specs.Job.{Arrays, isUnfinished}
 use Rattle.job.specs.NothingDeclared.{noWords}
 use Rattle.job.specs.Runs.{run, afterCalls, lastShape, Taken, Slicing, stepsIn}
@@ -36,14 +36,15 @@ ServedWithin8 =
     (a : ℕ → Arrays) (before es : List (Event jobs)) (k : ℕ) → k < 8 → Unfinished jobs k (dispatched a before) es → turnsIn jobs es ≡ 8 →
     1 ≤ servesIn jobs k (dispatched a before) es
 
--- A locate of job k in so many steps, from the jobs d after its start through the events; `located` is what locate would have done in place of the start.
+-- A locate of job k in so many steps, from the jobs d after its start through the events; `located` is what a locate by the check sums
+-- would have done in place of the start.
 pub record Done (d : Jobs jobs) (k steps : ℕ) (located : Outcome) (es : List (Event jobs)) : Type 0 where
   pub most : steps ≤ 512
   -- with eight turns for each step all steps are made, and the job is not unfinished any more
   pub all-made : 8 * steps ≤ turnsIn jobs es → (steps ≤ stepsIn (callsOn jobs k d es)) × (jobs .unfinished (runFrom jobs d es .at k) ≡ false)
   -- so with 4,096 turns, whatever the frame
   pub within-4096 : 4096 ≤ turnsIn jobs es → jobs .unfinished (runFrom jobs d es .at k) ≡ false
-  -- the last step, by a call or by a turn that serves job k, answers and leaves what locate would have
+  -- the last step, by a call or by a turn that serves job k, answers and leaves what that locate would have
   pub last :
       suc (stepsIn (callsOn jobs k d es)) ≡ steps →
       (o : Outcome) × SameAnswer o located × (reply jobs (runFrom jobs d es) (on k next) ≡ says k o) ×
@@ -57,7 +58,7 @@ DoneWithin4096 =
     (a : ℕ → Arrays) (before es : List (Event jobs)) (k : ℕ) (s : Shape) (words f : List ℕ) → k < 8 → lastShape (callsTo a k before) ≡ some s →
     Taken (afterCalls (a k) (callsTo a k before) (start words f)) →
     let d : Jobs jobs = dispatched a (before ++ (on k (start words f) ∷ [])) in
-    Slicing (d .at k) (callsOn jobs k d es) → Done d k (slicesOf s words f) (afterCalls (a k) (callsTo a k before) (locate words f)) es
+    Slicing (d .at k) (callsOn jobs k d es) → Done d k (slicesOf s words f) (bySums (run (a k) (callsTo a k before)) words f) es
 
 -- the jobs 0 .. n − 1 given the largest number of steps: a shape of eight rows with 64 checks each, and a start of a frame of zeros, with no cell declared
 unfoldable pub longStarts : (n : ℕ) → List (Event jobs)

@@ -13,7 +13,7 @@ use Rattle.frame.specs.Completion.{without, cleared, completion, completed}
 use Rattle.field257.specs.LocatorPolynomial.{locatorPolynomial}
 use Rattle.frame.specs.DeclaredCells.{asRead, marksInside, declarable, undeclaredBelow, readTests, rereadTests}
 use Rattle.frame.specs.Encode.{eachRow, encoded, dataBelow, encodeTests}
-use Rattle.frame.specs.Frame.{checkSum, checkSums, rowSums, sequences, heldSums, heldSequences, weight}
+use Rattle.frame.specs.Frame.{checkSum, checkSums, rowSums, sequences, heldSums, heldSequences, weight, uniform}
 use Rattle.frame.specs.Shape.{shapeOf, rowsInRange, columnsInRange, checksInRange, exponentInRange, isShape, shapeTests}
 use Rattle.job.specs.Calls.{registerTests, sameSums, step, late}
 use Rattle.job.specs.Job.{noColumns, findingsSound, phaseSound, headSound, declaredSound, countsEmpty}
@@ -30,7 +30,7 @@ unfolding table computed lengthOf registers kept doesGenerate residueLists split
     rounds isAlone found foundAlone tabulate every joined noColumns phaseSound headSound countsEmpty step registerTests shapeOf rowsInRange
     columnsInRange checksInRange exponentInRange isShape shapeTests weight checkSum checkSums rowSums sequences heldSums heldSequences asRead marksInside
     declarable undeclaredBelow readTests rereadTests remaining allRemaining leftReach completable mended sameSums findingsSound declaredSound either
-    eachRow encoded
+    eachRow uniform encoded
     dataBelow encodeTests without locatorPolynomial cleared completion completed tests answer tapsLeft total noDivisor isPrime isModulus shifted
     reduced value sizeOf tapsOf aloneOf rowsReach named namedColumns namesAll count listed columnsOf has number
 examples = refl

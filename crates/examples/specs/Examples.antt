@@ -90,9 +90,14 @@ table =
     -- two sequences of one length, which keep their order: in the other one the taps would be 1 1 0
     register 2 ((0 ∷ 1 ∷ []) ∷ (1 ∷ 1 ∷ []) ∷ []) (Finder.register 2 false) (1 ∷ 0 ∷ 0 ∷ [])
     ([] ∷ [] ∷ ((1 ∷ 0 ∷ 0 ∷ []) ∷ (1 ∷ 0 ∷ 1 ∷ []) ∷ (1 ∷ 1 ∷ 0 ∷ []) ∷ (1 ∷ 1 ∷ 1 ∷ []) ∷ []) ∷ []) ∷
-    -- G
+    -- G: the frame of zeros is the only codeword at distance 1
     frame 4 (3 ∷ 2 ∷ []) 1 (0 ∷ 0 ∷ 5 ∷ 0 ∷ 0 ∷ 0 ∷ 7 ∷ 0 ∷ []) ((45 ∷ 148 ∷ 47 ∷ []) ∷ (63 ∷ 53 ∷ []) ∷ []) 1
+    (1 ∷ 248 ∷ []) true (Calls.refused 26) [] ∷
+    -- the same damage to a legal frame
+    frame 4 (3 ∷ 2 ∷ []) 1 (42 ∷ 94 ∷ 223 ∷ 1 ∷ 255 ∷ 139 ∷ 9 ∷ 3 ∷ []) ((45 ∷ 148 ∷ 47 ∷ []) ∷ (63 ∷ 53 ∷ []) ∷ []) 1
     (1 ∷ 248 ∷ []) true (Calls.columns 1) (2 ∷ []) ∷
+    -- no damage, but one symbol throughout, which of 256 columns is a codeword
+    frame 256 (2 ∷ []) 1 (replicate 256 7) ((0 ∷ 0 ∷ []) ∷ []) 0 (1 ∷ []) true (Calls.refused 26) [] ∷
     -- H
     frame 4 (2 ∷ 2 ∷ []) 1 (1 ∷ 1 ∷ 0 ∷ 0 ∷ 0 ∷ 0 ∷ 0 ∷ 0 ∷ []) ((4 ∷ 10 ∷ []) ∷ (0 ∷ 0 ∷ []) ∷ []) 1
     (1 ∷ 126 ∷ []) true (Calls.refused 26) [] ∷
@@ -104,25 +109,29 @@ table =
     (1 ∷ 253 ∷ 3 ∷ []) true (Calls.refused 25) [] ∷
     -- K
     encoded 3 (1 ∷ []) 1 (0 ∷ 1 ∷ 1 ∷ []) (245 ∷ 1 ∷ 1 ∷ []) ∷
-    -- G and K with check sums that begin at another exponent
-    frame 4 (3 ∷ 2 ∷ []) 0 (0 ∷ 0 ∷ 5 ∷ 0 ∷ 0 ∷ 0 ∷ 7 ∷ 0 ∷ []) ((5 ∷ 45 ∷ 148 ∷ []) ∷ (7 ∷ 63 ∷ []) ∷ []) 1
+    -- data of which the only codeword is uniform: nothing is written
+    encoded 4 (1 ∷ 1 ∷ []) 64 (0 ∷ 5 ∷ 5 ∷ 5 ∷ 0 ∷ 5 ∷ 5 ∷ 5 ∷ []) (0 ∷ 5 ∷ 5 ∷ 5 ∷ 0 ∷ 5 ∷ 5 ∷ 5 ∷ []) ∷
+    -- of one row, two columns and one check all data are so where the check sums begin at the exponent 128
+    encoded 2 (1 ∷ []) 128 (0 ∷ 3 ∷ []) (0 ∷ 3 ∷ []) ∷
+    -- the damage of G, and K, with check sums that begin at another exponent
+    frame 4 (3 ∷ 2 ∷ []) 0 (230 ∷ 39 ∷ 249 ∷ 1 ∷ 42 ∷ 210 ∷ 9 ∷ 3 ∷ []) ((5 ∷ 45 ∷ 148 ∷ []) ∷ (7 ∷ 63 ∷ []) ∷ []) 1
     (1 ∷ 248 ∷ []) true (Calls.columns 1) (2 ∷ []) ∷
     encoded 3 (1 ∷ []) 255 (0 ∷ 1 ∷ 1 ∷ []) (228 ∷ 1 ∷ 1 ∷ []) ∷
     -- one row of 256 columns, damaged in column 64, the first of a word of marks, and in the last one
-    frame 256 (4 ∷ []) 1 (replicate 64 0 ++ (1 ∷ (replicate 190 0 ++ (3 ∷ []))))
+    frame 256 (4 ∷ []) 1 (196 ∷ 138 ∷ 169 ∷ 137 ∷ 1 ∷ (replicate 59 0 ++ (1 ∷ (replicate 190 0 ++ (3 ∷ [])))))
     ((242 ∷ 85 ∷ 216 ∷ 239 ∷ []) ∷ []) 2 (1 ∷ 187 ∷ 166 ∷ []) true (Calls.columns 2) (64 ∷ 255 ∷ []) ∷
     -- the one named column is declared in row 2, which cannot be completed there; the repair that follows is refused
     declared 3 (2 ∷ 2 ∷ []) 1 (replicate 4 0 ++ (1 ∷ replicate 27 0)) (1 ∷ 0 ∷ 0 ∷ 65535 ∷ 1 ∷ 0 ∷ [])
     ((1 ∷ 1 ∷ []) ∷ (3 ∷ 9 ∷ []) ∷ []) ((1 ∷ 1 ∷ []) ∷ (6 ∷ []) ∷ []) 1 (1 ∷ 256 ∷ []) true (Calls.refused 26) []
     (1 ∷ 0 ∷ 0 ∷ 65535 ∷ 1 ∷ 0 ∷ []) ∷
-    -- column 0 of row 1 declared, and filled
+    -- column 0 of row 1 declared; filled it would make the frame of zeros, whatever it holds
     declared 4 (3 ∷ 3 ∷ []) 1 (1 ∷ replicate 31 0) (65535 ∷ 0 ∷ 5 ∷ 0 ∷ 0 ∷ 0 ∷ 7 ∷ 0 ∷ [])
     ((45 ∷ 148 ∷ 47 ∷ []) ∷ (63 ∷ 53 ∷ 220 ∷ []) ∷ []) ((103 ∷ 156 ∷ []) ∷ (63 ∷ 53 ∷ 220 ∷ []) ∷ []) 1 (1 ∷ 248 ∷ []) true
-    (Calls.columns 1) (2 ∷ []) (replicate 8 0) ∷
-    -- the same where the check sums begin at the exponent 255
-    declared 4 (3 ∷ 3 ∷ []) 255 (1 ∷ replicate 31 0) (65535 ∷ 0 ∷ 5 ∷ 0 ∷ 0 ∷ 0 ∷ 7 ∷ 0 ∷ [])
-    ((229 ∷ 5 ∷ 45 ∷ []) ∷ (115 ∷ 7 ∷ 63 ∷ []) ∷ []) ((33 ∷ 40 ∷ []) ∷ (115 ∷ 7 ∷ 63 ∷ []) ∷ []) 1 (1 ∷ 248 ∷ []) true
-    (Calls.columns 1) (2 ∷ []) (replicate 8 0) ∷
+    (Calls.refused 26) [] (65535 ∷ 0 ∷ 5 ∷ 0 ∷ 0 ∷ 0 ∷ 7 ∷ 0 ∷ []) ∷
+    -- the same damage to a legal frame, where the check sums begin at the exponent 255; the declared cell is filled
+    declared 4 (3 ∷ 3 ∷ []) 255 (1 ∷ replicate 31 0) (65535 ∷ 90 ∷ 172 ∷ 1 ∷ 255 ∷ 180 ∷ 84 ∷ 2 ∷ [])
+    ((230 ∷ 6 ∷ 46 ∷ []) ∷ (115 ∷ 7 ∷ 63 ∷ []) ∷ []) ((33 ∷ 40 ∷ []) ∷ (115 ∷ 7 ∷ 63 ∷ []) ∷ []) 1 (1 ∷ 248 ∷ []) true
+    (Calls.columns 1) (2 ∷ []) (256 ∷ 90 ∷ 167 ∷ 1 ∷ 255 ∷ 180 ∷ 77 ∷ 2 ∷ []) ∷
     []
 
 abbrev pub Examples : Type 0

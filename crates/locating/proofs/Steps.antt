@@ -14,8 +14,8 @@ use Rattle.frame.proofs.Declarable.{read-passes}
 use Rattle.frame.proofs.Reasons.{shape-passes, frame-passes}
 use Rattle.frame.proofs.Shapes.{shape-ranges}
 use Rattle.job.specs.Answers.{shapeOutcome, encodeOutcome, answeredOutcome}
-use Rattle.job.specs.Calls.{shape, encode, locate, repair, step, refusing, repairs, sameSums, sumsTest}
-use Rattle.job.specs.Job.{Arrays, Job, beside, isEmpty, isLocated, declaredIn, declaredSound, lengthOf, shapedHead}
+use Rattle.job.specs.Calls.{shape, encode, locate, repair, step, Outcome, refusing, repairs, sameSums, sumsTest, mendsUniform, uniformTest}
+use Rattle.job.specs.Job.{Arrays, Job, shapedJob, beside, isEmpty, isLocated, declaredIn, declaredSound, lengthOf, shapedHead}
 use Rattle.job.specs.declared.Answered.{Answered}
 use Rattle.job.specs.declared.Head.{Head}
 use Rattle.refusal.specs.Number.{number}
@@ -28,7 +28,7 @@ use Rattle.refusal.specs.Outcome.{passed, refused, outcome, outcomeOf}
 use Rattle.refusal.proofs.Orders.{firstOf-append, no-fail, passed-pass}
 use Rattle.refusal.proofs.Outcomes.{given-passed, given-refused}
 use Rattle.heads.specs.Answered as answer-of
-use Rattle.locating.specs.FromSums.{fromSums}
+use Rattle.locating.specs.FromSums.{seenFrom}
 
 -- a refusal of the calls' answer, with the head that it leaves beside the arrays as they were
 pub refusal-outcome : (a : Arrays) (f : List ℕ) {r : Answered} {i j : Head} (why : Refusal) → r ≡ answer-of.refusal i why → i ≡ j
@@ -107,7 +107,7 @@ module _ (j : Job) (words f : List ℕ) where
     locate-refused k e = rw full (sym (given-refused (refusing j f) _ (readTests (j .head .shape) (declaredBy words) f) k e))
 
     pub locate-goes-on : outcome (readTests (j .head .shape) (declaredBy words) f) ≡ passed
-        → fromSums (j .head .shape) (j .arrays) words (heldSums (j .head .shape) (asRead (j .head .shape) (declaredBy words) f)) f ≡ step j (locate words f)
+        → seenFrom (j .head .shape) (j .arrays) words (heldSums (j .head .shape) (asRead (j .head .shape) (declaredBy words) f)) f ≡ step j (locate words f)
     unfolding step
     locate-goes-on e = rw full (sym (given-passed (refusing j f) _ (readTests (j .head .shape) (declaredBy words) f) e))
 
@@ -138,24 +138,35 @@ module _ (j : Job) (f : List ℕ) where
       unfolding readTests rereadTests
       reread refuse otherwise = rw ok refl
 
+      -- what is left where the sums are the same
+      abbrev given : Outcome
+      given = firstOf (refusing (shapedJob (j .head .shape) (j .arrays)) f) (uniformTest j f ∷ []) (repairs j f)
+
       -- these come next, then the test of the sums
-      next : step j (repair f) ≡ firstOf (refusing j f) read (firstOf (refusing j f) (sumsTest j f ∷ []) (repairs j f))
+      next : step j (repair f) ≡ firstOf (refusing j f) read (firstOf (refusing j f) (sumsTest j f ∷ []) given)
       unfolding step
       next =
           rw (full, located)
-          (firstOf-append (refusing j f) (rereadTests (j .head .shape) (declaredIn j) f) (sumsTest j f ∷ []) (repairs j f) ∙ reread (refusing j f) _)
+          (firstOf-append (refusing j f) (rereadTests (j .head .shape) (declaredIn j) f) (sumsTest j f ∷ []) given ∙ reread (refusing j f) _)
 
       pub repair-refused : (k : ℕ) → outcome (readTests (j .head .shape) (declaredIn j) f) ≡ refused k → refusing j f k ≡ step j (repair f)
       repair-refused k e = sym (given-refused (refusing j f) _ read k e) ∙ sym next
 
       module _ (well-formed : outcome (readTests (j .head .shape) (declaredIn j) f) ≡ passed) where
-        goes-on : firstOf (refusing j f) (sumsTest j f ∷ []) (repairs j f) ≡ step j (repair f)
+        goes-on : firstOf (refusing j f) (sumsTest j f ∷ []) given ≡ step j (repair f)
         goes-on = sym (given-passed (refusing j f) _ read well-formed) ∙ sym next
 
         pub repair-differs : sameSums (heldSums (j .head .shape) (asRead (j .head .shape) (declaredIn j) f)) (j .arrays .sums) ≡ false
             → refusing j f 23 ≡ step j (repair f)
         repair-differs e = rw e at goes-on
 
-        pub repair-mends : sameSums (heldSums (j .head .shape) (asRead (j .head .shape) (declaredIn j) f)) (j .arrays .sums) ≡ true
-            → repairs j f ≡ step j (repair f)
-        repair-mends e = rw e at goes-on
+        module _ (same : sameSums (heldSums (j .head .shape) (asRead (j .head .shape) (declaredIn j) f)) (j .arrays .sums) ≡ true) where
+          judged : firstOf (refusing (shapedJob (j .head .shape) (j .arrays)) f) (uniformTest j f ∷ []) (repairs j f) ≡ step j (repair f)
+          judged = rw same at goes-on
+
+          pub repair-uniform : mendsUniform (j .head .shape) (declaredIn j) f (j .head .columns) ≡ true
+              → refusing (shapedJob (j .head .shape) (j .arrays)) f 26 ≡ step j (repair f)
+          repair-uniform e = rw e at judged
+
+          pub repair-mends : mendsUniform (j .head .shape) (declaredIn j) f (j .head .columns) ≡ false → repairs j f ≡ step j (repair f)
+          repair-mends e = rw e at judged
