@@ -24,7 +24,7 @@ module _ (s : Shape) (f : List ℕ) (small : dataBelow s f ≡ true) (h : ℕ) (
   abbrev n : ℕ
   n = s .columns
 
-  data-small : (i : ℕ) → checksOf s h ≤ i → i < n → cell n f h i < 257
+  pub data-small : (i : ℕ) → checksOf s h ≤ i → i < n → cell n f h i < 257
   unfolding dataBelow
   data-small i le l =
       ltb-true (cell n f h i) 257

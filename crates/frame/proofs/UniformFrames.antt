@@ -4,23 +4,30 @@ use mathlib.Core.Path.{_≡_, refl, sym, ap, ap₂, _∙_}
 use mathlib.Core.Bool.{Bool, true, false, _&&_, _||_, and-eq-true-iff}
 use mathlib.Core.List.{List}
 use mathlib.Core.Logic.{_⊎_, inl, inr}
-use Prim.Native.Nat.{ℕ, suc, _+_, _*_, _≤_, _<_}
+use Prim.Native.Nat.{ℕ, suc, _+_, _-_, _*_, _≤_, _<_}
 use native.Mathlib.Omega.{arith}
-use lib.Dec.{eqb}
+use lib.Dec.{eqb, ltb}
 use lib.ListN.{length, getD, replicate, length-replicate, getD-replicate}
 use lib.Seq.{ext-getD}
-use borrow.Author.Tests.{eqb-true, eq-eqb}
+use borrow.Author.Tests.{eqb-true, eq-eqb, le-ltb, ltb-false}
 use Rattle.columns.specs.Columns.{has}
 use Rattle.columns.specs.declared.Columns.{Columns}
 use Rattle.columns.proofs.Listing.{by-test}
+use Rattle.columns.proofs.Marks.{has-columnsOf}
 use Rattle.field257.proofs.Members.{size, Below}
 use Rattle.lists.specs.Tabulate.{every}
-use Rattle.lists.proofs.Tabulated.{every-at, every-of}
+use Rattle.lists.proofs.Tabulated.{every-at, every-of, every-ext}
 use Rattle.lists.proofs.Truth.{same-truth}
 use Rattle.frame.proofs.CompletedFrames.{completedFrame, length-completedFrame, completedFrame-kept, completedFrame-sums, completedFrame-only}
+use Rattle.frame.proofs.Encoding.{firstColumns, size-first, has-first}
+use Rattle.frame.proofs.RowData.{data-small}
 use Rattle.frame.proofs.Rows.{cell-place, row-end, row-cell, length-row, same-frames}
+use Rattle.frame.proofs.Shapes.{shape-ranges}
 use Rattle.frame.proofs.Uniform.{uniform-cells}
+use Rattle.frame.specs.Encode.{dataBelow, encoded}
 use Rattle.frame.specs.Frame.{row, cell, checkSum, uniform}
+use Rattle.frame.specs.Shape.{isShape, checksOf}
+use Rattle.frame.specs.declared.Shape.{Shape}
 
 -- ---- a frame of one symbol
 
@@ -39,11 +46,11 @@ constant-row n rows a h below =
     row-cell n (replicate (rows * n) a) h i b ∙ getD-replicate (rows * n) (h * n + i) a 0 (cell-place n rows h i below b) ∙ sym (getD-replicate n i a 0 b))
 
 -- the cells outside the columns of each row hold a
-abbrev pub keptHold : (n rows : ℕ) (J : ℕ → Columns) (f : List ℕ) (a : ℕ) → Bool
+abbrev keptHold : (n rows : ℕ) (J : ℕ → Columns) (f : List ℕ) (a : ℕ) → Bool
 keptHold n rows J f a = every rows (λ h. every n (λ k. has (J h) k || eqb (cell n f h k) a))
 
 -- a row of a alone has as many check sums 0 as each row has such columns
-abbrev pub constantCoded : (b n rows : ℕ) (J : ℕ → Columns) (a : ℕ) → Bool
+abbrev constantCoded : (b n rows : ℕ) (J : ℕ → Columns) (a : ℕ) → Bool
 constantCoded b n rows J a = every rows (λ h. every (size (J h)) (λ j. eqb (checkSum b n (replicate n a) (suc j)) 0))
 
 module _ (b n rows : ℕ) (J : ℕ → Columns) (f : List ℕ) (whole : length f ≡ rows * n) (narrow : n ≤ 256)
@@ -101,10 +108,39 @@ module _ (b n rows : ℕ) (J : ℕ → Columns) (f : List ℕ) (whole : length f
           ap (λ (x : Bool). has (J h) k || x) (eq-eqb _ _ (sym (completedFrame-kept b n rows J f whole h k r c free) ∙ same-as-a e h k r c))
           ∙ last (has (J h) k)
 
-  pub uniform-completed : uniform (completedFrame b n rows J f whole) ≡ (keptHold n rows J f (cell n f 0 i) && constantCoded b n rows J (cell n f 0 i))
+  pub uniform-completed : uniform (completedFrame b n rows J f whole) ≡ (
+      every rows (λ h. every n (λ k. has (J h) k || eqb (cell n f h k) (cell n f 0 i)))
+      && every rows (λ h. every (size (J h)) (λ j. eqb (checkSum b n (replicate n (cell n f 0 i)) (suc j)) 0)))
   unfolding constant
-  uniform-completed = same-truth _ _
+  uniform-completed =
+      same-truth _ _
       (λ e. and-eq-true-iff _ _ .1 (kept-hold e, constant-coded e))
-      (λ e.
-      let (kept, coded) = and-eq-true-iff _ _ .0 e in
-      ap uniform (sym (constant-is kept coded)) ∙ replicate-uniform (rows * n) a)
+      (λ e. let (kept, coded) = and-eq-true-iff _ _ .0 e in ap uniform (sym (constant-is kept coded)) ∙ replicate-uniform (rows * n) a)
+
+-- the encoder's frame: its data cells hold the last symbol of row 0
+module _ (s : Shape) (shape : isShape s ≡ true) (f : List ℕ) (whole : length f ≡ s .rows * s .columns) (below : dataBelow s f ≡ true) where
+  first-columns : (h k : ℕ) → k < s .columns → has (firstColumns (checksOf s h)) k ≡ ltb k (checksOf s h)
+  first-columns h k c = has-columnsOf (λ i. ltb i (checksOf s h)) k (let b = shape-ranges s shape .columns-most in omega arith)
+
+  pub uniform-encoded : uniform (encoded s f) ≡ (
+      every (s .rows) (λ h. every (s .columns) (λ k. ltb k (checksOf s h) || eqb (cell (s .columns) f h k) (getD f (s .columns - 1) 0)))
+      && every (s .rows) (λ h. every (checksOf s h) (λ j.
+      eqb (checkSum (s .exponent) (s .columns) (replicate (s .columns) (getD f (s .columns - 1) 0)) (suc j)) 0)))
+  unfolding encoded
+  uniform-encoded =
+      let ranges = shape-ranges s shape in
+      uniform-completed (s .exponent) (s .columns) (s .rows) (λ h. firstColumns (checksOf s h)) f whole (ranges .columns-most)
+      (λ h r i e. let a = has-first (checksOf s h) i e in let b = ranges .checks h r .below in omega arith)
+      (λ h i r c e. data-small s f below h r i (ltb-false i (checksOf s h) (sym (first-columns h i c) ∙ e)) c)
+      (s .columns - 1) (ranges .rows-least) (let b = ranges .columns-least in omega arith)
+      (first-columns 0 (s .columns - 1) (let b = ranges .columns-least in omega arith)
+      ∙ le-ltb (s .columns - 1) (checksOf s 0) (let b = ranges .checks 0 (ranges .rows-least) .below in omega arith))
+      ∙ ap₂ _&&_
+      (every-ext (s .rows) _ _ (λ h r. every-ext (s .columns) _ _ (λ k c.
+      ap₂ (λ (x : Bool) (a : ℕ). x || eqb (cell (s .columns) f h k) a) (first-columns h k c) same)))
+      (every-ext (s .rows) _ _ (λ h r.
+      ap₂ (λ (m a : ℕ). every m (λ j. eqb (checkSum (s .exponent) (s .columns) (replicate (s .columns) a) (suc j)) 0))
+      (size-first (checksOf s h) (let b = ranges .checks h r .most in omega arith)) same))
+    where
+      same : cell (s .columns) f 0 (s .columns - 1) ≡ getD f (s .columns - 1) 0
+      same = ap (λ (k : ℕ). getD f k 0) (let q : 0 * s .columns + (s .columns - 1) ≡ s .columns - 1 = omega arith in q)
