@@ -21,3 +21,4 @@ pub mod SetsApart
 pub mod SoleNearest
 pub mod Sought
 pub mod Tried
+pub mod UniformMended

@@ -36,7 +36,7 @@ module _ {A : Type 0} (refuse : ℕ → A) (otherwise : A) (s : Shape) (f : List
 
 -- ---- the data of a row
 
-module _ (n : ℕ) (f : List ℕ) (h count : ℕ) (inside : h * n + n ≤ length f) (fewer : count ≤ n) where
+module _ (test : ℕ → Bool) (n : ℕ) (f : List ℕ) (h count : ℕ) (inside : h * n + n ≤ length f) (fewer : count ≤ n) where
   -- the data cells of row h
   abbrev part : List ℕ
   part = midOf (h * n + count) (h * n + n - (h * n + count)) f
@@ -45,10 +45,10 @@ module _ (n : ℕ) (f : List ℕ) (h count : ℕ) (inside : h * n + n ≤ length
   length-part = let q = mid-len (h * n + count) (h * n + n) f inside in omega arith
 
   abbrev cellTest : ℕ → Bool
-  cellTest i = ltb i count || ltb (cell n f h i) 257
+  cellTest i = ltb i count || test (cell n f h i)
 
   abbrev dataTest : ℕ → Bool
-  dataTest k = ltb (getD part k 0) 257
+  dataTest k = test (getD part k 0)
 
   is-cell : (k : ℕ) → k < n - count → getD part k 0 ≡ cell n f h (count + k)
   is-cell k l =
@@ -57,7 +57,7 @@ module _ (n : ℕ) (f : List ℕ) (h count : ℕ) (inside : h * n + n ≤ length
 
   same-test : (k : ℕ) → k < n - count → cellTest (count + k) ≡ dataTest k
   same-test k l =
-      ap₂ _||_ (le-ltb (count + k) count (omega arith)) (ap (λ (x : ℕ). ltb x 257) (sym (is-cell k l)))
+      ap₂ _||_ (le-ltb (count + k) count (omega arith)) (ap test (sym (is-cell k l)))
 
   row-data : every n cellTest ≡ every (length part) dataTest
   row-data = pick (every (length part) dataTest) refl
@@ -66,7 +66,7 @@ module _ (n : ℕ) (f : List ℕ) (h count : ℕ) (inside : h * n + n ≤ length
       pick true e = every-of n cellTest (λ i l. at i l (decLt i count))
         where
           at : (i : ℕ) → i < n → Dec (i < count) → cellTest i ≡ true
-          at i l (yes c) = ap (λ (b : Bool). b || ltb (cell n f h i) 257) (lt-ltb i count c)
+          at i l (yes c) = ap (λ (b : Bool). b || test (cell n f h i)) (lt-ltb i count c)
           at i l (no c) =
               let k : ℕ = i - count in
               ap cellTest (let q : i ≡ count + k = omega arith in q) ∙ same-test k (omega arith)
@@ -76,14 +76,14 @@ module _ (n : ℕ) (f : List ℕ) (h count : ℕ) (inside : h * n + n ≤ length
           let less : k < n - count = let s = length-part in omega arith in
           every-fails n cellTest (count + k) (omega arith) (same-test k less ∙ x)
 
--- the test of row h, by that of its data cells
-abbrev pub rowTest : (s : Shape) (f : List ℕ) (h : ℕ) → Bool
-rowTest s f h = every (s .columns) (λ i. ltb i (checksOf s h) || ltb (cell (s .columns) f h i) 257)
+-- a test of the data cells of row h, by that of the part that holds them
+abbrev pub rowTest : (test : ℕ → Bool) (s : Shape) (f : List ℕ) (h : ℕ) → Bool
+rowTest test s f h = every (s .columns) (λ i. ltb i (checksOf s h) || test (cell (s .columns) f h i))
 
-pub row-tested : (s : Shape) (f : List ℕ) (h count : ℕ) (r : Bool) → RowPlace s (length f) h → count ≡ checksOf s h
+pub row-tested : (test : ℕ → Bool) (s : Shape) (f : List ℕ) (h count : ℕ) (r : Bool) → RowPlace s (length f) h → count ≡ checksOf s h
     → (let cells = midOf (h * s .columns + count) (h * s .columns + s .columns - (h * s .columns + count)) f in
-    r ≡ every (length cells) (λ k. ltb (getD cells k 0) 257))
-    → rowTest s f h ≡ r
-row-tested s f h count r place e t =
-    ap (λ (c : ℕ). every (s .columns) (λ i. ltb i c || ltb (cell (s .columns) f h i) 257)) (sym e)
-    ∙ row-data (s .columns) f h count (place .inside) (let l = place .checks .below in omega arith) ∙ sym t
+    r ≡ every (length cells) (λ k. test (getD cells k 0)))
+    → rowTest test s f h ≡ r
+row-tested test s f h count r place e t =
+    ap (λ (c : ℕ). every (s .columns) (λ i. ltb i c || test (cell (s .columns) f h i))) (sym e)
+    ∙ row-data test (s .columns) f h count (place .inside) (let l = place .checks .below in omega arith) ∙ sym t

@@ -1,8 +1,9 @@
 -- `shapes::symbols::data_below` meets its contract.
 use mathlib.Core.Path.{_≡_, refl, _∙_}
-use mathlib.Core.Bool.{true}
-use Prim.Native.Nat.{_-_}
+use mathlib.Core.Bool.{Bool, true}
+use Prim.Native.Nat.{ℕ, _-_}
 use native.Mathlib.Omega.{arith}
+use lib.Dec.{ltb}
 use lib.ListN.{length}
 use borrow.Author.Tests.{not-true, not-false}
 use Rattle.frame.specs.Encode.{dataBelow}
@@ -13,8 +14,12 @@ use borrow.Author.Needs.{needs}
 use Rattle.shapes.proofs.symbols.data_below.Statement.{statement}
 use Rattle.shapes.proofs.symbols.data_below.Tie as tie
 
+-- whether a cell holds a symbol
+abbrev symbol : ℕ → Bool
+symbol x = ltb x 257
+
 abbrev Inv-loop : tie.InvT-loop
-Inv-loop frame s rows columns h₀ h = Tested rows (rowTest s frame) h true
+Inv-loop frame s rows columns h₀ h = Tested rows (rowTest symbol s frame) h true
 
 abbrev μ-loop : tie.MeasureT-loop
 μ-loop frame s rows columns h₀ h = rows - h
@@ -29,10 +34,10 @@ place c =
 tested : (c : tie.After-all-below Inv-loop μ-loop) →
     let at = c .before .before .before .before .before in
     let args = at .before .before .args in
-    rowTest (args .t1) (args .frame .now) (at .loop .h) ≡ c .all-below .result
+    rowTest symbol (args .t1) (args .frame .now) (at .loop .h) ≡ c .all-below .result
 tested c =
     let read = c .before .before in
-    row-tested _ _ _ (read .wide .result) _ (place (read .before .before)) (read .wide .ensures .0) (c .all-below .ensures)
+    row-tested symbol _ _ _ (read .wide .result) _ (place (read .before .before)) (read .wide .ensures .0) (c .all-below .ensures)
 
 loop-holds : tie.Need-loop-holds Inv-loop μ-loop
 loop-holds c = tested-none _ _
