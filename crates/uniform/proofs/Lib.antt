@@ -1,0 +1,2 @@
+pub mod ConstantRows
+pub mod FirstOutside
