@@ -122,6 +122,16 @@ module _ (s : Shape) (shape : isShape s ≡ true) (f : List ℕ) (whole : length
   first-columns : (h k : ℕ) → k < s .columns → has (firstColumns (checksOf s h)) k ≡ ltb k (checksOf s h)
   first-columns h k c = has-columnsOf (λ i. ltb i (checksOf s h)) k (let b = shape-ranges s shape .columns-most in omega arith)
 
+  last-cell : cell (s .columns) f 0 (s .columns - 1) ≡ getD f (s .columns - 1) 0
+  last-cell = ap (λ (k : ℕ). getD f k 0) (let q : 0 * s .columns + (s .columns - 1) ≡ s .columns - 1 = omega arith in q)
+
+  pub last-small : getD f (s .columns - 1) 0 < 257
+  last-small =
+      let ranges = shape-ranges s shape in
+      let first = ranges .rows-least in
+      let wide = ranges .columns-least in
+      rw (← last-cell) (data-small s f below 0 first (s .columns - 1) (let b = ranges .checks 0 first .below in omega arith) (omega arith))
+
   pub uniform-encoded : uniform (encoded s f) ≡ (
       every (s .rows) (λ h. every (s .columns) (λ k. ltb k (checksOf s h) || eqb (cell (s .columns) f h k) (getD f (s .columns - 1) 0)))
       && every (s .rows) (λ h. every (checksOf s h) (λ j.
@@ -137,10 +147,7 @@ module _ (s : Shape) (shape : isShape s ≡ true) (f : List ℕ) (whole : length
       ∙ le-ltb (s .columns - 1) (checksOf s 0) (let b = ranges .checks 0 (ranges .rows-least) .below in omega arith))
       ∙ ap₂ _&&_
       (every-ext (s .rows) _ _ (λ h r. every-ext (s .columns) _ _ (λ k c.
-      ap₂ (λ (x : Bool) (a : ℕ). x || eqb (cell (s .columns) f h k) a) (first-columns h k c) same)))
+      ap₂ (λ (x : Bool) (a : ℕ). x || eqb (cell (s .columns) f h k) a) (first-columns h k c) last-cell)))
       (every-ext (s .rows) _ _ (λ h r.
       ap₂ (λ (m a : ℕ). every m (λ j. eqb (checkSum (s .exponent) (s .columns) (replicate (s .columns) a) (suc j)) 0))
-      (size-first (checksOf s h) (let b = ranges .checks h r .most in omega arith)) same))
-    where
-      same : cell (s .columns) f 0 (s .columns - 1) ≡ getD f (s .columns - 1) 0
-      same = ap (λ (k : ℕ). getD f k 0) (let q : 0 * s .columns + (s .columns - 1) ≡ s .columns - 1 = omega arith in q)
+      (size-first (checksOf s h) (let b = ranges .checks h r .most in omega arith)) last-cell))

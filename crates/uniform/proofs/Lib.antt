@@ -1,2 +1,4 @@
 pub mod ConstantRows
 pub mod FirstOutside
+pub mod KeptRows
+pub mod MendedColumns
