@@ -6,15 +6,16 @@ use frame::Shape;
 use refusal::Checked;
 use refusal::Refusal;
 use shapes::symbols::data_below;
+use uniform::encoded::encodes_uniform;
 ghost use mathlib.Core.Path.{_≡_};
 ghost use mathlib.Core.Bool.{true};
 ghost use Prim.Native.Nat.{_≤_};
-ghost use Rattle.encoder.specs.Encodable.{EncodableFrame};
 ghost use Rattle.division.specs.GeneratorPolynomial.{GeneratorPolynomial};
 ghost use Rattle.frame.specs.Encode.{encoded, encodeTests};
 ghost use Rattle.frame.specs.Shape.{isShape};
 ghost use Rattle.refusal.specs.Order.{firstOf};
 ghost use Rattle.refusal.specs.Outcome.{outcome, outcomeOf};
+ghost use Rattle.uniform.specs.Encodable.{EncodableFrame};
 
 // The generator polynomial for a check count, where that for another is at hand.
 fn generator_for(b: u32, held: [u16; 65], count: usize, checks: usize) -> [u16; 65]
@@ -49,7 +50,7 @@ fn fill_checks(s: Shape, frame: &mut [u16])
     }
 }
 
-// The check cells are filled from the data cells; what the check cells hold before plays no part.
+// The check cells are filled from the data cells; what the check cells hold before plays no part. A frame that would be uniform is left as it is.
 pub fn encode_frame(s: Shape, frame: &mut [u16]) -> Checked
     requires { ⌜ isShape s ≡ true ⌝ }
     ensures answer { λ r. ⌜ outcomeOf r ≡ outcome (encodeTests s (now (frame .entry))) ⌝ }
@@ -62,6 +63,9 @@ pub fn encode_frame(s: Shape, frame: &mut [u16]) -> Checked
     }
     if !data_below(s, frame) {
         return Checked::Refuse(Refusal::Symbol);
+    }
+    if encodes_uniform(s, frame) {
+        return Checked::Refuse(Refusal::UniformFrame);
     }
     fill_checks(s, frame);
     Checked::Pass
