@@ -18,9 +18,12 @@ uniform-same f e j k bj bk = eqb-true _ _ (every-at (length f) _ e j bj) ∙ sym
 
 pub varied-says : (f : List ℕ) → Varied f ↔ (uniform f ≡ false)
 unfolding uniform
-varied-says f = (λ (j, k, bj, bk, apart). pick j k bj bk apart (by-test (uniform f)), λ e.
-    let (k, b, apart) = every-witness (length f) _ e in
-    (k, 0, b, omega arith, eqb-false _ _ apart))
+varied-says f = (
+  λ (j, k, bj, bk, apart). pick j k bj bk apart (by-test (uniform f)),
+  λ e.
+      let (k, b, apart) = every-witness (length f) _ e in
+      (k, 0, b, omega arith, eqb-false _ _ apart),
+)
   where
     pick : (j k : ℕ) → j < length f → k < length f → (getD f j 0 ≡ getD f k 0 → ⊥) → (uniform f ≡ true) ⊎ (uniform f ≡ false) → uniform f ≡ false
     pick j k bj bk apart (inl t) = absurd (apart (uniform-same f t j k bj bk))

@@ -40,7 +40,7 @@ replicate-uniform m a = every-of _ _ (λ k b.
 constant-row : (n rows a h : ℕ) → h < rows → row n (replicate (rows * n) a) h ≡ replicate n a
 constant-row n rows a h below =
     let long : length (row n (replicate (rows * n) a) h) ≡ n
-        = length-row n (replicate (rows * n) a) h (let e = row-end n h rows below in let l = length-replicate (rows * n) a in omega arith) in
+    = length-row n (replicate (rows * n) a) h (let e = row-end n h rows below in let l = length-replicate (rows * n) a in omega arith) in
     ext-getD 0 _ _ (long ∙ sym (length-replicate n a)) (λ i inside.
     let b : i < n = omega arith in
     row-cell n (replicate (rows * n) a) h i b ∙ getD-replicate (rows * n) (h * n + i) a 0 (cell-place n rows h i below b) ∙ sym (getD-replicate n i a 0 b))

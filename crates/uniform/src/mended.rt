@@ -45,7 +45,8 @@ fn rows_hold(s: Shape, declared: &[u64; 32], marked: Columns, frame: &[u16], a: 
     while h < rows {
         let from = h * columns;
         let to = from + columns;
-        if !kept_hold(&frame[from..to], either(marked, cells_of(declared, h)), a) {
+        let set = either(marked, cells_of(declared, h));
+        if !kept_hold(&frame[from..to], set, a) {
             return false;
         }
         h += 1;
@@ -63,7 +64,12 @@ fn sets_coded(s: Shape, declared: &[u64; 32], marked: Columns, a: u16) -> bool
     let rows = s.rows;
     let mut h = 0;
     while h < rows {
-        if !constant_coded(s.exponent, s.columns, a, size(either(marked, cells_of(declared, h)))) {
+        if !constant_coded(
+            s.exponent,
+            s.columns,
+            a,
+            size(either(marked, cells_of(declared, h))),
+        ) {
             return false;
         }
         h += 1;

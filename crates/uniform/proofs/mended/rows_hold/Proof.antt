@@ -49,8 +49,9 @@ tested : (c : tie.After-kept-hold Inv-loop μ-loop) →
     let args = start-of inside .args in
     rowHolds (args .s .columns) (args .declared .now) (args .marked) (args .frame .now) (args .a) (inside .before .loop .h) ≡ c .kept-hold .result
 tested c =
+    let joined = c .before .before in
     let marked = start-of (in-loop c) .args .marked in
-    row-held _ _ _ (place (in-loop c)) _ _ (c .before .either .ensures ∙ ap (either marked) (c .before .before .cells-of .ensures)) _ _ (c .kept-hold .ensures)
+    row-held _ _ _ (place (in-loop c)) _ _ (joined .either .ensures ∙ ap (either marked) (joined .before .cells-of .ensures)) _ _ (c .kept-hold .ensures)
 
 loop-holds : tie.Need-loop-holds Inv-loop μ-loop
 loop-holds c = tested-none _ _
@@ -61,17 +62,17 @@ mul-from c = let p = place c in omega arith
 add-to : tie.Need-add-to Inv-loop μ-loop
 add-to c = let p = place c in omega arith
 
+cells-of-requires : tie.Need-cells-of-requires Inv-loop μ-loop
+cells-of-requires c κs = let p = place c in omega arith
+
 mul-kept-hold : tie.Need-mul-kept-hold Inv-loop μ-loop
-mul-kept-hold c = let p = place c in omega arith
+mul-kept-hold c = let p = place (c .before .before) in omega arith
 
 part-kept-hold-start : tie.Need-part-kept-hold-start Inv-loop μ-loop
-part-kept-hold-start c = let p = place c in omega arith
+part-kept-hold-start c = let p = place (c .before .before) in omega arith
 
 part-kept-hold-end : tie.Need-part-kept-hold-end Inv-loop μ-loop
-part-kept-hold-end c = let p = place c in omega arith
-
-cells-of-requires : tie.Need-cells-of-requires Inv-loop μ-loop
-cells-of-requires c κs = let p = place (c .before) in omega arith
+part-kept-hold-end c = let p = place (c .before .before) in omega arith
 
 returns : tie.Need-returns Inv-loop μ-loop
 returns c =
@@ -96,12 +97,12 @@ rows-hold-spec =
     loop-holds
     mul-from
     add-to
+    cells-of-requires
+    (λ c κs. search needs)
     mul-kept-hold
     (λ c. omega arith)
     part-kept-hold-start
     part-kept-hold-end
-    cells-of-requires
-    (λ c κs. search needs)
     (λ c κs. search needs)
     returns
     (λ c. omega arith)
