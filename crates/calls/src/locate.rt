@@ -1,4 +1,4 @@
-// Locating: the frame is tested, its check sums are taken, and the columns are located from these. Where nothing is declared, as it is most often, the frame is
+// Locating: the frame is tested, its check sums are taken, and the columns are located from these and its cells. Where nothing is declared, as it is most often, the frame is
 // looked at as it stands; else it is read with 0 in the declared cells.
 use codec::sums::frame_sums;
 use erasures::cells::nothing;
@@ -8,8 +8,7 @@ use heads::sound::counts_as_empty;
 use heads::states::refuse;
 use job::Answered;
 use job::Head;
-use job::Reply;
-use locating::from_sums::locate_from;
+use located_frames::locate_frame;
 use refusal::Checked;
 use refusal::Refusal;
 use shapes::symbols::check_frame;
@@ -34,17 +33,7 @@ fn locate_whole(
         return refuse(j, r);
     }
     let summed = frame_sums(j.shape, frame);
-    let answer = locate_from(j.shape, true, declared, &summed, taps);
-    let reply = answer.reply;
-    match reply {
-        Reply::Count(_) => {
-            *sums = summed;
-            *held = *declared;
-            answer
-        }
-        Reply::Unfinished => answer,
-        Reply::Refused(_) => answer,
-    }
+    locate_frame(j.shape, true, declared, &summed, frame, sums, taps, held)
 }
 
 // A frame with declared cells.
@@ -65,17 +54,7 @@ fn locate_read(
         return refuse(j, r);
     }
     let read = sums_read(j.shape, declared, frame);
-    let answer = locate_from(j.shape, false, declared, &read, taps);
-    let reply = answer.reply;
-    match reply {
-        Reply::Count(_) => {
-            *sums = read;
-            *held = *declared;
-            answer
-        }
-        Reply::Unfinished => answer,
-        Reply::Refused(_) => answer,
-    }
+    locate_frame(j.shape, false, declared, &read, frame, sums, taps, held)
 }
 
 // The arrays are written where nothing is refused.

@@ -1,4 +1,4 @@
-// Repair: the rows of a frame completed at their marked and declared columns. Where the job holds no declared cells the frame is looked at as it stands.
+// Repair: the rows of a frame completed at their marked and declared columns, unless that would make it uniform. Where the job holds no declared cells the frame is looked at as it stands.
 use codec::sums::frame_sums;
 use completion::mend::mend;
 use erasures::cells::is_declarable;
@@ -13,11 +13,13 @@ use heads::states::is_located;
 use heads::states::length_of;
 use heads::states::mended;
 use heads::states::refuse;
+use heads::states::shaped;
 use job::Answered;
 use job::Head;
 use refusal::Checked;
 use refusal::Refusal;
 use shapes::symbols::check_frame;
+use uniform::mended::mends_uniform;
 ghost use mathlib.Core.Path.{_≡_};
 ghost use mathlib.Core.Bool.{true};
 ghost use Rattle.calls.specs.Whole.{RepairDoes, Repairable, RepairedWhole};
@@ -66,6 +68,9 @@ fn repair_whole(j: Head, sums: &[u16; 512], held: &[u64; 32], frame: &mut [u16])
         return refuse(j, Refusal::SumsDiffer);
     }
     let set = j.columns;
+    if mends_uniform(j.shape, held, set, frame) {
+        return refuse(shaped(j.shape), Refusal::NoFrame);
+    }
     mend(j.shape, set, &summed, frame);
     let phase = j.phase;
     mended(j.shape, length_of(phase), set)
@@ -90,6 +95,9 @@ fn repair_read(j: Head, sums: &[u16; 512], held: &[u64; 32], frame: &mut [u16]) 
         return refuse(j, Refusal::SumsDiffer);
     }
     let set = j.columns;
+    if mends_uniform(j.shape, held, set, frame) {
+        return refuse(shaped(j.shape), Refusal::NoFrame);
+    }
     fill(j.shape, held, set, &summed, frame);
     mended(j.shape, c, set)
 }

@@ -1,4 +1,5 @@
--- Locating from sums: what the finder answers is the shortest register of what is left of them, and locating by that register is what locate does.
+-- Locating from sums: what the finder answers is the shortest register of what is left of them, and locating by that register is what locate
+-- does by its sums alone.
 use mathlib.Core.Path.{_≡_, refl, sym, ap, ap₂, _∙_}
 use mathlib.Core.Bool.{Bool, true}
 use mathlib.Core.List.{List, _++_}
@@ -12,19 +13,16 @@ use Rattle.decoding.proofs.LeftLengths.{size-most}
 use Rattle.decoding.proofs.SequenceRegister.{generator-of, length-taps}
 use Rattle.finder.specs.Finder.{answerOf, register, refused}
 use Rattle.finder.specs.declared.Found.{Found}
-use Rattle.frame.specs.DeclaredCells.{Declared, declaredBy, asRead}
+use Rattle.frame.specs.DeclaredCells.{declaredBy, asRead}
 use Rattle.frame.specs.Frame.{heldSums, heldSequences}
 use Rattle.frame.specs.Shape.{isShape}
 use Rattle.frame.specs.declared.Shape.{Shape}
-use Rattle.from_register.specs.Register.{Locatable, Held, byRegister, after}
-use Rattle.job.specs.Answers.{answeredOutcome}
+use Rattle.from_register.specs.Register.{Locatable, Held, byRegister}
 use Rattle.job.proofs.ByShortest.{same-tests}
 use Rattle.job.specs.Calls.{Outcome, refusing, locates}
-use Rattle.job.specs.Job.{Arrays, withTaps, withFound, withRead, shapedJob}
-use Rattle.job.specs.declared.Answered.{Answered}
-use Rattle.job.specs.declared.Reply.{Reply}
+use Rattle.job.specs.Job.{Arrays, shapedJob}
 use Rattle.refusal.specs.Order.{firstOf}
-use Rattle.locating.specs.FromSums.{fromSums}
+use Rattle.locating.specs.FromSums.{fromSums, seenFrom}
 use Rattle.locating.specs.RegisterOf.{RegisterOf}
 
 -- ---- what the finder answers
@@ -66,17 +64,6 @@ module _ (s : Shape) (words sums buffer : List ℕ) (r : Found) (said : Register
 
 -- ---- from the sums of a frame
 
-module _ (s : Shape) (words f old new taps left cells : List ℕ) (r : Answered)
-    (located : (a : Arrays) (g : List ℕ) →
-    answeredOutcome r (withFound a (after (r .reply) (a .sums) new) left (after (r .reply) (a .declared) words)) g ≡ fromSums s (withTaps a taps) words new g)
-    (held : new ≡ heldSums s (asRead s (declaredBy words) f)) (a : Arrays) where
-  abbrev given-sums : Outcome
-  given-sums = fromSums s (withFound a old taps cells) words (heldSums s (asRead s (declaredBy words) f)) f
-
-  from-frame : answeredOutcome r (withFound a (after (r .reply) old new) left (after (r .reply) cells words)) f ≡ given-sums
-  from-frame = located (withRead a old cells) f ∙ ap (λ sums. fromSums s (withFound a old taps cells) words sums f) held
-
-  -- by what the reply is
-  pub arrays-after : (x : Reply) → r .reply ≡ x → answeredOutcome r (withFound a (after x old new) left (after x cells words)) f
-      ≡ fromSums s (withFound a old taps cells) words (heldSums s (asRead s (declaredBy words) f)) f
-  arrays-after x e = ap (λ y. answeredOutcome r (withFound a (after y old new) left (after y cells words)) f) (sym e) ∙ from-frame
+pub from-frame : (s : Shape) (a : Arrays) (words new f : List ℕ) {o : Outcome} → o ≡ seenFrom s a words new f → new ≡ heldSums s (asRead s (declaredBy words) f)
+    → o ≡ seenFrom s a words (heldSums s (asRead s (declaredBy words) f)) f
+from-frame s a words new f e held = e ∙ ap (λ sums. seenFrom s a words sums f) held

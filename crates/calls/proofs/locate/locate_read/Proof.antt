@@ -11,8 +11,8 @@ use Rattle.frame.proofs.Declarable.{well-formed-declarable}
 use Rattle.frame.proofs.HeldSums.{held-below}
 use Rattle.job.proofs.Emptiness.{has-shape}
 use Rattle.refusal.specs.Outcome.{outcome, outcomeOf, passed}
-use Rattle.locating.proofs.Locating.{arrays-after}
-use Rattle.locating.proofs.Steps.{refusal-outcome, passed-read, locate-refused, locate-goes-on}
+use Rattle.locating.proofs.Locating.{from-frame}
+use Rattle.locating.proofs.Steps.{refusal-outcome, passed-read, passed-undeclared, locate-refused, locate-goes-on}
 use borrow.Author.Needs.{needs}
 use Rattle.calls.proofs.locate.locate_read.Statement.{statement}
 use Rattle.calls.proofs.locate.locate_read.Tie as tie
@@ -24,9 +24,6 @@ start-of c = c .before .before
 
 abbrev tested : tie.After-enum-told → tie.After-check-read
 tested c = c .before .before
-
-abbrev well-formed : tie.After-locate-from → tie.After-enum-told
-well-formed c = c .before .before .before .before
 
 -- ---- the tests
 
@@ -54,43 +51,27 @@ passes c = sym (tested c .check-read .ensures) ∙ ap outcomeOf (c .enum-told .g
 sums-read-requires : tie.Need-sums-read-requires
 sums-read-requires c κs = (shape (start-of (tested c)), passed-read _ _ _ (passes c))
 
-locate-from-requires : tie.Need-locate-from-requires
-locate-from-requires c κs =
-    let summed = c .before .before in
+locate-frame-requires : tie.Need-locate-frame-requires
+locate-frame-requires c κs =
+    let summed = c .before .before .before .before in
     let told = summed .before in
     let start = start-of (tested told) in
     record {
-      shape = shape start;
-      flag = sym (start .pre .some);
-      declarable = well-formed-declarable _ _ _ (passed-read _ _ _ (passes told));
-      small = λ k. subst⁻¹ (λ (l : List _). getD l k 0 < 257) (summed .sums-read .ensures) (held-below _ _ k);
+      locatable = record {
+        shape = shape start;
+        flag = sym (start .pre .some);
+        declarable = well-formed-declarable _ _ _ (passed-read _ _ _ (passes told));
+        small = λ k. subst⁻¹ (λ (l : List _). getD l k 0 < 257) (summed .sums-read .ensures) (held-below _ _ k);
+      };
+      whole = passed-read _ _ _ (passes told) .size;
+      small = passed-undeclared _ _ _ (passes told);
     }
 
 returns-2 : tie.Need-returns-2
 returns-2 c =
-    let replied = c .before in
-    let located = replied .before .before in
-    let told = well-formed located in
-    λ a. arrays-after _ _ _ _ _ _ _ _ _ (located .locate-from .ensures) (located .before .before .before .sums-read .ensures) a _
-    (replied .enum-told2 .given .1)
-    ∙ locate-goes-on _ _ _ (start-of (tested told) .pre .full) (passes told)
-
-returns-3 : tie.Need-returns-3
-returns-3 c =
-    let replied = c in
-    let located = replied .before .before in
-    let told = well-formed located in
-    λ a. arrays-after _ _ _ _ _ _ _ _ _ (located .locate-from .ensures) (located .before .before .before .sums-read .ensures) a _
-    (replied .enum-told3 .given .1)
-    ∙ locate-goes-on _ _ _ (start-of (tested told) .pre .full) (passes told)
-
-returns-4 : tie.Need-returns-4
-returns-4 c =
-    let replied = c in
-    let located = replied .before .before in
-    let told = well-formed located in
-    λ a. arrays-after _ _ _ _ _ _ _ _ _ (located .locate-from .ensures) (located .before .before .before .sums-read .ensures) a _
-    (replied .enum-told4 .given .1)
+    let summed = c .before .before .before .before .before in
+    let told = summed .before in
+    λ a. from-frame _ _ _ _ _ (c .locate-frame .ensures a) (summed .sums-read .ensures)
     ∙ locate-goes-on _ _ _ (start-of (tested told) .pre .full) (passes told)
 
 pub locate-read-spec : {M : Type 1} → statement M
@@ -103,10 +84,5 @@ locate-read-spec =
     returns
     (λ c. search needs)
     sums-read-requires
-    locate-from-requires
-    (λ c. search needs)
-    (λ c. search needs)
-    (λ c. search needs)
-    returns-2
-    returns-3
-    returns-4)
+    locate-frame-requires
+    returns-2)

@@ -11,8 +11,8 @@ use Rattle.frame.proofs.HeldSums.{held-below}
 use Rattle.frame.proofs.NothingDeclared.{nothing-declarable}
 use Rattle.job.proofs.Emptiness.{has-shape}
 use Rattle.refusal.specs.Outcome.{outcome, outcomeOf, passed}
-use Rattle.locating.proofs.Locating.{arrays-after}
-use Rattle.locating.proofs.Steps.{refusal-outcome, passed-frame, passed-read, locate-refused, locate-goes-on}
+use Rattle.locating.proofs.Locating.{from-frame}
+use Rattle.locating.proofs.Steps.{refusal-outcome, passed-frame, passed-read, passed-undeclared, locate-refused, locate-goes-on}
 use Rattle.job.proofs.Undeclared.{whole-tests, whole-sums}
 use borrow.Author.Needs.{needs}
 use Rattle.calls.proofs.locate.locate_whole.Statement.{statement}
@@ -25,9 +25,6 @@ start-of c = c .before .before
 
 abbrev tested : tie.After-enum-told → tie.After-check-frame
 tested c = c .before .before
-
-abbrev well-formed : tie.After-locate-from → tie.After-enum-told
-well-formed c = c .before .before .before .before
 
 -- ---- the tests
 
@@ -60,48 +57,29 @@ frame-sums-requires : tie.Need-frame-sums-requires
 frame-sums-requires c κs =
     (shape (start-of (tested c)), passed-frame _ _ (sym (tested c .check-frame .ensures) ∙ ap outcomeOf (c .enum-told .given .1)))
 
-locate-from-requires : tie.Need-locate-from-requires
-locate-from-requires c κs =
-    let summed = c .before .before in
-    let start = start-of (tested (summed .before)) in
+locate-frame-requires : tie.Need-locate-frame-requires
+locate-frame-requires c κs =
+    let summed = c .before .before .before .before in
+    let told = summed .before in
+    let start = start-of (tested told) in
     record {
-      shape = shape start;
-      flag = sym (start .pre .nothing);
-      declarable = nothing-declarable _ (shape start) _ (start .pre .nothing);
-      small = λ k. subst⁻¹ (λ (l : List _). getD l k 0 < 257) (summed .frame-sums .ensures) (held-below _ _ k);
+      locatable = record {
+        shape = shape start;
+        flag = sym (start .pre .nothing);
+        declarable = nothing-declarable _ (shape start) _ (start .pre .nothing);
+        small = λ k. subst⁻¹ (λ (l : List _). getD l k 0 < 257) (summed .frame-sums .ensures) (held-below _ _ k);
+      };
+      whole = passed-read _ _ _ (passes told) .size;
+      small = passed-undeclared _ _ _ (passes told);
     }
 
 returns-2 : tie.Need-returns-2
 returns-2 c =
-    let replied = c .before in
-    let located = replied .before .before in
-    let told = well-formed located in
+    let summed = c .before .before .before .before .before in
+    let told = summed .before in
     let start = start-of (tested told) in
-    λ a. arrays-after _ _ _ _ _ _ _ _ _ (located .locate-from .ensures)
-    (located .before .before .before .frame-sums .ensures ∙ whole-sums _ (shape start) _ (start .pre .nothing) _ (passed-read _ _ _ (passes told) .size)) a _
-    (replied .enum-told2 .given .1)
-    ∙ locate-goes-on _ _ _ (start .pre .full) (passes told)
-
-returns-3 : tie.Need-returns-3
-returns-3 c =
-    let replied = c in
-    let located = replied .before .before in
-    let told = well-formed located in
-    let start = start-of (tested told) in
-    λ a. arrays-after _ _ _ _ _ _ _ _ _ (located .locate-from .ensures)
-    (located .before .before .before .frame-sums .ensures ∙ whole-sums _ (shape start) _ (start .pre .nothing) _ (passed-read _ _ _ (passes told) .size)) a _
-    (replied .enum-told3 .given .1)
-    ∙ locate-goes-on _ _ _ (start .pre .full) (passes told)
-
-returns-4 : tie.Need-returns-4
-returns-4 c =
-    let replied = c in
-    let located = replied .before .before in
-    let told = well-formed located in
-    let start = start-of (tested told) in
-    λ a. arrays-after _ _ _ _ _ _ _ _ _ (located .locate-from .ensures)
-    (located .before .before .before .frame-sums .ensures ∙ whole-sums _ (shape start) _ (start .pre .nothing) _ (passed-read _ _ _ (passes told) .size)) a _
-    (replied .enum-told4 .given .1)
+    λ a. from-frame _ _ _ _ _ (c .locate-frame .ensures a)
+    (summed .frame-sums .ensures ∙ whole-sums _ (shape start) _ (start .pre .nothing) _ (passed-read _ _ _ (passes told) .size))
     ∙ locate-goes-on _ _ _ (start .pre .full) (passes told)
 
 pub locate-whole-spec : {M : Type 1} → statement M
@@ -114,10 +92,5 @@ locate-whole-spec =
     returns
     (λ c. search needs)
     frame-sums-requires
-    locate-from-requires
-    (λ c. search needs)
-    (λ c. search needs)
-    (λ c. search needs)
-    returns-2
-    returns-3
-    returns-4)
+    locate-frame-requires
+    returns-2)

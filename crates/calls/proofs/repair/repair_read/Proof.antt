@@ -17,7 +17,8 @@ use Rattle.job.proofs.Emptiness.{has-shape}
 use Rattle.job.proofs.Marked.{located-marked, located-size}
 use Rattle.refusal.specs.Outcome.{outcome, outcomeOf, passed}
 use Rattle.locating.proofs.Steps.{refusal-outcome, mended-outcome, passed-read, passed-undeclared, sound-cells}
-use Rattle.locating.proofs.Steps.{repair-unlocated, repair-refused, repair-differs, repair-mends}
+use Rattle.locating.proofs.Steps.{repair-unlocated, repair-refused, repair-differs, repair-uniform, repair-mends}
+use Rattle.uniform.specs.Mendable.{Mendable}
 use borrow.Author.Needs.{needs}
 use Rattle.calls.proofs.repair.repair_read.Statement.{statement}
 use Rattle.calls.proofs.repair.repair_read.Tie as tie
@@ -36,8 +37,11 @@ told-by c = c .before .before
 abbrev told-before : tie.After-same-sums → tie.After-enum-told
 told-before c = c .before .before .before .before
 
-abbrev alike-before : tie.After-fill → tie.Else2
-alike-before c = c .before .before .before .before
+abbrev alike-before : tie.After-mends-uniform → tie.Else2
+alike-before c = c .before .before .before
+
+abbrev judged-before : tie.After-fill → tie.After-mends-uniform
+judged-before c = c .before .before .before .before
 
 -- from where the frame has passed its tests, the cells that the job holds were found sound
 abbrev held-sound : tie.After-enum-told → tie.Else1
@@ -116,34 +120,64 @@ returns-3 c =
 words : (c : tie.Start) → Sound (c .args .j .columns)
 words c = sound _ (search needs) (λ w. search needs)
 
-fill-requires : tie.Need-fill-requires
-fill-requires c κs =
-    let same = c .before .before .before .before in
-    let told = told-before same in
-    let fit = held-sound told in
+-- it can be filled
+mendable : (c : tie.After-enum-told) →
+    let args = begun (held-sound c) .args in Mendable (args .j .shape) (now (args .held)) (args .j .columns) (now (args .frame))
+mendable c =
+    let fit = held-sound c in
     let start = begun fit in
     let kept = sound-cells _ _ _ (cells (fit .before) ∙ not-false _ (fit .if1 .left)) in
     record {
       shape = shape start;
-      whole = passed-read _ _ _ (passes told) .size;
-      small = passed-undeclared _ _ _ (passes told);
-      held = same .before .before .sums-read .ensures;
+      whole = passed-read _ _ _ (passes c) .size;
+      small = passed-undeclared _ _ _ (passes c);
       below = located-marked _ (start .pre .full) (start .pre .located) (words start) .inside;
       declarable = kept .0;
       reach = subst (λ (n : ℕ). leftReach (start .args .j .shape) (declaredBy (now (start .args .held))) n ≡ true)
           (sym (located-size _ (start .pre .full) (start .pre .located))) (kept .1);
     }
 
+mends-uniform-requires : tie.Need-mends-uniform-requires
+mends-uniform-requires c κs = mendable (told-before (c .before .before .before))
+
+-- the frame would be uniform
 returns-4 : tie.Need-returns-4
 returns-4 c =
+    let judged = c .before .before .before in
+    let alike = alike-before judged in
+    let same = alike .before in
+    let fit = held-sound (told-before same) in
+    let start = begun fit in
+    λ a. refusal-outcome _ _ _ (c .refuse4 .ensures) (c .before .shaped .ensures)
+    ∙ repair-uniform _ _ (start .pre .full) (located fit a) (sound-cells _ _ _ (cells (fit .before) ∙ not-false _ (fit .if1 .left)) .0)
+    (passes (told-before same)) (compared same ∙ not-false _ (alike .if2 .left)) (sym (judged .mends-uniform .ensures) ∙ c .before .before .if3 .taken)
+
+fill-requires : tie.Need-fill-requires
+fill-requires c κs =
+    let same = alike-before (c .before .before .before) .before in
+    let known = mendable (told-before same) in
+    record {
+      shape = known .shape;
+      whole = known .whole;
+      small = known .small;
+      held = same .before .before .sums-read .ensures;
+      below = known .below;
+      declarable = known .declarable;
+      reach = known .reach;
+    }
+
+returns-5 : tie.Need-returns-5
+returns-5 c =
     let fill = c .before .before .before in
-    let alike = alike-before fill in
+    let judged = judged-before fill in
+    let alike = alike-before judged in
     let same = alike .before in
     let fit = held-sound (told-before same) in
     let start = begun fit in
     λ a. mended-outcome (start .args .j) _ _ (c .mended .ensures) (fit .before .before .length-of .ensures) (fill .fill .ensures)
     ∙ repair-mends _ _ (start .pre .full) (located fit a) (sound-cells _ _ _ (cells (fit .before) ∙ not-false _ (fit .if1 .left)) .0)
     (passes (told-before same)) (compared same ∙ not-false _ (alike .if2 .left))
+    (sym (judged .mends-uniform .ensures) ∙ fill .before .before .before .if3 .left)
 
 pub repair-read-spec : {M : Type 1} → statement M
 repair-read-spec =
@@ -164,7 +198,12 @@ repair-read-spec =
     (λ c κs. search needs)
     (λ c. search needs)
     returns-3
+    mends-uniform-requires
+    (λ c κs. search needs)
+    (λ c κs. search needs)
+    (λ c. search needs)
+    returns-4
     fill-requires
     (λ c κs. search needs)
     (λ c. search needs)
-    returns-4)
+    returns-5)

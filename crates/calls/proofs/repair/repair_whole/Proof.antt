@@ -1,5 +1,5 @@
 -- `calls::repair::repair_whole` meets its contract.
-use mathlib.Core.Path.{_≡_, refl, sym, ap, ap₂, _∙_}
+use mathlib.Core.Path.{_≡_, refl, sym, ap, ap₂, subst, _∙_}
 use mathlib.Core.Bool.{true, _&&_}
 use mathlib.Core.List.{List}
 use Prim.Native.Nat.{ℕ}
@@ -7,6 +7,7 @@ use denote.Ref.{now}
 use borrow.Author.Tests.{not-true, not-false}
 use Rattle.columns.specs.Columns.{Sound}
 use Rattle.columns.proofs.Marks.{sound}
+use Rattle.decoding.specs.Remaining.{leftReach}
 use Rattle.frame.specs.DeclaredCells.{declaredBy, asRead, readTests}
 use Rattle.frame.specs.Frame.{WellFormed, heldSums}
 use Rattle.frame.specs.Shape.{isShape}
@@ -14,9 +15,10 @@ use Rattle.frame.proofs.NothingDeclared.{nothing-declarable}
 use Rattle.job.specs.Calls.{sameSums}
 use Rattle.job.specs.Job.{Arrays, beside, isLocated, withRead}
 use Rattle.job.proofs.Emptiness.{has-shape}
-use Rattle.job.proofs.Marked.{located-marked, located-reach}
+use Rattle.job.proofs.Marked.{located-marked, located-reach, located-size}
 use Rattle.refusal.specs.Outcome.{outcome, outcomeOf, passed}
-use Rattle.locating.proofs.Steps.{refusal-outcome, mended-outcome, passed-frame, repair-refused, repair-differs, repair-mends}
+use Rattle.locating.proofs.Steps.{refusal-outcome, mended-outcome, passed-frame, passed-undeclared, sound-cells}
+use Rattle.locating.proofs.Steps.{repair-refused, repair-differs, repair-uniform, repair-mends}
 use Rattle.job.proofs.Undeclared.{whole-tests, whole-sums, whole-sound, whole-mended}
 use borrow.Author.Needs.{needs}
 use Rattle.calls.proofs.repair.repair_whole.Statement.{statement}
@@ -33,8 +35,11 @@ told-by c = c .before .before
 abbrev told-before : tie.After-same-sums → tie.After-enum-told
 told-before c = c .before .before .before .before
 
-abbrev alike-before : tie.After-mend → tie.Else1
-alike-before c = c .before .before .before .before
+abbrev alike-before : tie.After-mends-uniform → tie.Else1
+alike-before c = c .before .before .before
+
+abbrev judged-before : tie.After-mend → tie.After-mends-uniform
+judged-before c = c .before .before .before .before
 
 -- from where the sums are compared, the start
 abbrev begun : tie.After-same-sums → tie.Start
@@ -102,9 +107,38 @@ returns-2 c =
 words : (c : tie.Start) → Sound (c .args .j .columns)
 words c = sound _ (search needs) (λ w. search needs)
 
+mends-uniform-requires : tie.Need-mends-uniform-requires
+mends-uniform-requires c κs =
+    let same = c .before .before .before in
+    let told = told-before same in
+    let start = begun same in
+    let known = start .pre .repairable in
+    record {
+      shape = shape start;
+      whole = well-formed told .size;
+      small = passed-undeclared _ _ _ (passes told);
+      below = located-marked _ (known .full) (known .located) (words start) .inside;
+      declarable = nothing-declarable _ (shape start) _ (start .pre .nothing);
+      reach = subst (λ (n : ℕ). leftReach (start .args .j .shape) (declaredBy (now (start .args .held))) n ≡ true)
+          (sym (located-size _ (known .full) (known .located)))
+          (sound-cells _ _ _ (whole-sound _ (shape start) _ (start .pre .nothing) _ (located-reach _ (known .full) (known .located))) .1);
+    }
+
+-- the frame would be uniform
+returns-3 : tie.Need-returns-3
+returns-3 c =
+    let judged = c .before .before .before in
+    let alike = alike-before judged in
+    let same = alike .before in
+    let start = begun same in
+    λ a. refusal-outcome _ _ _ (c .refuse3 .ensures) (c .before .shaped .ensures)
+    ∙ repair-uniform _ _ (start .pre .repairable .full) (located start a) (nothing-declarable _ (shape start) _ (start .pre .nothing))
+    (passes (told-before same)) (compared same ∙ not-false _ (alike .if1 .left))
+    (sym (judged .mends-uniform .ensures) ∙ c .before .before .if2 .taken)
+
 mend-requires : tie.Need-mend-requires
 mend-requires c κs =
-    let same = c .before .before .before .before in
+    let same = alike-before (c .before .before .before) .before in
     let told = told-before same in
     let start = begun same in
     let marked = located-marked _ (start .pre .repairable .full) (start .pre .repairable .located) (words start) in
@@ -117,17 +151,18 @@ mend-requires c κs =
       reach = marked .reach;
     }
 
-returns-3 : tie.Need-returns-3
-returns-3 c =
+returns-4 : tie.Need-returns-4
+returns-4 c =
     let mend = c .before .before .before .before in
-    let alike = alike-before mend in
+    let judged = judged-before mend in
+    let alike = alike-before judged in
     let same = alike .before in
     let start = begun same in
     λ a. mended-outcome (start .args .j) _ _ (c .mended .ensures) (c .before .length-of .ensures)
     (mend .mend .ensures ∙ whole-mended _ (shape start) _ (start .pre .nothing) _ _ (words start))
     ∙ repair-mends _ _ (start .pre .repairable .full) (located start a) (nothing-declarable _ (shape start) _ (start .pre .nothing))
     (passes (told-before same))
-    (compared same ∙ not-false _ (alike .if1 .left))
+    (compared same ∙ not-false _ (alike .if1 .left)) (sym (judged .mends-uniform .ensures) ∙ mend .before .before .before .if2 .left)
 
 pub repair-whole-spec : {M : Type 1} → statement M
 repair-whole-spec =
@@ -144,9 +179,14 @@ repair-whole-spec =
     (λ c κs. search needs)
     (λ c. search needs)
     returns-2
+    mends-uniform-requires
+    (λ c κs. search needs)
+    (λ c κs. search needs)
+    (λ c. search needs)
+    returns-3
     (λ c. search needs)
     mend-requires
     (λ c κs. search needs)
     (λ c κs. search needs)
     (λ c. search needs)
-    returns-3)
+    returns-4)
