@@ -26,7 +26,7 @@ use Rattle.frame.specs.declared.Shape.{Shape}
 use Rattle.frame.proofs.Declarable.{read-says}
 use Rattle.frame.proofs.Reasons.{shape-says, shape-passes}
 use Rattle.job.specs.Calls as Calls
-use Rattle.job.specs.Calls.{Outcome, shape, locate, step, shapes, registerTests}
+use Rattle.job.specs.Calls.{Outcome, shape, locate, step, shapes, mendsUniform, registerTests}
 use Rattle.job.specs.Job.{Job, emptyJob, shapedJob, noArrays, headSound, phaseSound}
 use Rattle.job.specs.NothingDeclared.{noWords}
 use Rattle.job.specs.Refusals.{emptyReason, registerReasons}
@@ -201,7 +201,7 @@ module _ (n : ℕ) (checks f text : List ℕ) (output : text ≡ outputOf (frame
         (λ k _ _ e. inl (k, first-of k (ap (λ (o : Outcome). o .answer) e), locate-refused k (Calls.reshaped j) e))
         (λ kept passed e. inr (
           none-append (readReasons s D f) (registerReasons s D f) (pass-none (readTests s D f) (readReasons s D f) (read-says s D f) (kept .1))
-              (none-in-turn (registerTests s D (heldSequences s (heldSums s (asRead s D f)))) (registerReasons s D f)
+              (none-in-turn (registerTests s D (heldSequences s (heldSums s (asRead s D f))) (mendsUniform s D f)) (registerReasons s D f)
               (locate-says j noWords f kept) passed),
           columns-shown _ _ e refl,
         ))

@@ -50,11 +50,17 @@ table =
           3 ∷ 0 ∷ 1 ∷ 0 ∷ 1 ∷ 0 ∷ 2 ∷ 0 ∷ 3 ∷ 0 ∷ 22 ∷ 0 ∷ 1 ∷ 0 ∷ 5 ∷ 0 ∷ 2 ∷ 0 ∷ 4 ∷ 0 ∷ [];
       text = 69 ∷ 32 ∷ 57 ∷ 10 ∷ 69 ∷ 32 ∷ 57 ∷ 10 ∷ 82 ∷ 32 ∷ 50 ∷ 32 ∷ 48 ∷ 32 ∷ 49 ∷ 32 ∷ 51 ∷ 32 ∷ 48 ∷ 10 ∷ 69 ∷ 32 ∷ 57 ∷ 10 ∷ 69 ∷ 32 ∷ 57 ∷ 10 ∷ [];
     } ∷
-    -- 4 columns, checks 3 and 2, zeros but column 2, holding 5 and 7
+    -- 4 columns, checks 3 and 2, zeros but column 2, holding 5 and 7: the only codeword at distance 1 is uniform
     record {
       bytes =
           26 ∷ 0 ∷ 2 ∷ 0 ∷ 2 ∷ 0 ∷ 4 ∷ 0 ∷ 3 ∷ 0 ∷ 2 ∷ 0 ∷ 0 ∷ 0 ∷ 0 ∷ 0 ∷ 5 ∷ 0 ∷ 0 ∷ 0 ∷ 0 ∷ 0 ∷ 0 ∷ 0 ∷ 7 ∷ 0 ∷ 0 ∷
           0 ∷ [];
+      text = 69 ∷ 32 ∷ 50 ∷ 54 ∷ 10 ∷ [];
+    } ∷
+    -- the same damage to a legal frame
+    record {
+      bytes =
+          26 ∷ 0 ∷ 2 ∷ 0 ∷ 2 ∷ 0 ∷ 4 ∷ 0 ∷ 3 ∷ 0 ∷ 2 ∷ 0 ∷ 42 ∷ 0 ∷ 94 ∷ 0 ∷ 223 ∷ 0 ∷ 1 ∷ 0 ∷ 255 ∷ 0 ∷ 139 ∷ 0 ∷ 9 ∷ 0 ∷ 3 ∷ 0 ∷ [];
       text = 70 ∷ 32 ∷ 49 ∷ 32 ∷ 50 ∷ 10 ∷ [];
     } ∷
     -- 4 columns, checks 2 and 2, zeros but row 1, columns 0 and 1, holding 1

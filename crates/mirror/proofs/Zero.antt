@@ -48,7 +48,7 @@ nonzero k e = omega arith
 keeping-numbered : (j : Job) (c : Call) → Numbered (describe j c .keeping)
 unfolding shapeTests encodeTests readTests rereadTests
 keeping-numbered j (shape n checks b) = (nonzero _, (nonzero _, (nonzero _, (nonzero _, tt))))
-keeping-numbered j (encode f) = (nonzero _, (nonzero _, (nonzero _, tt)))
+keeping-numbered j (encode f) = (nonzero _, (nonzero _, (nonzero _, (nonzero _, tt))))
 keeping-numbered j (locate words f) = (nonzero _, (nonzero _, (nonzero _, (nonzero _, tt))))
 keeping-numbered j (repair f) = (nonzero _, (nonzero _, (nonzero _, (nonzero _, (nonzero _, tt)))))
 keeping-numbered j (start words f) = (nonzero _, (nonzero _, (nonzero _, (nonzero _, tt))))
@@ -69,7 +69,7 @@ unfolding registerTests
 shaping-numbered j (shape n checks b) = tt
 shaping-numbered j (encode f) = tt
 shaping-numbered j (locate words f) = (nonzero _, (nonzero _, (nonzero _, tt)))
-shaping-numbered j (repair f) = tt
+shaping-numbered j (repair f) = (nonzero _, tt)
 shaping-numbered j (start words f) = arriving-numbered (j .head .shape) (started (j .head .shape) (j .arrays) words f)
 shaping-numbered j next = arriving-numbered (j .head .shape) (stepped (j .head .shape) (j .arrays))
 shaping-numbered j peek = tt

@@ -63,7 +63,7 @@ few-located j words f =
     let s = j .head .shape in
     let D = declaredBy words in
     let t : isShape s ≡ true = has-shape (j .head) e in
-    let l : Locates s D f = register-passes s D f (read-passes s D f p) q in
+    let l : Locates s D f = register-passes s D f _ q (read-passes s D f p) in
     let few : sizeOf (readSequences s D f) ≤ 64 = at-most s D (sizeOf (readSequences s D f)) t (l .reach) in
     subst⁻¹ (λ S. Few (locates s (j .arrays) words (allRemaining s D S) (heldSums s (asRead s D f)) f)) (held-sequences s (asRead s D f))
     (few, omega (arith, marked-number s D f t l)))
