@@ -1,10 +1,11 @@
 -- A row that holds one symbol, as it is lent from an array of that symbol: its check sums are values of a polynomial.
 use mathlib.Core.Path.{_≡_, sym, ap, _∙_}
+use mathlib.Core.List.{List}
 use Prim.Native.Nat.{ℕ, suc, _+_, _-_, _≤_, _<_}
 use native.Mathlib.Decide.{decLt}
+use native.Mathlib.Nat.{sub-zero}
 use native.Mathlib.Omega.{arith}
-use mathlib.Core.List.{List}
-use lib.ListN.{length, getD, take, replicate, length-replicate, getD-replicate, List·getD-eq-default}
+use lib.ListN.{length, getD, replicate, length-replicate, getD-replicate, List·getD-eq-default}
 use lib.Seq.{ext-getD, length-take-le}
 use borrow.Rule.Slice.PartMut.{midOf}
 use Rattle.field.specs.Coefficients.{value}
@@ -20,11 +21,14 @@ module _ (b n a m : ℕ) (asked : Summed b n a m) where
   abbrev lent : List ℕ
   lent = midOf 0 (n - 0) (replicate 256 a)
 
+  length-lent : length lent ≡ n
+  length-lent =
+      length-take-le (n - 0) (replicate 256 a) (let l = length-replicate 256 a in let q = asked .narrow in omega arith) ∙ sub-zero n
+
   is-constant : lent ≡ replicate n a
   is-constant =
-      let long : length lent ≡ n = length-take-le (n - 0) (replicate 256 a) (let l = length-replicate 256 a in let q = asked .narrow in omega arith) ∙ (let q : n - 0 ≡ n = omega arith in q) in
-      ext-getD 0 lent (replicate n a) (long ∙ sym (length-replicate n a)) (λ i inside.
-      let l : i < n = omega arith in
+      ext-getD 0 lent (replicate n a) (length-lent ∙ sym (length-replicate n a)) (λ i inside.
+      let l : i < n = let q = length-lent in omega arith in
       getD-part 0 (n - 0) (replicate 256 a) i 0 (omega arith)
       ∙ getD-replicate 256 (0 + i) a 0 (let q = asked .narrow in omega arith) ∙ sym (getD-replicate n i a 0 l))
 
@@ -33,7 +37,9 @@ module _ (b n a m : ℕ) (asked : Summed b n a m) where
     where
       pick : Dec (k < n) → getD (replicate n a) k 0 < 257
       pick (yes l) = rw (getD-replicate n k a 0 l) (asked .symbol)
-      pick (no l) = rw (List·getD-eq-default (replicate n a) 0 (let q = length-replicate n a in let z : length (replicate n a) ≤ k = omega arith in z)) (omega arith)
+      pick (no l) =
+          let past : length (replicate n a) ≤ k = let q = length-replicate n a in omega arith in
+          rw (List·getD-eq-default (replicate n a) 0 past) (omega arith)
 
   pub evaluable : (powers : List ℕ) → powers ≡ table → (j : ℕ) → j < m → Evaluable powers (midOf 0 (n - 0) (replicate 256 a)) (b + j)
   evaluable powers known j l = record {

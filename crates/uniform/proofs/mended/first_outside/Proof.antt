@@ -4,7 +4,6 @@ use mathlib.Core.Bool.{not}
 use Prim.Native.Nat.{_-_}
 use native.Mathlib.Omega.{arith}
 use borrow.Author.Needs.{needs}
-use borrow.Author.Tests.{not-false}
 use Rattle.columns.specs.Columns.{has}
 use Rattle.uniform.proofs.FirstOutside.{Passed, passed-none, passed-more, passed-out, passed-all}
 use Rattle.uniform.proofs.mended.first_outside.Statement.{statement}
