@@ -17,6 +17,7 @@ pub mod HeldParts
 pub mod HeldRows
 pub mod HeldSequences
 pub mod HeldSums
+pub mod KeptRows
 pub mod NothingDeclared
 pub mod Others
 pub mod ReadCopy

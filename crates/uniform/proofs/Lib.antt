@@ -1,4 +1,2 @@
 pub mod ConstantRows
-pub mod FirstOutside
-pub mod KeptRows
 pub mod MendedColumns

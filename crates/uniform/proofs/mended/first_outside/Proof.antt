@@ -5,7 +5,7 @@ use Prim.Native.Nat.{_-_}
 use native.Mathlib.Omega.{arith}
 use borrow.Author.Needs.{needs}
 use Rattle.columns.specs.Columns.{has}
-use Rattle.uniform.proofs.FirstOutside.{Passed, passed-none, passed-more, passed-out, passed-all}
+use Rattle.columns.proofs.FirstOutside.{Passed, passed-none, passed-more, passed-out, passed-all}
 use Rattle.uniform.proofs.mended.first_outside.Statement.{statement}
 use Rattle.uniform.proofs.mended.first_outside.Tie as tie
 

@@ -12,7 +12,7 @@ use Rattle.decoding.proofs.UniformMended.{uniform-mended}
 use Rattle.frame.specs.DeclaredCells.{declaredBy}
 use Rattle.frame.proofs.RowPlace.{row-place}
 use Rattle.frame.proofs.Shapes.{shape-ranges}
-use Rattle.uniform.proofs.FirstOutside.{first-inside, first-out}
+use Rattle.columns.proofs.FirstOutside.{first-inside, first-out}
 use Rattle.uniform.proofs.MendedColumns.{fewer, read, summed-sets}
 use Rattle.uniform.proofs.mended.mends_uniform.Statement.{statement}
 use Rattle.uniform.proofs.mended.mends_uniform.Tie as tie

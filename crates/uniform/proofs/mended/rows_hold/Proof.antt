@@ -15,7 +15,7 @@ use Rattle.frame.specs.Frame.{cell}
 use Rattle.frame.proofs.RowPlace.{RowPlace, row-place}
 use Rattle.lists.specs.Tabulate.{every}
 use Rattle.lists.proofs.Testing.{Tested, tested-none, tested-out, tested-pass, tested-all}
-use Rattle.uniform.proofs.KeptRows.{row-held}
+use Rattle.frame.proofs.KeptRows.{row-held}
 use Rattle.uniform.proofs.mended.rows_hold.Statement.{statement}
 use Rattle.uniform.proofs.mended.rows_hold.Tie as tie
 
