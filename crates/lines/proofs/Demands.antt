@@ -33,7 +33,7 @@ use Rattle.job.specs.Refusals.{emptyReason, registerReasons}
 use Rattle.job.proofs.Cases.{by-call}
 use Rattle.job.proofs.Reasons.{locate-says}
 use Rattle.job.proofs.Refusals as Refusals
-use Rattle.refusal.proofs.Orders.{by-tests, pass-none}
+use Rattle.refusal.proofs.Orders.{by-tests, pass-none-in-turn, pass-none}
 use Rattle.refusal.specs.Order.{Reason, First, None}
 use Rattle.register.specs.Algorithm4.{found, foundAlone}
 use Rattle.register.specs.EachRound.{IsShortest}
@@ -41,7 +41,7 @@ use Rattle.register.specs.Sequences.{longest, split}
 use Rattle.lines.specs.Demands.{kindOf, OfOneRecord, UnknownKind, badReason, Line, IsLine, Records}
 use Rattle.lines.specs.Demands.{lengthsOf, sequenceSymbols, registerReasonsOf, ShowsRegister}
 use Rattle.lines.specs.Demands.{checkCountsOf, frameSymbols, frameReasonsOf, ShowsColumns}
-use Rattle.refusal.proofs.Firsts.{first-same, first-or-none, first-before, first-after, none-append, none-in-turn, Below, below-append, first-below}
+use Rattle.refusal.proofs.Firsts.{first-same, first-or-none, first-before, first-after, none-append, Below, below-append, first-below}
 use Rattle.lines.proofs.Newlines.{line-is-one, refusal-is-one}
 use Rattle.text.proofs.Numbers.{tells-number, other-letter}
 use Rattle.lines.proofs.Parsed.{Told, told, sequences-not-bad, frame-not-bad, bad-exactly}
@@ -201,7 +201,7 @@ module _ (n : ℕ) (checks f text : List ℕ) (output : text ≡ outputOf (frame
         (λ k _ _ e. inl (k, first-of k (ap (λ (o : Outcome). o .answer) e), locate-refused k (Calls.reshaped j) e))
         (λ kept passed e. inr (
           none-append (readReasons s D f) (registerReasons s D f) (pass-none (readTests s D f) (readReasons s D f) (read-says s D f) (kept .1))
-              (none-in-turn (registerTests s D (heldSequences s (heldSums s (asRead s D f))) (mendsUniform s D f)) (registerReasons s D f)
+              (pass-none-in-turn (registerTests s D (heldSequences s (heldSums s (asRead s D f))) (mendsUniform s D f)) (registerReasons s D f)
               (locate-says j noWords f kept) passed),
           columns-shown _ _ e refl,
         ))

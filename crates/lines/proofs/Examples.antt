@@ -4,17 +4,17 @@ use mathlib.Core.List.{map}
 use Rattle.columns.specs.Columns.{columnsOf, either, has, number}
 use Rattle.columns.specs.Listed.{count, listed}
 use Rattle.decoding.specs.Locating.{sizeOf, tapsOf, aloneOf, named, namedColumns, namesAll}
-use Rattle.decoding.specs.Remaining.{remaining, allRemaining, leftReach, completable}
+use Rattle.decoding.specs.Remaining.{remaining, allRemaining, leftReach, completable, mended}
 use Rattle.field.specs.Coefficients.{shifted, reduced, value}
 use Rattle.field.specs.Prime.{noDivisor, isPrime, isModulus}
 use Rattle.lists.specs.Total.{total}
 use Rattle.finder.specs.Finder.{answer}
 use Rattle.sequences.specs.Tests.{tests}
 use Rattle.field257.specs.LocatorPolynomial.{locatorPolynomial}
-use Rattle.frame.specs.Completion.{cleared}
+use Rattle.frame.specs.Completion.{without, cleared, completion, completed}
 use Rattle.frame.specs.DeclaredCells.{asRead, marksInside, declarable, undeclaredBelow, readTests}
 use Rattle.frame.specs.Encode.{eachRow}
-use Rattle.frame.specs.Frame.{checkSum, checkSums, rowSums, sequences, heldSums, heldSequences, weight}
+use Rattle.frame.specs.Frame.{checkSum, checkSums, rowSums, sequences, heldSums, heldSequences, weight, uniform}
 use Rattle.frame.specs.Shape.{shapeOf, rowsInRange, columnsInRange, checksInRange, exponentInRange, isShape, shapeTests}
 use Rattle.job.specs.Calls.{registerTests, step}
 use Rattle.job.specs.Job.{noColumns, phaseSound, headSound, countsEmpty}
@@ -36,6 +36,6 @@ unfolding table startsWhole wholesUpTo restUpTo wholesOf restOf linesOfAll whole
     frameLine outputOf lineOf claimedBy isWhole countedOf bodyOf recordOf decimalUpTo decimal spaced line split ordered placed largest discrepancy stepAt
     start withSaved changed turn rounds isAlone found foundAlone tabulate every joined noColumns phaseSound headSound countsEmpty step registerTests shapeOf
     rowsInRange columnsInRange checksInRange exponentInRange isShape shapeTests weight checkSum checkSums rowSums sequences heldSums heldSequences asRead
-    marksInside declarable undeclaredBelow readTests eachRow cleared locatorPolynomial remaining allRemaining leftReach completable either tests answer
+    marksInside declarable undeclaredBelow readTests eachRow cleared locatorPolynomial remaining allRemaining leftReach completable either mended uniform completed completion without tests answer
     total noDivisor isPrime isModulus shifted reduced value sizeOf tapsOf aloneOf named namedColumns namesAll count listed columnsOf has number
 examples = refl

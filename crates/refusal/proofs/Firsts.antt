@@ -1,12 +1,10 @@
 -- The first reason of an order: there is one, or none holds; orders one after the other.
 use mathlib.Core.Path.{_≡_, sym, _∙_}
 use mathlib.Core.Logic.{_⊎_, inl, inr}
-use mathlib.Core.Bool.{false, true, false≢true}
 use mathlib.Core.List.{List, [], _∷_, _++_}
 use Prim.Native.Nat.{ℕ, _<_}
 use native.Mathlib.Omega.{arith}
-use Rattle.refusal.proofs.Orders.{Pass, SayInTurn, Says}
-use Rattle.refusal.specs.Order.{Reason, First, None, Test}
+use Rattle.refusal.specs.Order.{Reason, First, None}
 
 pub first-same : (rs : List Reason) (m k : ℕ) → First m rs → First k rs → m ≡ k
 first-same [] m k f g = absurd f
@@ -38,15 +36,6 @@ first-front (r ∷ rs) qs k never (inr (n, f)) = inr (n, first-front rs qs k nev
 pub none-append : (rs qs : List Reason) → None rs → None qs → None (rs ++ qs)
 none-append [] qs n m = m
 none-append (r ∷ rs) qs (n, ns) m = (n, none-append rs qs ns m)
-
--- where each test says its reason if none before it holds, and no test fails, no reason holds
-pub none-in-turn : (ts : List Test) (rs : List Reason) → SayInTurn ts rs → Pass ts → None rs
-none-in-turn [] [] s p = tt
-none-in-turn [] (r ∷ rs) s p = absurd s
-none-in-turn (t ∷ ts) [] s p = absurd s
-none-in-turn (t ∷ ts) (r ∷ rs) (s, later) (p, ps) =
-    let never : r .holds → ⊥ = λ h. false≢true (sym p ∙ s .fails h) in
-    (never, none-in-turn ts rs (later never) ps)
 
 -- each number of the order is below n
 abbrev pub Below : ℕ → List Reason → Type 0
