@@ -311,7 +311,7 @@ module _ (m : CJob) where
       let j : Job = beside (headOf (m .head)) (withRead a (m .arrays .sums) (m .arrays .declared)) in
       record {
         answers = seen-of answeredOf (jobOf m) (repair f) ∙ sym (seen-of answeredOf j (repair f));
-        arrays = by-call j (repair f) (λ o. o .job .arrays ≡ j .arrays) (λ k m. refl) (λ k p m. absurd m) (λ p q. refl);
+        arrays = by-call j (repair f) (λ o. o .job .arrays ≡ j .arrays) (λ k m. refl) (λ k p m. refl) (λ p q. refl);
         leaves = seen-of (λ o. o .frame) (jobOf m) (repair f) ∙ sym (seen-of (λ o. o .frame) j (repair f));
       }
 
