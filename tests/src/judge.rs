@@ -17,21 +17,42 @@ const ANSWERS: [(&str, &[u32]); 17] = [
     ("find", &[0, 1, 2, 3, 4, 8]),
     ("search", &[0, 4, 5]),
     ("shape", &[0, 2, 5, 6, 32]),
-    ("encode", &[0, 4, 7, 21]),
+    ("encode", &[0, 4, 7, 21, 34]),
     ("locate", &[0, 4, 7, 21, 24, 25, 26, 31]),
-    ("repair", &[0, 4, 7, 21, 22, 23]),
+    ("repair", &[0, 4, 7, 21, 22, 23, 26]),
     ("start", &[0, 4, 7, 21, 31]),
     ("step", &[0, 21, 24, 25, 26, 33]),
     ("peek", &[0, 21, 33]),
     ("jobs_shape", &[0, 2, 5, 6, 32, 33]),
-    ("jobs_encode", &[0, 4, 7, 21, 33]),
+    ("jobs_encode", &[0, 4, 7, 21, 33, 34]),
     ("jobs_locate", &[0, 4, 7, 21, 24, 25, 26, 31, 33]),
-    ("jobs_repair", &[0, 4, 7, 21, 22, 23, 33]),
+    ("jobs_repair", &[0, 4, 7, 21, 22, 23, 26, 33]),
     ("jobs_start", &[0, 4, 7, 21, 31, 33]),
     ("jobs_step", &[0, 21, 24, 25, 26, 33]),
     ("jobs_peek", &[0, 21, 33]),
     ("jobs_turn", &[0, 21, 24, 25, 26, 33]),
 ];
+
+/// How often things came that must come: each by its name.
+pub struct Tally(BTreeMap<&'static str, u64>);
+
+impl Tally {
+    pub fn of(names: &[&'static str]) -> Tally {
+        Tally(names.iter().map(|&name| (name, 0)).collect())
+    }
+
+    pub fn count(&mut self, name: &str, came: bool) {
+        *self.0.get_mut(name).expect("a name of the tally") += u64::from(came);
+    }
+
+    /// Prints the counts, none of which may be 0.
+    pub fn finish(self, judge: &mut Judge) {
+        for (name, count) in self.0 {
+            println!("{name:>60}: {count}");
+            judge.expect("what never came", &name, count > 0);
+        }
+    }
+}
 
 pub struct Judge<'a> {
     subject: &'a dyn Calls,

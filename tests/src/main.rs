@@ -28,7 +28,7 @@ fn subject() -> Box<dyn Calls> {
 
 type Trial = fn(&mut Judge);
 
-const TRIALS: [(&str, Trial); 14] = [
+const TRIALS: [(&str, Trial); 15] = [
     ("layout", trials::layout::run),
     ("prototypes", trials::prototypes::run),
     ("examples", trials::examples::run),
@@ -39,6 +39,7 @@ const TRIALS: [(&str, Trial); 14] = [
     ("frames", trials::frames::run),
     ("declared cells", trials::declared::run),
     ("exponents", trials::exponents::run),
+    ("dead lines", trials::uniform::run),
     ("slices", trials::slices::run),
     ("forged jobs", trials::forged::run),
     ("lists of calls", trials::lists::run),

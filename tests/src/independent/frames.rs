@@ -1,6 +1,6 @@
-//! Frames by their definition: check sums from powers of 3, legal frames, frames as they are read,
-//! distance by counting, and the legal frames that differ in given columns by solving for the symbols
-//! there.
+//! Frames by their definition: check sums from powers of 3, codewords, legal frames, frames as they are
+//! read, distance by counting, and the legal frames that differ in given columns by solving for the
+//! symbols there.
 
 use std::ops::Range;
 
@@ -76,10 +76,19 @@ pub fn check_sums(shape: &Shape, frame: &[u16]) -> Vec<u16> {
         .collect()
 }
 
-pub fn is_legal(shape: &Shape, frame: &[u16]) -> bool {
+pub fn is_codeword(shape: &Shape, frame: &[u16]) -> bool {
     frame.len() == shape.size()
         && frame.iter().all(|&symbol| symbol < 257)
         && check_sums(shape, frame).iter().all(|&sum| sum == 0)
+}
+
+/// No two symbols differ: what a broken cable delivers.
+pub fn is_uniform(frame: &[u16]) -> bool {
+    frame.iter().all(|symbol| *symbol == frame[0])
+}
+
+pub fn is_legal(shape: &Shape, frame: &[u16]) -> bool {
+    is_codeword(shape, frame) && !is_uniform(frame)
 }
 
 /// The columns in which any row differs in a cell that is not declared.
@@ -168,9 +177,9 @@ pub fn completed(row: &[u16], columns: &[usize], exponents: Range<usize>) -> Opt
     Some(completed)
 }
 
-/// The legal frame that agrees with the given one outside the columns and the declared cells, if
-/// there is one. No row has fewer checks left than there are columns.
-pub fn legal_at_columns(
+/// The codeword that agrees with the given frame outside the columns and the declared cells, if there
+/// is one. No row has fewer checks left than there are columns.
+pub fn codeword_at_columns(
     shape: &Shape,
     declared: &Declared,
     frame: &[u16],
@@ -201,7 +210,8 @@ pub fn legal_at(
             .collect::<Vec<_>>()
     });
     columns
-        .filter_map(|columns| legal_at_columns(shape, declared, frame, &columns))
+        .filter_map(|columns| codeword_at_columns(shape, declared, frame, &columns))
+        .filter(|codeword| !is_uniform(codeword))
         .filter(|legal| differing(shape, declared, legal, frame).len() == distance)
         .collect()
 }

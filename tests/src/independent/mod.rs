@@ -14,7 +14,7 @@ use common::interface::{
     Answer, Calls, Columns, Declared, Head, Job, LOCATED, Register, SHAPED, UNFINISHED,
 };
 
-use frames::{Shape, as_read, cells_of, columns_of, marks_of, open_columns};
+use frames::{Shape, as_read, cells_of, columns_of, is_uniform, marks_of, open_columns};
 use search::{locator_polynomial, named, tried};
 
 pub struct Independent;
@@ -181,6 +181,75 @@ pub fn frame_refusal(shape: &Shape, declared: &Declared, frame: &[u16]) -> u32 {
     ])
 }
 
+/// The only codeword with the data of a frame.
+pub fn encoded(shape: &Shape, frame: &[u16]) -> Vec<u16> {
+    let rows = frame.chunks(shape.columns).zip(&shape.checks);
+    let complete = |(row, &checks): (&[u16], &u16)| {
+        let columns: Vec<usize> = (0..usize::from(checks)).collect();
+        let exponents = shape.exponents(columns.len());
+        frames::completed(row, &columns, exponents).expect("as many sums as columns")
+    };
+    rows.flat_map(complete).collect()
+}
+
+/// The columns that the register of a frame names and the codeword that differs in these, or the number
+/// of the first reason why there is none.
+fn candidate(
+    shape: &Shape,
+    declared: &Declared,
+    frame: &[u16],
+) -> Result<(Vec<u64>, Vec<usize>, Vec<u16>), u32> {
+    let taps = register_of(shape, declared, frame).ok_or(24u32)?;
+    let c = taps.len() - 1;
+    if c > shape.least_left(declared) {
+        return Err(25);
+    }
+    let columns = named(shape.columns, &taps);
+    if columns.len() != c {
+        return Err(26);
+    }
+    let codeword = frames::codeword_at_columns(shape, declared, frame, &columns).ok_or(26u32)?;
+    Ok((taps, columns, codeword))
+}
+
+/// The distance of the only codeword near by from a well-formed frame, where that codeword is uniform.
+pub fn uniform_at(shape: &Shape, declared: &Declared, frame: &[u16]) -> Option<usize> {
+    let (_, columns, codeword) = candidate(shape, declared, frame).ok()?;
+    is_uniform(&codeword).then_some(columns.len())
+}
+
+/// What a locate that has only sums to go by does, as in slices: a uniform codeword is as good as any.
+pub fn locate_by_sums(job: &mut Job, declared: &Declared, frame: &[u16]) -> Answer {
+    locate(job, declared, frame, true)
+}
+
+fn locate(job: &mut Job, declared: &Declared, frame: &[u16], takes_uniform: bool) -> Answer {
+    let Some(shape) = shape_of(&job.head) else {
+        return Answer::refused(21);
+    };
+    let refusal = frame_refusal(&shape, declared, frame);
+    if refusal != 0 {
+        return Answer::refused(refusal);
+    }
+    job.head = job.head.reshaped();
+    let (taps, columns) = match candidate(&shape, declared, frame) {
+        Ok((_, _, codeword)) if !takes_uniform && is_uniform(&codeword) => {
+            return Answer::refused(26);
+        }
+        Ok((taps, columns, _)) => (taps, columns),
+        Err(number) => return Answer::refused(number),
+    };
+    job.declared = *declared;
+    job.sums = held_sums(&shape, &as_read(&shape, declared, frame));
+    job.taps = [0; 65];
+    for (entry, tap) in job.taps.iter_mut().zip(taps) {
+        *entry = tap as u16;
+    }
+    let c = columns.len();
+    let tried = tried(shape.columns, c, &columns);
+    job.head.located(c, tried, marks_of(&columns))
+}
+
 impl Calls for Independent {
     fn find(&self, p: u32, lengths: &[u16], symbols: &[u16], taps: &mut [u16]) -> Register {
         let refusal = find_refusal(p, lengths, symbols, taps.len());
@@ -242,46 +311,16 @@ impl Calls for Independent {
         if (0..frame.len()).filter(is_data).any(|k| frame[k] >= 257) {
             return 4;
         }
-        for (row, &checks) in frame.chunks_mut(shape.columns).zip(&shape.checks) {
-            let columns: Vec<usize> = (0..usize::from(checks)).collect();
-            let exponents = shape.exponents(columns.len());
-            let legal =
-                frames::completed(row, &columns, exponents).expect("as many sums as columns");
-            row.copy_from_slice(&legal);
+        let codeword = encoded(&shape, frame);
+        if is_uniform(&codeword) {
+            return 34;
         }
+        frame.copy_from_slice(&codeword);
         0
     }
 
     fn locate(&self, job: &mut Job, declared: &Declared, frame: &[u16]) -> Answer {
-        let Some(shape) = shape_of(&job.head) else {
-            return Answer::refused(21);
-        };
-        let refusal = frame_refusal(&shape, declared, frame);
-        if refusal != 0 {
-            return Answer::refused(refusal);
-        }
-        job.head = job.head.reshaped();
-        let Some(taps) = register_of(&shape, declared, frame) else {
-            return Answer::refused(24);
-        };
-        let c = taps.len() - 1;
-        if c > shape.least_left(declared) {
-            return Answer::refused(25);
-        }
-        let columns = named(shape.columns, &taps);
-        if columns.len() != c
-            || frames::legal_at_columns(&shape, declared, frame, &columns).is_none()
-        {
-            return Answer::refused(26);
-        }
-        job.declared = *declared;
-        job.sums = held_sums(&shape, &as_read(&shape, declared, frame));
-        job.taps = [0; 65];
-        for (entry, tap) in job.taps.iter_mut().zip(taps) {
-            *entry = tap as u16;
-        }
-        let tried = tried(shape.columns, c, &columns);
-        job.head.located(c, tried, marks_of(&columns))
+        locate(job, declared, frame, false)
     }
 
     fn repair(&self, job: &mut Job, frame: &mut [u16]) -> Answer {
@@ -307,8 +346,12 @@ impl Calls for Independent {
         if held_sums(&shape, &as_read(&shape, declared, frame)) != job.sums {
             return Answer::refused(23);
         }
-        frame.copy_from_slice(&mended(&shape, declared, frame, &columns_of(&marks)));
+        let mended = mended(&shape, declared, frame, &columns_of(&marks));
         job.head = job.head.reshaped();
+        if is_uniform(&mended) {
+            return Answer::refused(26);
+        }
+        frame.copy_from_slice(&mended);
         Answer {
             refusal: 0,
             unfinished: 0,

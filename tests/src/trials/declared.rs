@@ -5,14 +5,14 @@
 use common::interface::{Declared, Job, NOTHING};
 use common::random::Random;
 
-use crate::independent::enumeration::{Alike, LegalRows};
+use crate::independent::enumeration::{Alike, CodewordRows};
 use crate::independent::frames::{Shape, declaring, differing, is_legal, marks_of};
-use crate::independent::register_of;
+use crate::independent::{encoded, register_of, uniform_at};
 use crate::judge::{FILLED, Judge};
 use crate::trials::frames::mend;
 use crate::trials::{
-    EXPONENTS, bad_cells, damaged, malformed, refilled, shaped, some_cells, some_exponent,
-    some_legal_frame, some_shape,
+    EXPONENTS, bad_cells, constant, damaged, malformed, plus, refilled, shaped, some_cells,
+    some_codeword, some_exponent, some_legal_frame, some_shape,
 };
 
 pub fn run(judge: &mut Judge) {
@@ -63,24 +63,42 @@ fn smallest(judge: &mut Judge, exponent: u32) {
         exponent,
     };
     let declared = declaring(&[vec![], vec![0]]);
+    let legal = encoded(&shape, &[0, 0, 1, 0, 0, 2]);
     for lost in [0, 1, 256, 257, 65535] {
-        let mut answer = |declared: &Declared, frame: [u16; 6]| {
+        let mut answer = |declared: &Declared, frame: &[u16]| {
             let mut job = shaped(&shape);
-            let located = judge.locate(&mut job, declared, &frame);
-            let (repaired, left) = judge.repair(&mut job, &frame);
+            let located = judge.locate(&mut job, declared, frame);
+            let (repaired, left) = judge.repair(&mut job, frame);
             let marks = located.marks[0];
             (located.refusal, marks, repaired.refusal, left)
         };
-        let refused = answer(&declared, [1, 0, 0, lost, 1, 0]);
-        let mended = answer(&declared, [1, 0, 0, lost, 0, 0]);
-        let [several, bad] = [0, lost].map(|cell| answer(&NOTHING, [1, 0, 0, cell, 1, 0]).0);
+        let with = |cell: u16, damage: [u16; 6]| {
+            let mut frame = plus(&legal, &damage);
+            frame[3] = cell;
+            frame
+        };
+        let received = with(lost, [1, 0, 0, 0, 1, 0]);
+        let refused = answer(&declared, &received);
+        let mended = answer(&declared, &with(lost, [1, 0, 0, 0, 0, 0]));
+        let dead = answer(&declared, &[1, 0, 0, lost, 0, 0]);
+        let [several, bad] = [legal[3], lost].map(|cell| {
+            let frame = with(cell, [1, 0, 0, 0, 1, 0]);
+            answer(&NOTHING, &frame).0
+        });
         judge.compare(
             "the smallest refusal of a completion",
             &lost,
-            (26, 0, 22, vec![1, 0, 0, lost, 1, 0]),
+            (26, 0, 22, received),
             refused,
         );
-        judge.compare("the frame beside it", &lost, (0, 1, 0, vec![0; 6]), mended);
+        judge.compare(
+            "the frame beside it",
+            &lost,
+            (0, 1, 0, legal.clone()),
+            mended,
+        );
+        let zeros = (26, 0, 22, vec![1, 0, 0, lost, 0, 0]);
+        judge.compare("the same damage to zeros", &lost, zeros, dead);
         judge.compare("nothing declared", &lost, 24, several);
         judge.compare("a lost cell not declared", &lost, lost > 256, bad == 4);
     }
@@ -95,9 +113,12 @@ fn order(judge: &mut Judge) {
     };
     let declared = declaring(&[vec![1, 4], vec![]]);
     let bad = declaring(&[vec![1, 2, 4], vec![]]);
-    let lost = [0, 65535, 0, 0, 257, 0, 0, 0, 0, 0];
-    let mut symbol = lost;
+    let mut lost = encoded(&shape, &[0, 0, 0, 1, 0, 0, 0, 0, 0, 0]);
+    (lost[1], lost[4]) = (65535, 257);
+    let mut symbol = lost.clone();
     symbol[6] = 257;
+    let mut dead = constant(&shape, 0);
+    (dead[1], dead[4]) = (65535, 257);
     let shaped = shaped(&shape);
     let mut refusal = |number: u32, job: Job, declared: &Declared, frame: &[u16]| {
         let answer = judge.locate(&mut { job }, declared, frame);
@@ -112,6 +133,7 @@ fn order(judge: &mut Judge) {
     refusal(7, shaped, &bad, &symbol[..9]);
     refusal(31, shaped, &bad, &symbol);
     refusal(4, shaped, &declared, &symbol);
+    refusal(26, shaped, &declared, &dead);
     refusal(0, shaped, &declared, &lost);
 }
 
@@ -122,7 +144,9 @@ fn every_mark(judge: &mut Judge) {
         checks: vec![2, 1, 5],
         exponent: 255,
     };
-    let sent = vec![0; shape.size()];
+    let mut data = constant(&shape, 0);
+    data[65] = 1;
+    let sent = encoded(&shape, &data);
     for k in 0..2048 {
         let mut declared = NOTHING;
         declared[k / 64] = 1 << (k % 64);
@@ -216,12 +240,13 @@ fn all_checks(judge: &mut Judge, random: &mut Random, shape: &Shape) {
     );
     let altered = damaged(random, shape, &sent, 1);
     let received = refilled(random, shape, &declared, &altered);
+    let is_dead = uniform_at(shape, &declared, &received).is_some();
     let (answer, mended) = mend(judge, &job, shape, &declared, &received);
     let is_legal = is_legal(shape, &mended);
     judge.compare(
-        "any cells are data",
+        "any cells are data, but for a dead line",
         &inputs,
-        (0, 0, true),
+        (if is_dead { 22 } else { 0 }, 0, !is_dead),
         (answer.refusal, answer.count, is_legal),
     );
     let h = random.below(rows.len());
@@ -279,7 +304,7 @@ fn other_cells(judge: &mut Judge, random: &mut Random, shape: &Shape) {
         (0, 0, &sent),
         (second, answer.refusal, &mended),
     );
-    judge.expect("the other frame", &inputs, [0, 4, 23].contains(&other));
+    judge.expect("the other frame", &inputs, [0, 4, 23, 26].contains(&other));
     let mut job = first;
     let altered = random.symbols(257, shape.size());
     let refusal = judge.locate(&mut job, &cells[1], &altered).refusal;
@@ -333,7 +358,7 @@ fn marked_and_declared(judge: &mut Judge, random: &mut Random) {
 
 /// Frames so small that all legal ones can be listed.
 fn enumerated(judge: &mut Judge, random: &mut Random) {
-    let mut rows = LegalRows::default();
+    let mut rows = CodewordRows::default();
     let mut lengths = [0; 2];
     for _ in 0..1_500 {
         let columns = random.pick(&[2, 3, 3, 4, 4, 4]);
@@ -347,7 +372,7 @@ fn enumerated(judge: &mut Judge, random: &mut Random) {
             exponent: random.pick(&EXPONENTS),
         };
         let declared = some_cells(random, &shape);
-        let sent = some_legal_frame(random, &shape);
+        let sent = some_codeword(random, &shape, &declared);
         let count = random.below(columns);
         let received = damaged(random, &shape, &sent, count);
         let received = refilled(random, &shape, &declared, &received);
@@ -363,7 +388,7 @@ fn enumerated(judge: &mut Judge, random: &mut Random) {
 /// frame lies at its length, which is answered, and repair leaves the only nearest one.
 fn listed(
     judge: &mut Judge,
-    rows: &mut LegalRows,
+    rows: &mut CodewordRows,
     shape: &Shape,
     declared: &Declared,
     received: &[u16],

@@ -15,7 +15,8 @@ use crate::judge::{FILLED, Judge, Lent, settled};
 use crate::trials::forged::forge;
 use crate::trials::slices::forge_arrays;
 use crate::trials::{
-    bad_cells, damaged, malformed, refilled, some_cells, some_legal_frame, some_shape,
+    bad_cells, damaged, malformed, refilled, some_cells, some_codeword, some_encode,
+    some_legal_frame, some_shape,
 };
 
 #[derive(Clone, Debug)]
@@ -366,7 +367,7 @@ impl<'a, 'b> Trial<'a, 'b> {
 
     fn some_encode(&mut self, k: usize) -> Event {
         let shape = self.shape_of(k);
-        let mut frame = self.random.symbols(257, shape.size());
+        let mut frame = some_encode(self.random, &shape);
         if self.random.once_in(3) {
             frame = malformed(self.random, &shape, &frame);
         }
@@ -376,8 +377,8 @@ impl<'a, 'b> Trial<'a, 'b> {
     /// A damaged frame with declared cells, for a locate or a start; now and then one that is refused.
     fn some_frame(&mut self, k: usize, call: Call) -> Event {
         let shape = self.shape_of(k);
-        let sent = some_legal_frame(self.random, &shape);
         let mut declared = some_cells(self.random, &shape);
+        let sent = some_codeword(self.random, &shape, &declared);
         let left = shape.least_left(&declared);
         let count = self.random.below(shape.columns.min(left + 1) + 1);
         let mut frame = damaged(self.random, &shape, &sent, count);
@@ -390,13 +391,13 @@ impl<'a, 'b> Trial<'a, 'b> {
         Event::new(call, declared, frame)
     }
 
-    /// The frame last lent, the same with a cell altered, or one that is malformed; any legal frame where the
+    /// The frame last lent, the same with a cell altered, or one that is malformed; any codeword where the
     /// last one was of another size.
     fn some_repair(&mut self, k: usize) -> Event {
         let shape = self.shape_of(k);
         let mut frame = match &self.lent[k] {
             Some(lent) if lent.frame.len() == shape.size() => lent.frame.clone(),
-            _ => some_legal_frame(self.random, &shape),
+            _ => some_codeword(self.random, &shape, &NOTHING),
         };
         match self.random.below(8) {
             0 => frame = malformed(self.random, &shape, &frame),

@@ -35,12 +35,29 @@ struct Located {
     marks: Marks,
 }
 
-const FRAMES: [Frame; 10] = [
+const FRAMES: [Frame; 18] = [
+    // Mended it would be zeros; and the same damage to a legal frame, whose rows are polynomials with the
+    // roots 3, 9, 27 and 3, 9.
     Frame {
         columns: 4,
         checks: &[3, 2],
         exponent: 1,
         cells: &[(2, 5), (6, 7)],
+        located: Err(26),
+    },
+    Frame {
+        columns: 4,
+        checks: &[3, 2],
+        exponent: 1,
+        cells: &[
+            (0, 42),
+            (1, 94),
+            (2, 223),
+            (3, 1),
+            (4, 27),
+            (5, 245),
+            (6, 8),
+        ],
         located: Ok(Located {
             sums: &[45, 148, 47, 63, 53],
             tried: 3,
@@ -74,6 +91,13 @@ const FRAMES: [Frame; 10] = [
         checks: &[2],
         exponent: 1,
         cells: &[(255, 1)],
+        located: Err(26),
+    },
+    Frame {
+        columns: 256,
+        checks: &[2],
+        exponent: 1,
+        cells: &[(0, 27), (1, 245), (2, 1), (255, 1)],
         located: Ok(Located {
             sums: &[86, 200],
             tried: 256,
@@ -86,7 +110,15 @@ const FRAMES: [Frame; 10] = [
         columns: 4,
         checks: &[3, 2],
         exponent: 0,
-        cells: &[(2, 5), (6, 7)],
+        cells: &[
+            (0, 230),
+            (1, 39),
+            (2, 249),
+            (3, 1),
+            (4, 3),
+            (5, 253),
+            (6, 8),
+        ],
         located: Ok(Located {
             sums: &[5, 45, 148, 7, 63],
             tried: 3,
@@ -97,7 +129,7 @@ const FRAMES: [Frame; 10] = [
         columns: 4,
         checks: &[3, 2],
         exponent: 128,
-        cells: &[(1, 1), (5, 2)],
+        cells: &[(0, 27), (1, 40), (2, 13), (3, 1), (4, 3), (5, 6), (6, 1)],
         located: Ok(Located {
             sums: &[256, 254, 248, 255, 251],
             tried: 2,
@@ -108,7 +140,15 @@ const FRAMES: [Frame; 10] = [
         columns: 4,
         checks: &[3, 2],
         exponent: 255,
-        cells: &[(2, 9), (6, 18)],
+        cells: &[
+            (0, 256),
+            (1, 90),
+            (2, 176),
+            (3, 1),
+            (4, 86),
+            (5, 170),
+            (6, 19),
+        ],
         located: Ok(Located {
             sums: &[1, 9, 81, 2, 18],
             tried: 3,
@@ -130,6 +170,91 @@ const FRAMES: [Frame; 10] = [
         exponent: 0,
         cells: &[(0, 245), (1, 1), (2, 1)],
         located: Err(24),
+    },
+    // Dead lines: 3^64 is a fourth root of 1, and its powers add up to 0. In the third frame rows differ.
+    Frame {
+        columns: 4,
+        checks: &[1, 1],
+        exponent: 64,
+        cells: &[],
+        located: Err(26),
+    },
+    Frame {
+        columns: 4,
+        checks: &[1, 1],
+        exponent: 64,
+        cells: &[
+            (0, 5),
+            (1, 5),
+            (2, 5),
+            (3, 5),
+            (4, 5),
+            (5, 5),
+            (6, 5),
+            (7, 5),
+        ],
+        located: Err(26),
+    },
+    Frame {
+        columns: 4,
+        checks: &[1, 1],
+        exponent: 64,
+        cells: &[
+            (0, 5),
+            (1, 5),
+            (2, 5),
+            (3, 5),
+            (4, 6),
+            (5, 6),
+            (6, 6),
+            (7, 6),
+        ],
+        located: Ok(Located {
+            sums: &[0, 0],
+            tried: 0,
+            marks: [0; 4],
+        }),
+    },
+    // No codeword for the exponent 1, nor for 63.
+    Frame {
+        columns: 4,
+        checks: &[1, 1],
+        exponent: 1,
+        cells: &[
+            (0, 5),
+            (1, 5),
+            (2, 5),
+            (3, 5),
+            (4, 5),
+            (5, 5),
+            (6, 5),
+            (7, 5),
+        ],
+        located: Err(24),
+    },
+    Frame {
+        columns: 4,
+        checks: &[1, 1],
+        exponent: 63,
+        cells: &[
+            (0, 5),
+            (1, 5),
+            (2, 5),
+            (3, 5),
+            (4, 5),
+            (5, 5),
+            (6, 5),
+            (7, 5),
+        ],
+        located: Err(24),
+    },
+    // Weights 1 and −1: every codeword is uniform.
+    Frame {
+        columns: 2,
+        checks: &[1],
+        exponent: 128,
+        cells: &[(0, 9), (1, 9)],
+        located: Err(26),
     },
 ];
 

@@ -6,9 +6,11 @@ use common::interface::{Answer, Declared, Job, NOTHING};
 use common::random::Random;
 
 use crate::independent::frames::{Shape, as_read, declaring, is_legal, marks_of, weights};
+use crate::independent::uniform_at;
 use crate::judge::Judge;
 use crate::trials::{
-    EXPONENTS, damaged, refilled, shaped, some_cells, some_legal_frame, some_shape,
+    EXPONENTS, damaged, is_barren, refilled, shaped, some_cells, some_data, some_legal_frame,
+    some_shape,
 };
 
 pub fn run(judge: &mut Judge) {
@@ -22,7 +24,7 @@ pub fn run(judge: &mut Judge) {
         }
     }
     for exponent in (0..256).cycle().take(6 * 256) {
-        let shape = at(exponent, &some_shape(&mut random, 12));
+        let shape = some_shape_at(&mut random, exponent);
         rescaled(judge, &mut random, &shape);
     }
     illegal_elsewhere(judge, &mut random);
@@ -38,6 +40,16 @@ fn at(exponent: u32, shape: &Shape) -> Shape {
     Shape {
         exponent,
         ..shape.clone()
+    }
+}
+
+/// A shape with this exponent that has legal frames.
+fn some_shape_at(random: &mut Random, exponent: u32) -> Shape {
+    loop {
+        let shape = at(exponent, &some_shape(random, 12));
+        if !is_barren(&shape) {
+            return shape;
+        }
     }
 }
 
@@ -134,7 +146,7 @@ fn largest(judge: &mut Judge, random: &mut Random, exponent: u32, lost: usize) {
 }
 
 /// A frame and the same rescaled to the exponent 1, the symbols at column i times 3^(i·(b − 1)): the check
-/// sums are the same, and so is all that is made of them.
+/// sums are the same, and so is all that is made of them. Only whether the mended frame is uniform is not.
 fn rescaled(judge: &mut Judge, random: &mut Random, shape: &Shape) {
     let weights = weights(shape.columns, (shape.exponent as usize + 255) % 256);
     let to_one = |frame: &[u16]| {
@@ -157,6 +169,9 @@ fn rescaled(judge: &mut Judge, random: &mut Random, shape: &Shape) {
     };
     let (located, mended) = mend(shape, &received);
     let (expected, other) = mend(&at(1, shape), &to_one(&received));
+    if uniform_at(shape, &declared, &received).is_some() {
+        return;
+    }
     let inputs = (shape, declared, received);
     judge.compare("what is located", &inputs, expected, located);
     judge.compare("what is mended", &inputs, other, to_one(&mended));
@@ -167,9 +182,9 @@ fn rescaled(judge: &mut Judge, random: &mut Random, shape: &Shape) {
 fn illegal_elsewhere(judge: &mut Judge, random: &mut Random) {
     let mut illegal = 0;
     for (one, other) in pairs().repeat(20) {
-        let shape = at(one, &some_shape(random, 12));
+        let shape = some_shape_at(random, one);
         let elsewhere = at(other, &shape);
-        let data = random.symbols(257, shape.size());
+        let data = some_data(random, &shape);
         let (_, frame) = judge.encode(&shaped(&shape), &data);
         let located = judge.locate(&mut shaped(&elsewhere), &NOTHING, &frame);
         let is_legal = is_legal(&elsewhere, &frame);

@@ -37,7 +37,7 @@ pub fn run(judge: &mut Judge) {
 
 /// A located job with another sum, which need not be below 257, has sums that differ. With other
 /// taps it is mended as before. With cells that cannot be declared it is shaped. None of these is
-/// read by the other calls.
+/// read by the other calls, which answer as they do for the job itself.
 fn other_arrays(
     judge: &mut Judge,
     random: &mut Random,
@@ -55,6 +55,7 @@ fn other_arrays(
     celled.declared = bad_cells(random, shape);
     let declared = &located.declared;
     let data = as_read(shape, declared, received);
+    let (untouched, _) = judge.encode(located, &data);
     for (job, number) in [(summed, 23), (tapped, 0), (celled, 22)] {
         let (encoded, _) = judge.encode(&job, &data);
         let located = judge.locate(&mut { job }, declared, received).refusal;
@@ -62,7 +63,7 @@ fn other_arrays(
         judge.compare(
             "the refusals of other arrays",
             &(job, received),
-            [0, 0, number],
+            [untouched, 0, number],
             [encoded, located, repaired],
         );
     }

@@ -7,7 +7,9 @@ use common::random::Random;
 use crate::independent::frames::{Shape, differing, is_legal, legal_at};
 use crate::independent::register_of;
 use crate::judge::{FILLED, Judge};
-use crate::trials::{EXPONENTS, damaged, malformed, shaped, some_legal_frame, some_shape};
+use crate::trials::{
+    EXPONENTS, damaged, malformed, shaped, some_data, some_legal_frame, some_shape,
+};
 
 pub fn run(judge: &mut Judge) {
     let mut random = Random::new(3);
@@ -39,7 +41,7 @@ pub fn run(judge: &mut Judge) {
 
 fn frames(judge: &mut Judge, random: &mut Random, shape: &Shape) {
     let job = shaped(shape);
-    let data = random.symbols(257, shape.size());
+    let data = some_data(random, shape);
     let (_, sent) = judge.encode(&job, &junk_checks(random, shape, &data));
     judge.expect(
         "encode leaves a legal frame",

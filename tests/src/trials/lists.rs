@@ -1,17 +1,28 @@
 //! Demand 3 on random lists of calls, each on the job that the call before it left. What is
 //! promised is checked from the calls alone; nothing here reads a job.
 
-use common::interface::{Declared, Job};
+use common::interface::{Declared, Job, NOTHING};
 use common::random::Random;
 
-use crate::independent::frame_refusal;
-use crate::independent::frames::{
-    Shape, as_read, cells_of, completed, differing, is_legal, marks_of,
-};
-use crate::judge::Judge;
+use crate::independent::frames::{Shape, as_read, differing, is_legal, is_uniform, marks_of};
+use crate::independent::{frame_refusal, uniform_at};
+use crate::judge::{Judge, Tally};
 use crate::trials::{
-    bad_cells, damaged, frames, malformed, refilled, some_cells, some_legal_frame, some_shape,
+    bad_cells, codeword_beside, damaged, frames, malformed, minus, plus, refilled, some_cells,
+    some_codeword, some_encode, some_shape, some_uniform_codeword,
 };
+
+/// What uniform codewords bring about in these lists.
+const DEAD_LINES: [&str; 8] = [
+    "encode 34, of zeros",
+    "encode 34, of another symbol",
+    "locate 26, a uniform frame as it is",
+    "locate 26, a uniform frame of another symbol than 0",
+    "locate 26, a uniform frame with damage",
+    "locate 26, a uniform frame with lost cells",
+    "repair 26, a frame with the sums of another",
+    "repair 23, a frame close to uniform",
+];
 
 /// A located frame that nothing but encodes and refused calls followed, its declared cells, and the
 /// frame that was sent where so few columns were damaged that it must come back.
@@ -28,10 +39,12 @@ struct List<'a, 'b> {
     /// That of the last shape call not refused.
     shape: Option<Shape>,
     pending: Option<Pending>,
+    tally: &'a mut Tally,
 }
 
 pub fn run(judge: &mut Judge) {
     let mut random = Random::new(5);
+    let mut tally = Tally::of(&DEAD_LINES);
     for _ in 0..700 {
         let job = judge.empty();
         let mut list = List {
@@ -40,11 +53,13 @@ pub fn run(judge: &mut Judge) {
             job,
             shape: None,
             pending: None,
+            tally: &mut tally,
         };
         for _ in 0..40 {
             list.call();
         }
     }
+    tally.finish(judge);
 }
 
 impl List<'_, '_> {
@@ -93,7 +108,7 @@ impl List<'_, '_> {
 
     fn encode(&mut self) {
         let shape = self.shape_in_force();
-        let mut frame = self.random.symbols(257, shape.size());
+        let mut frame = some_encode(self.random, &shape);
         if self.random.once_in(3) {
             frame = malformed(self.random, &shape, &frame);
         }
@@ -105,12 +120,17 @@ impl List<'_, '_> {
                 is_legal(&shape, &left),
             );
         }
+        if refusal == 34 {
+            let is_zero = frame[shape.size() - 1] == 0;
+            self.tally.count("encode 34, of zeros", is_zero);
+            self.tally.count("encode 34, of another symbol", !is_zero);
+        }
     }
 
     fn locate(&mut self) {
         let shape = self.shape_in_force();
-        let sent = some_legal_frame(self.random, &shape);
         let mut declared = some_cells(self.random, &shape);
+        let sent = some_codeword(self.random, &shape, &declared);
         let left = shape.least_left(&declared);
         let count = self.random.below(shape.columns.min(left + 1) + 1);
         let mut received = damaged(self.random, &shape, &sent, count);
@@ -126,11 +146,14 @@ impl List<'_, '_> {
             && 2 * differing(&shape, &declared, &sent, &received).len() <= left;
         if self.shape.is_some() && within {
             self.judge.compare(
-                "damage within half the checks left is located",
+                "damage within half the checks left is located, but for a dead line",
                 &(&shape, &declared, &received),
-                0,
+                if is_uniform(&sent) { 26 } else { 0 },
                 answer.refusal,
             );
+        }
+        if answer.refusal == 26 {
+            self.count_dead(&shape, &declared, &received);
         }
         match answer.refusal {
             0 => {
@@ -145,25 +168,21 @@ impl List<'_, '_> {
         }
     }
 
-    /// A legal frame with 0 in the declared cells: some other cells of each row, as many as it has
-    /// checks, are made to fit the rest. Where there are no more such cells all is 0.
-    fn legal_beside(&mut self, shape: &Shape, declared: &Declared) -> Vec<u16> {
-        let mut frame = self.random.symbols(257, shape.size());
-        frame = as_read(shape, declared, &frame);
-        for (h, row) in frame.chunks_mut(shape.columns).enumerate() {
-            let cells = cells_of(declared, h);
-            let others: Vec<usize> = (0..row.len()).filter(|i| !cells.contains(i)).collect();
-            let checks = usize::from(shape.checks[h]);
-            if others.len() <= checks {
-                row.fill(0);
-                continue;
-            }
-            let places = self.random.subset(others.len(), checks);
-            let places: Vec<usize> = places.iter().map(|&place| others[place]).collect();
-            let legal = completed(row, &places, shape.exponents(checks));
-            row.copy_from_slice(&legal.expect("as many sums as columns"));
-        }
-        frame
+    /// What of a frame refused by 26 comes of a uniform codeword.
+    fn count_dead(&mut self, shape: &Shape, declared: &Declared, received: &[u16]) {
+        let Some(distance) = uniform_at(shape, declared, received) else {
+            return;
+        };
+        let mut count = |what: &str, came: bool| {
+            let name = format!("locate 26, a uniform frame {what}");
+            self.tally.count(&name, came);
+        };
+        count("as it is", is_uniform(received));
+        let is_other = is_uniform(received) && received[0] != 0;
+        count("of another symbol than 0", is_other);
+        count("with damage", distance > 0);
+        let is_lost = distance == 0 && !is_uniform(received);
+        count("with lost cells", is_lost);
     }
 
     /// The located frame, with anything in its declared cells; another with the same sums; one with
@@ -176,29 +195,26 @@ impl List<'_, '_> {
             sent,
         }) = &self.pending
         else {
-            let frame = some_legal_frame(self.random, &shape);
+            let frame = some_codeword(self.random, &shape, &NOTHING);
             self.mend(&shape, &frame, None);
             return;
         };
         let (declared, sent) = (*declared, sent.clone());
         let received = refilled(self.random, &shape, &declared, received);
-        let add = |frame: &[u16], other: &[u16]| {
-            frame
-                .iter()
-                .zip(other)
-                .map(|(x, y)| (x + y) % 257)
-                .collect::<Vec<_>>()
-        };
-        match self.random.below(4) {
-            0 => self.mend(&shape, &received, sent),
-            1 => {
-                let other = self.legal_beside(&shape, &declared);
-                let frame = add(&as_read(&shape, &declared, &received), &other);
-                let frame = refilled(self.random, &shape, &declared, &frame);
-                self.mend(&shape, &frame, sent.map(|sent| add(&sent, &other)));
+        let read = as_read(&shape, &declared, &received);
+        match self.random.below(5) {
+            0 => {
+                let refusal = self.mend(&shape, &received, sent);
+                self.judge
+                    .compare("the located frame is mended", &shape, 0, refusal);
             }
-            2 => {
-                let read = as_read(&shape, &declared, &received);
+            1 => {
+                let other = codeword_beside(self.random, &shape, &declared);
+                let frame = refilled(self.random, &shape, &declared, &plus(&read, &other));
+                self.mend(&shape, &frame, sent.map(|sent| plus(&sent, &other)));
+            }
+            2 => self.mend_uniform(&shape, &declared, &read, sent),
+            3 => {
                 let altered = damaged(self.random, &shape, &read, 1);
                 self.mend(&shape, &altered, None);
             }
@@ -209,20 +225,59 @@ impl List<'_, '_> {
         }
     }
 
-    /// Lends a frame to repair, which must leave the given frame where there is one.
-    fn mend(&mut self, shape: &Shape, frame: &[u16], sent: Option<Vec<u16>>) {
+    /// The damage to what was sent, done to a uniform codeword: a frame with the sums of the one located
+    /// where the two codewords agree in the declared cells. The same with one column more altered.
+    fn mend_uniform(
+        &mut self,
+        shape: &Shape,
+        declared: &Declared,
+        read: &[u16],
+        sent: Option<Vec<u16>>,
+    ) {
+        let uniform = some_uniform_codeword(self.random, shape);
+        let Some(sent) = sent else {
+            self.mend(shape, &uniform, None);
+            return;
+        };
+        let damage = minus(read, &as_read(shape, declared, &sent));
+        let frame = plus(&as_read(shape, declared, &uniform), &damage);
+        let altered = damaged(self.random, shape, &frame, 1);
+        let refusal = self.mend(shape, &altered, None);
+        self.tally
+            .count("repair 23, a frame close to uniform", refusal == 23);
+        if refusal != 23 {
+            return;
+        }
+        let frame = refilled(self.random, shape, declared, &frame);
+        let other = minus(&uniform, &sent);
+        let fits = as_read(shape, declared, &other) == other;
+        let refusal = self.mend(shape, &frame, fits.then_some(uniform));
+        let name = "repair 26, a frame with the sums of another";
+        self.tally.count(name, refusal == 26);
+    }
+
+    /// Lends a frame to repair, which must leave the given codeword where there is one, but is refused by
+    /// 26 where that is uniform, after which the job is shaped. Answers the refusal.
+    fn mend(&mut self, shape: &Shape, frame: &[u16], sent: Option<Vec<u16>>) -> u32 {
         let (answer, left) = self.judge.repair(&mut self.job, frame);
         let inputs = (shape, frame);
         if let Some(sent) = sent {
-            self.judge.compare(
-                "the sent frame comes back",
-                &inputs,
-                (0, sent),
-                (answer.refusal, left.clone()),
-            );
+            let due = match is_uniform(&sent) {
+                true => (26, frame.to_vec()),
+                false => (0, sent),
+            };
+            let got = (answer.refusal, left.clone());
+            self.judge
+                .compare("the sent frame comes back", &inputs, due, got);
+        }
+        if answer.refusal == 26 {
+            self.pending = None;
+            let again = self.judge.repair(&mut self.job, frame).0.refusal;
+            self.judge
+                .compare("nothing is located after 26", &inputs, 22, again);
         }
         if answer.refusal != 0 {
-            return;
+            return answer.refusal;
         }
         self.judge.expect(
             "repair leaves a legal frame",
@@ -233,7 +288,7 @@ impl List<'_, '_> {
         let Some(Pending { declared, .. }) = pending else {
             self.judge
                 .expect("a repair goes back to a locate", &inputs, false);
-            return;
+            return 0;
         };
         let columns = differing(shape, &declared, frame, &left);
         self.judge.compare(
@@ -251,5 +306,6 @@ impl List<'_, '_> {
         if shape.columns <= 7 {
             frames::exhaustive(self.judge, shape, &declared, frame, &answer, &left);
         }
+        0
     }
 }

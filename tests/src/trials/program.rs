@@ -9,13 +9,14 @@ use std::process::{Child, Command, Stdio};
 use std::thread;
 use std::time::Duration;
 
+use common::interface::NOTHING;
 use common::random::Random;
 
 use crate::independent::frames::Shape;
 use crate::judge::Judge;
 use crate::records::lines;
 use crate::trials::vectors::VECTORS;
-use crate::trials::{damaged, malformed, some_legal_frame, some_shape};
+use crate::trials::{damaged, malformed, some_codeword, some_shape};
 
 /// The program, which is stopped after ten minutes.
 fn started(input: Stdio) -> Child {
@@ -137,7 +138,7 @@ fn some_frame(random: &mut Random) -> Vec<u8> {
         exponent: 1,
         ..some_shape(random, 30)
     };
-    let sent = some_legal_frame(random, &shape);
+    let sent = some_codeword(random, &shape, &NOTHING);
     let count = random.below(shape.least_checks() + 1);
     let mut frame = damaged(random, &shape, &sent, count.min(shape.columns));
     if random.once_in(4) {

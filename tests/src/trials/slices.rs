@@ -1,20 +1,28 @@
-//! Locating in slices against locating at once: how many steps there are, what each answers, what the
+//! Locating in slices against locating at once by sums alone: how many steps there are, what each answers, what the
 //! last one leaves, each peek against elimination; calls between steps that drop nothing, calls that
 //! drop the unfinished locate; frames with nothing to step; and jobs that no call left.
 
 use common::interface::{Answer, Declared, Head, Job, LOCATED, Peeked, SHAPED, Slices, UNFINISHED};
 use common::random::Random;
 
-use crate::independent::frames::{Shape, cells_of, declaring};
+use crate::independent::frames::{Shape, cells_of, declaring, is_uniform};
 use crate::independent::registers::shortest;
-use crate::independent::{Independent, frame_refusal, sequences};
-use crate::judge::{FILLED, Judge};
+use crate::independent::{Independent, frame_refusal, locate_by_sums, sequences, uniform_at};
+use crate::judge::{FILLED, Judge, Tally};
 use crate::trials::{
-    bad_cells, damaged, malformed, refilled, shaped, some_cells, some_legal_frame, some_shape,
+    bad_cells, damaged, malformed, refilled, shaped, some_cells, some_codeword, some_shape,
 };
 use common::interface::Calls;
 
-/// A frame that was lent to a start, and what locate would have done with it.
+/// What uniform codewords bring about after slices.
+const DEAD_LINES: [&str; 4] = [
+    "repair 26 after slices, a uniform frame as it is",
+    "repair 26 after slices, of another symbol than 0",
+    "repair 26 after slices, with damage",
+    "repair 26 after slices, with lost cells",
+];
+
+/// A frame that was lent to a start, and what a locate by its sums does with it.
 struct Started {
     declared: Declared,
     frame: Vec<u16>,
@@ -39,11 +47,13 @@ struct Slicer<'a, 'b> {
     random: &'a mut Random,
     shape: Shape,
     job: Job,
+    tally: &'a mut Tally,
 }
 
 pub fn run(judge: &mut Judge) {
     let Some(slices) = judge.slices() else { return };
     let mut random = Random::new(17);
+    let mut tally = Tally::of(&DEAD_LINES);
     for most in [vec![7; 1_200], vec![40; 60], vec![256; 6]].concat() {
         let shape = some_shape(&mut random, most);
         let job = shaped(&shape);
@@ -53,6 +63,7 @@ pub fn run(judge: &mut Judge) {
             random: &mut random,
             shape,
             job,
+            tally: &mut tally,
         };
         slicer.empty();
         slicer.whole();
@@ -60,6 +71,7 @@ pub fn run(judge: &mut Judge) {
         slicer.forged();
         slicer.forged_head();
     }
+    tally.finish(judge);
 }
 
 /// Anything in some place of the arrays of a locate in slices.
@@ -87,7 +99,6 @@ impl Slicer<'_, '_> {
     /// they have checks.
     fn some_frame(&mut self) -> (Declared, Vec<u16>) {
         let shape = &self.shape;
-        let sent = some_legal_frame(self.random, shape);
         let mut declared = some_cells(self.random, shape);
         if self.random.once_in(6) {
             let all = self.random.once_in(2);
@@ -106,6 +117,7 @@ impl Slicer<'_, '_> {
                     .collect::<Vec<_>>(),
             );
         }
+        let sent = some_codeword(self.random, shape, &declared);
         let left = shape.least_left(&declared);
         let count = self.random.below(shape.columns.min(left + 2) + 1);
         let frame = damaged(self.random, shape, &sent, count);
@@ -114,7 +126,7 @@ impl Slicer<'_, '_> {
 
     fn started(&self, declared: Declared, frame: Vec<u16>) -> Started {
         let mut left = self.job;
-        let answer = Independent.locate(&mut left, &declared, &frame);
+        let answer = locate_by_sums(&mut left, &declared, &frame);
         Started {
             sequences: sequences(&self.shape, &declared, &frame),
             declared,
@@ -252,7 +264,8 @@ impl Slicer<'_, '_> {
         self.ended(&started);
     }
 
-    /// What is left at the end is what locate leaves; no step comes after; a repair does the same.
+    /// What is left at the end is what locate by sums leaves; no step comes after; a repair does the same, and
+    /// is refused by 26 exactly where locate would have refused a uniform codeword.
     fn ended(&mut self, started: &Started) {
         let (job, left) = (self.job, started.left);
         self.expect("the head at the end", started, job.head == left.head);
@@ -267,6 +280,25 @@ impl Slicer<'_, '_> {
         let mut mended = started.frame.clone();
         let theirs = Independent.repair(&mut { left }, &mut mended);
         self.expect("the repair", started, (ours, frame) == (theirs, mended));
+        let uniform = uniform_at(&self.shape, &started.declared, &started.frame);
+        self.expect(
+            "26 after slices",
+            started,
+            uniform.is_some() == (ours.refusal == 26),
+        );
+        let Some(distance) = uniform else { return };
+        let again = self.judge.repair(&mut self.job, &started.frame).0.refusal;
+        self.expect("nothing is located after 26", started, again == 22);
+        let is_constant = is_uniform(&started.frame);
+        let mut count = |what: &str, came: bool| {
+            let name = format!("repair 26 after slices, {what}");
+            self.tally.count(&name, came);
+        };
+        count("a uniform frame as it is", is_constant);
+        let is_other = is_constant && started.frame[0] != 0;
+        count("of another symbol than 0", is_other);
+        count("with damage", distance > 0);
+        count("with lost cells", distance == 0 && !is_constant);
     }
 
     /// Some steps, then a call that drops the unfinished locate if it is not refused early.
