@@ -47,7 +47,7 @@ fn some_shape(random: &mut Random, most_columns: usize) -> Shape {
     loop {
         let any = any_shape(random, most_columns);
         let even = even_shape(random, most_columns);
-        let shape = if random.once_in(12) { even } else { any };
+        let shape = if random.once_in(6) { even } else { any };
         if !is_barren(&shape) {
             return shape;
         }

@@ -10,7 +10,8 @@ use crate::independent::registers::shortest;
 use crate::independent::{Independent, frame_refusal, locate_by_sums, sequences, uniform_at};
 use crate::judge::{FILLED, Judge, Tally};
 use crate::trials::{
-    bad_cells, damaged, malformed, refilled, shaped, some_cells, some_codeword, some_shape,
+    bad_cells, damaged, even_shape, malformed, refilled, shaped, some_cells, some_codeword,
+    some_shape,
 };
 use common::interface::Calls;
 
@@ -55,7 +56,10 @@ pub fn run(judge: &mut Judge) {
     let mut random = Random::new(17);
     let mut tally = Tally::of(&DEAD_LINES);
     for most in [vec![7; 1_200], vec![40; 60], vec![256; 6]].concat() {
-        let shape = some_shape(&mut random, most);
+        let shape = match random.once_in(4) {
+            true => even_shape(&mut random, most),
+            false => some_shape(&mut random, most),
+        };
         let job = shaped(&shape);
         let mut slicer = Slicer {
             judge,
@@ -119,7 +123,9 @@ impl Slicer<'_, '_> {
         }
         let sent = some_codeword(self.random, shape, &declared);
         let left = shape.least_left(&declared);
-        let count = self.random.below(shape.columns.min(left + 2) + 1);
+        let most = shape.columns.min(left + 2);
+        let any = self.random.below(most + 1);
+        let count = self.random.pick(&[0, any, any]);
         let frame = damaged(self.random, shape, &sent, count);
         (declared, refilled(self.random, shape, &declared, &frame))
     }
@@ -286,7 +292,9 @@ impl Slicer<'_, '_> {
             started,
             uniform.is_some() == (ours.refusal == 26),
         );
-        let Some(distance) = uniform else { return };
+        let (Some(distance), 26) = (uniform, ours.refusal) else {
+            return;
+        };
         let again = self.judge.repair(&mut self.job, &started.frame).0.refusal;
         self.expect("nothing is located after 26", started, again == 22);
         let is_constant = is_uniform(&started.frame);
