@@ -1,4 +1,4 @@
--- The check sums of row after row, and that a frame is legal where all that were written are 0.
+-- The check sums of row after row, and that a frame is a codeword where all that were written are 0.
 use mathlib.Core.Path.{_≡_, refl, sym, ap, subst, _∙_}
 use mathlib.Core.Bool.{Bool}
 use mathlib.Core.List.{List}
@@ -82,12 +82,12 @@ module _ (b columns : ℕ) (checks frame : List ℕ) where
   pub summed-all : (g n : ℕ) (old new : List ℕ) → Summed b columns checks frame g old new → g ≤ n → n ≤ g → Summed b columns checks frame n old new
   summed-all g n old new s le ge = subst (λ (k : ℕ). Summed b columns checks frame k old new) (let e : g ≡ n = omega arith in e) s
 
-  -- what `legal` tells
-  pub legal-told : (flag : Bool) (n : ℕ) (new : List ℕ) → Summed b columns checks frame n (replicate 512 0) new →
+  -- what `codeword` tells
+  pub codeword-told : (flag : Bool) (n : ℕ) (new : List ℕ) → Summed b columns checks frame n (replicate 512 0) new →
       Tells flag (Each 0 (length new) (λ i. getD new i 0 ≡ 0)) →
       Tells flag (Each 0 n (λ h. Each 0 (getD checks h 0) (λ j.
       sum h (λ i. getD checks i 0) + j < 512 → checkSum b (row frame columns h) (suc j) ≡ 0)))
-  legal-told flag n new s t = record {
+  codeword-told flag n new s t = record {
     yes = λ e h lh less j lj inside room.
         let size : length new ≡ 512 = s .size ∙ length-replicate {A = ℕ} 512 0 in
         let room' : sum h (λ i. getD checks i 0) + j < length (replicate {A = ℕ} 512 0) = rw (length-replicate {A = ℕ} 512 0) room in

@@ -81,7 +81,7 @@ fn all_zero(a: &[u16]) -> bool
 }
 
 // Every check sum of the frame is 0. There is room for 512 of them.
-pub fn legal(exponent: u32, columns: u16, checks: &[u16], frame: &[u16]) -> bool
+pub fn codeword(exponent: u32, columns: u16, checks: &[u16], frame: &[u16]) -> bool
     ensures { λ r. ⌜
         Tells r (Each 0 (length (now (checks .entry))) (λ h. Each 0 (getD (now (checks .entry)) h 0) (λ j.
         sum h (λ i. getD (now (checks .entry)) i 0) + j < 512 → checkSum exponent (row (now (frame .entry)) columns h) (suc j) ≡ 0)))

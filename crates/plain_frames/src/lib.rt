@@ -5,3 +5,4 @@ pub mod cells;
 pub mod compare;
 pub mod damage;
 pub mod frames;
+pub mod uniform;

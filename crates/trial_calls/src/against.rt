@@ -2,6 +2,7 @@
 use crate::model;
 use crate::model::LOCATED;
 use crate::model::Model;
+use crate::tallies::DEAD;
 use crate::tallies::ENCODED;
 use crate::tallies::FOUND;
 use crate::tallies::MENDED;
@@ -19,7 +20,7 @@ use plain_frames::compare::differ_in;
 use plain_frames::compare::same;
 use plain_frames::compare::same_columns;
 use plain_frames::compare::same_data;
-use plain_frames::frames::legal;
+use plain_frames::uniform::legal;
 use whole_job::Answered;
 use whole_job::Job;
 
@@ -205,6 +206,7 @@ pub(crate) fn repair(pair: Pair, frame: &mut [u16], counts: &mut [u64]) -> Pair 
     let answer = whole_job::repair(pair.job, frame);
     let reply = answer.reply;
     tally(of_reply(reply), MENDED, counts);
+    count(counts, DEAD, of_reply(reply) == 26);
     let right = answers(answer, due.number, model, held);
     let left = left_by_repair(held, due.number, part(&room, 0, frame.len()), frame);
     let job = answer.job;

@@ -18,6 +18,7 @@ use plain::values::minus;
 use plain::values::part;
 use plain::values::put;
 use plain::values::remainder;
+use plain::values::set;
 use plain_frames::damage::damage;
 
 enum Call {
@@ -101,26 +102,46 @@ fn strike(state: &mut u64, model: Model, most: u16, room: &mut [u16]) {
     damage(state, model.columns, model.rows as usize, w, room);
 }
 
+// One symbol, mostly 0, for a dead line.
+fn draw_dead(state: &mut u64) -> u16 {
+    match draw(state, 4) {
+        0 => draw(state, 257),
+        _ => 0,
+    }
+}
+
+// The frame is filled anew, or all with one symbol, or left.
+fn fill(state: &mut u64, k: u16, model: Model, room: &mut [u16]) {
+    match k {
+        0 => set(room, size(model), draw_dead(state)),
+        1 => fill_from(state, 0, 257, room, size(model)),
+        2 => fill_from(state, 0, 257, room, size(model)),
+        3 => fill_from(state, 0, 257, room, size(model)),
+        _ => {}
+    }
+}
+
+// The frame is damaged, or all of one symbol, or left.
+fn spare(state: &mut u64, k: u16, model: Model, room: &mut [u16]) {
+    match k {
+        0 => strike(state, model, 1, room),
+        1 => set(room, size(model), draw_dead(state)),
+        _ => {}
+    }
+}
+
 // Before a frame is encoded it is often filled anew, before it is searched damaged, and before it is mended seldom.
 fn prepare(state: &mut u64, call: Call, model: Model, room: &mut [u16]) {
     let k = draw(state, 6);
     match call {
         Call::Shape => {}
-        Call::Encode => {
-            if k < 3 {
-                fill_from(state, 0, 257, room, size(model));
-            }
-        }
+        Call::Encode => fill(state, k, model, room),
         Call::Locate => {
             if k < 5 {
                 strike(state, model, 3, room);
             }
         }
-        Call::Repair => {
-            if k < 1 {
-                strike(state, model, 1, room);
-            }
-        }
+        Call::Repair => spare(state, k, model, room),
     }
 }
 

@@ -1,11 +1,14 @@
 // Calls on a job in each of its states at the edges (SPECIFICATION.md, "Examples"): what is just taken and what is just refused, which of two reasons comes
-// first, and the state that is left. Frames have n symbols, the first k of which are v, and the others 0.
+// first, and the state that is left. Frames have n symbols, the first k of which are v, and the others 0: to encode, or as a dead line and damage to it. Else
+// they are damage to a legal frame: v is added to its first k symbols, or put there where it is above 256.
 use crate::tallies::EDGES;
 use plain::tally::count;
 use plain::tally::print_list;
 use plain::values::first;
+use plain::values::get;
 use plain::values::minus;
 use plain::values::part;
+use plain::values::plus_product;
 use plain::values::put;
 use plain::values::set;
 use plain_frames::answers::of_checked;
@@ -63,9 +66,45 @@ fn shaped() -> Job {
     shape(whole_job::empty(), 4, 3, 2, 1)
 }
 
-fn locate(job: Job, n: usize, v: u16, k: usize) -> Job {
+// A legal frame of the job. It has 8, 12 or 4 symbols, and an encode of another size is refused.
+fn sent(job: Job) -> [u16; 16] {
+    let mut room = [0u16; 16];
+    put(&mut room, 3, 1);
+    put(&mut room, 5, 1);
+    whole_job::encode(job, first(&mut room, 8));
+    whole_job::encode(job, first(&mut room, 12));
+    whole_job::encode(job, first(&mut room, 4));
+    room
+}
+
+fn struck(symbol: u16, v: u16) -> u16 {
+    if v > 256 {
+        return v;
+    }
+    plus_product(257, symbol, v, 1)
+}
+
+fn strike(room: &mut [u16], v: u16, k: usize) {
+    for i in 0..k {
+        let symbol = struck(get(room, i), v);
+        put(room, i, symbol);
+    }
+}
+
+fn received(job: Job, v: u16, k: usize) -> [u16; 16] {
+    let mut room = sent(job);
+    strike(&mut room, v, k);
+    room
+}
+
+fn dead(v: u16, k: usize) -> [u16; 16] {
     let mut room = [0u16; 16];
     set(&mut room, k, v);
+    room
+}
+
+fn locate(job: Job, n: usize, v: u16, k: usize) -> Job {
+    let room = received(job, v, k);
     let none = [0u64; 32];
     whole_job::locate(job, &none, part(&room, 0, n)).job
 }
@@ -75,18 +114,30 @@ fn located() -> Job {
 }
 
 fn mend(job: Job, n: usize, v: u16, k: usize) -> Job {
-    let mut room = [0u16; 16];
-    set(&mut room, k, v);
+    let mut room = received(job, v, k);
     whole_job::repair(job, first(&mut room, n)).job
 }
 
-fn locates(job: Job, n: usize, v: u16, k: usize) -> u32 {
-    let mut room = [0u16; 16];
-    set(&mut room, k, v);
+fn mend_dead(job: Job, n: usize, v: u16, k: usize) -> Job {
+    let mut room = dead(v, k);
+    whole_job::repair(job, first(&mut room, n)).job
+}
+
+fn number_of(job: Job, frame: &[u16]) -> u32 {
     let none = [0u64; 32];
-    let answer = whole_job::locate(job, &none, part(&room, 0, n));
+    let answer = whole_job::locate(job, &none, frame);
     let reply = answer.reply;
     of_reply(reply)
+}
+
+fn locates(job: Job, n: usize, v: u16, k: usize) -> u32 {
+    let room = received(job, v, k);
+    number_of(job, part(&room, 0, n))
+}
+
+fn locates_dead(job: Job, n: usize, v: u16, k: usize) -> u32 {
+    let room = dead(v, k);
+    number_of(job, part(&room, 0, n))
 }
 
 // A refused call must leave the frame, or the answer is 100.
@@ -104,27 +155,33 @@ fn encodes(job: Job, n: usize, v: u16, k: usize) -> u32 {
     number
 }
 
-// What the damaged symbols must be after a repair.
-fn left(number: u32, v: u16) -> u16 {
+// What must stand in the room after a repair.
+fn left(number: u32, job: Job, lent: [u16; 16]) -> [u16; 16] {
     if number == 0 {
-        return 0;
+        return sent(job);
     }
-    v
+    lent
 }
 
-// The same for repair; a frame that is mended must be all 0.
-fn repairs(job: Job, n: usize, v: u16, k: usize) -> u32 {
-    let mut room = [0u16; 16];
-    set(&mut room, k, v);
+// The same for repair; a frame that is mended must be the one sent.
+fn repairs_lent(job: Job, n: usize, lent: [u16; 16]) -> u32 {
+    let mut room = lent;
     let answer = whole_job::repair(job, first(&mut room, n));
     let reply = answer.reply;
     let number = of_reply(reply);
-    let mut due = [0u16; 16];
-    set(&mut due, k, left(number, v));
+    let due = left(number, job, lent);
     if !same(&due, &room, 0) {
         return 100;
     }
     number
+}
+
+fn repairs(job: Job, n: usize, v: u16, k: usize) -> u32 {
+    repairs_lent(job, n, received(job, v, k))
+}
+
+fn repairs_dead(job: Job, n: usize, v: u16, k: usize) -> u32 {
+    repairs_lent(job, n, dead(v, k))
 }
 
 fn encode_edge(i: usize) -> bool {
@@ -132,16 +189,37 @@ fn encode_edge(i: usize) -> bool {
         0 => encodes(whole_job::empty(), 8, 5, 1) == 21,
         1 => encodes(whole_job::empty(), 7, 257, 4) == 21,
         2 => encodes(shaped(), 8, 256, 4) == 0,
-        3 => encodes(shaped(), 8, 65535, 3) == 0,
+        3 => encodes(shaped(), 8, 65535, 3) == 34,
         4 => encodes(shaped(), 8, 257, 4) == 4,
         5 => encodes(shaped(), 7, 257, 4) == 7,
         6 => encodes(shaped(), 9, 5, 1) == 7,
         7 => encodes(located(), 8, 5, 4) == 0,
+        8 => encodes(located(), 8, 5, 3) == 34,
+        9 => encodes(shaped(), 8, 5, 8) == 0,
+        10 => encodes(shape(whole_job::empty(), 4, 1, 1, 64), 8, 5, 8) == 34,
+        11 => encodes(shape(whole_job::empty(), 4, 1, 1, 64), 8, 5, 4) == 0,
+        12 => encodes(shape(whole_job::empty(), 4, 1, 1, 64), 8, 257, 8) == 4,
+        13 => encodes(shape(whole_job::empty(), 4, 1, 1, 64), 9, 5, 8) == 7,
         _ => false,
     }
 }
 
-// Edges 10 and 11 have one frame: its rows 5 5 are legal for the exponent 128, since 3^128 is −1, and not for 127.
+// Dead lines and damage to them. 3^64 is a fourth root of 1, and 3^128 is −1; in edges 16 and 18 the rows differ.
+fn locate_dead_edge(i: usize) -> bool {
+    match i {
+        12 => locates_dead(shaped(), 8, 0, 0) == 26,
+        13 => locates_dead(shaped(), 8, 5, 1) == 26,
+        14 => locates_dead(located(), 8, 0, 0) == 26,
+        15 => locates_dead(shape(whole_job::empty(), 2, 1, 1, 128), 4, 5, 4) == 26,
+        16 => locates_dead(shape(whole_job::empty(), 2, 1, 1, 128), 4, 5, 2) == 0,
+        17 => locates_dead(shape(whole_job::empty(), 4, 1, 1, 64), 8, 5, 8) == 26,
+        18 => locates_dead(shape(whole_job::empty(), 4, 1, 1, 64), 8, 5, 4) == 0,
+        19 => locates_dead(shape(whole_job::empty(), 4, 1, 1, 63), 8, 5, 8) == 24,
+        _ => false,
+    }
+}
+
+// Edges 10 and 11 have one damage: its rows 5 5 are legal for the exponent 128, since 3^128 is −1, and not for 127.
 fn locate_edge(i: usize) -> bool {
     match i {
         0 => locates(whole_job::empty(), 8, 5, 1) == 21,
@@ -156,7 +234,7 @@ fn locate_edge(i: usize) -> bool {
         9 => locates(shape(whole_job::empty(), 4, 2, 2, 1), 8, 1, 2) == 26,
         10 => locates(shape(whole_job::empty(), 2, 1, 1, 127), 4, 5, 4) == 24,
         11 => locates(shape(whole_job::empty(), 2, 1, 1, 128), 4, 5, 4) == 0,
-        _ => false,
+        _ => locate_dead_edge(i),
     }
 }
 
@@ -183,6 +261,11 @@ fn repair_edge(i: usize) -> bool {
         12 => comes_back(127),
         13 => comes_back(128),
         14 => comes_back(255),
+        15 => repairs_dead(located(), 8, 5, 1) == 26,
+        16 => repairs_dead(located(), 8, 6, 1) == 23,
+        17 => repairs_dead(located(), 8, 257, 1) == 4,
+        18 => repairs_dead(located(), 9, 5, 1) == 7,
+        19 => repairs_dead(shaped(), 8, 5, 1) == 22,
         _ => false,
     }
 }
@@ -201,6 +284,8 @@ fn state_edge(i: usize) -> bool {
         8 => repairs(shape(located(), 4, 3, 2, 1), 8, 5, 1) == 22,
         9 => repairs(shape(located(), 4, 3, 2, 2), 8, 5, 1) == 22,
         10 => repairs(shape(located(), 4, 3, 2, 256), 8, 5, 1) == 0,
+        11 => repairs(mend_dead(located(), 8, 5, 1), 8, 5, 1) == 22,
+        12 => repairs(mend_dead(located(), 8, 6, 1), 8, 5, 1) == 0,
         _ => false,
     }
 }
@@ -220,10 +305,10 @@ fn edge(kind: u16, i: u16) -> bool {
 fn edges_of(kind: u16) -> u16 {
     match kind {
         0 => 25,
-        1 => 8,
-        2 => 12,
-        3 => 15,
-        _ => 11,
+        1 => 14,
+        2 => 20,
+        3 => 20,
+        _ => 13,
     }
 }
 

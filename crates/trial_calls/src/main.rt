@@ -20,8 +20,8 @@ fn run(state: &mut u64, counts: &mut [u64]) -> bool {
 
 // How often each refusal of the calls on a job occurred.
 fn report_refusals(counts: &[u64]) {
-    let numbers: [u16; 12] = [2, 5, 6, 32, 21, 22, 23, 7, 4, 24, 25, 26];
-    for k in 0..12 {
+    let numbers: [u16; 13] = [2, 5, 6, 32, 21, 22, 23, 7, 4, 24, 25, 34, 26];
+    for k in 0..13 {
         let number = get(&numbers, k);
         io::write_all(1, b"\nrefused by ");
         io::print_decimal(1, number as u64);
@@ -37,12 +37,13 @@ fn report(counts: &[u64]) {
     print(b", located ", counts, tallies::FOUND);
     print(b", repaired ", counts, tallies::MENDED);
     report_refusals(counts);
+    print(b", of repairs ", counts, tallies::DEAD);
     io::write_all(1, b"\n");
 }
 
 fn main() {
     let mut state = 1u64;
-    let mut counts = [0u64; 46];
+    let mut counts = [0u64; 47];
     let agreed = run(&mut state, &mut counts);
     report(&counts);
     print_end(agreed);

@@ -7,6 +7,8 @@ use plain::values::part;
 use plain::values::product;
 use plain_frames::frames::check_sums;
 use plain_frames::frames::row;
+use plain_frames::uniform::data_of_uniform;
+use plain_frames::uniform::near_uniform;
 
 pub(crate) const EMPTY: u16 = 0;
 
@@ -150,9 +152,32 @@ pub(crate) fn encode_reason(model: Model, frame: &[u16]) -> u32 {
     if frame.len() != size(model) {
         return 7;
     }
-    let checks = model.checks;
-    if data_above(model.columns, part(&checks, 0, model.rows as usize), frame) {
+    let room = model.checks;
+    let checks = part(&room, 0, model.rows as usize);
+    if data_above(model.columns, checks, frame) {
         return 4;
+    }
+    if data_of_uniform(model.exponent, model.columns, checks, frame) {
+        return 34;
+    }
+    0
+}
+
+// The frame with the marked columns filled would be uniform.
+fn dead(model: Model, marks: &[u16], frame: &[u16]) -> bool {
+    let checks = model.checks;
+    let lent = part(&checks, 0, model.rows as usize);
+    let none = [0u64; 32];
+    near_uniform(model.exponent, model.columns, lent, &none, marks, frame)
+}
+
+// The number that locating answers, by the register and by the frame that would be left.
+fn ruled(model: Model, number: u32, marks: &[u16], frame: &[u16]) -> u32 {
+    if number != 0 {
+        return number;
+    }
+    if dead(model, marks, frame) {
+        return 26;
     }
     0
 }
@@ -176,7 +201,7 @@ fn search(model: Model, frame: &[u16]) -> Step {
     check_sums(model.exponent, model.columns, checks, frame, &mut sums);
     let mut named = [0u16; 256];
     let expected = locate(model.columns, checks, &sums, &mut named);
-    let number = expected.number;
+    let number = ruled(model, expected.number, &named, frame);
     if number != 0 {
         if model.planted {
             return Step { number, model };
@@ -238,12 +263,24 @@ fn repair_reason(model: Model, frame: &[u16]) -> u32 {
     if sums_differ(model, frame) {
         return 23;
     }
+    let named = model.named;
+    if dead(model, &named, frame) {
+        return 26;
+    }
     0
+}
+
+// A refused repair leaves the job, but for 26.
+fn keeps(number: u32) -> bool {
+    if number == 26 {
+        return false;
+    }
+    number != 0
 }
 
 pub(crate) fn repaired(model: Model, frame: &[u16]) -> Step {
     let number = repair_reason(model, frame);
-    if number != 0 {
+    if keeps(number) {
         return Step { number, model };
     }
     let checks = model.checks;

@@ -1,4 +1,4 @@
-// What is counted: a refusal under its number, calls that are not refused by their kind, edges and lists.
+// What is counted: a refusal under its number, calls that are not refused by their kind, edges and lists, and repairs that are refused by 26.
 pub(crate) const RESHAPED: usize = 40;
 
 pub(crate) const ENCODED: usize = 41;
@@ -10,3 +10,5 @@ pub(crate) const MENDED: usize = 43;
 pub(crate) const EDGES: usize = 44;
 
 pub(crate) const LISTS: usize = 45;
+
+pub(crate) const DEAD: usize = 46;

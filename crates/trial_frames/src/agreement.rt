@@ -4,6 +4,7 @@ use crate::every_frame::frames_within;
 use crate::subsets::explain;
 use crate::subsets::nearest;
 use crate::subsets::ways;
+use crate::tallies::DEAD;
 use crate::tallies::LOCATED;
 use crate::tallies::REFUSED_24;
 use crate::tallies::REFUSED_25;
@@ -20,7 +21,8 @@ use plain_frames::compare::differ_in;
 use plain_frames::compare::same;
 use plain_frames::compare::same_columns;
 use plain_frames::frames::check_sums;
-use plain_frames::frames::legal;
+use plain_frames::uniform::legal;
+use plain_frames::uniform::near_uniform;
 use whole_job::Answered;
 use whole_job::Job;
 
@@ -117,12 +119,13 @@ fn frames_agree(base: &[u16], rows: usize, damaged: &[u16], expected: Expected) 
     frames_within(c, base, rows, damaged) == 1
 }
 
-// What is expected is right by the ways that small frames allow.
+// What is expected by the check sums, and of the frame, is right by the ways that small frames allow.
 fn confirmed(
     shape: RowShape,
     checks: &[u16],
     sums: &[u16],
     damaged: &[u16],
+    summed: Expected,
     expected: Expected,
     named: &[u16],
     base: &[u16],
@@ -130,13 +133,35 @@ fn confirmed(
     if shape.columns > 8 {
         return true;
     }
-    if !sets_agree(shape, checks, sums, expected, named) {
+    if !sets_agree(shape, checks, sums, summed, named) {
         return false;
     }
     if base.len() == 0 {
         return true;
     }
     frames_agree(base, checks.len(), damaged, expected)
+}
+
+// What locate answers where the check sums tell this: 26 also if the mended frame would be uniform.
+fn ruled(
+    shape: RowShape,
+    checks: &[u16],
+    damaged: &[u16],
+    summed: Expected,
+    named: &[u16],
+) -> Expected {
+    if summed.number != 0 {
+        return summed;
+    }
+    let none = [0u64; 32];
+    let exponent = shape.exponent;
+    if !near_uniform(exponent, shape.columns, checks, &none, named, damaged) {
+        return summed;
+    }
+    Expected {
+        number: 26,
+        length: summed.length,
+    }
 }
 
 fn tally(number: u32, counts: &mut [u64]) {
@@ -174,9 +199,10 @@ pub(crate) fn agrees(
     let mut sums = [0u16; 512];
     check_sums(shape.exponent, shape.columns, checks, damaged, &mut sums);
     let mut marks = [0u16; 256];
-    let expected = locate(shape.columns, checks, &sums, &mut marks);
+    let summed = locate(shape.columns, checks, &sums, &mut marks);
     let named = part(&marks, 0, 256);
-    if !confirmed(shape, checks, &sums, damaged, expected, named, base) {
+    let expected = ruled(shape, checks, damaged, summed, named);
+    if !confirmed(shape, checks, &sums, damaged, summed, expected, named, base) {
         return false;
     }
     let none = [0u64; 32];
@@ -185,6 +211,7 @@ pub(crate) fn agrees(
         return false;
     }
     tally(expected.number, counts);
+    count(counts, DEAD, expected.number != summed.number);
     if expected.number != 0 {
         return stays(answer.job, damaged, due);
     }

@@ -5,6 +5,7 @@ use crate::every_frame::find_base;
 use crate::tallies::ABOVE_HALF;
 use crate::tallies::AT_HALF;
 use crate::tallies::BELOW_HALF;
+use crate::tallies::REFUSED_34;
 use plain::random::draw;
 use plain::random::draw_exponent;
 use plain::random::draw_from;
@@ -14,12 +15,18 @@ use plain::tally::print_frame;
 use plain::values::copy;
 use plain::values::first;
 use plain::values::get;
+use plain::values::minus;
 use plain::values::part;
 use plain::values::product;
+use plain::values::put;
+use plain::values::set;
 use plain_frames::answers::of_checked;
+use plain_frames::compare::same;
 use plain_frames::compare::same_data;
 use plain_frames::damage::damage;
-use plain_frames::frames::legal;
+use plain_frames::uniform::constant;
+use plain_frames::uniform::data_of_uniform;
+use plain_frames::uniform::legal;
 use whole_job::Job;
 
 // How large random frames are: of full size, of any size from 65 columns on, of at most seven columns, or of three columns with two checks
@@ -32,17 +39,28 @@ pub(crate) enum Size {
     Planted,
 }
 
-// Encoding leaves the data and makes the frame legal.
-fn encodes(job: Job, shape: RowShape, checks: &[u16], frame: &mut [u16], n: usize) -> bool {
+// Encoding leaves the data and makes the frame legal, or is refused by 34 and leaves the frame.
+fn encodes(
+    job: Job,
+    shape: RowShape,
+    checks: &[u16],
+    frame: &mut [u16],
+    n: usize,
+    sends: bool,
+) -> bool {
     let mut data = [0u16; 2048];
     copy(frame, &mut data, 0);
-    if of_checked(whole_job::encode(job, first(frame, n))) != 0 {
+    let number = of_checked(whole_job::encode(job, first(frame, n)));
+    if !sends {
+        return number == 34 && same(frame, &data, 0);
+    }
+    if number != 0 {
         return false;
     }
     if !same_data(shape.columns, checks, &data, frame) {
         return false;
     }
-    legal(shape.exponent, shape.columns, checks, frame)
+    legal(shape.exponent, shape.columns, checks, part(frame, 0, n))
 }
 
 fn smaller(a: u16, b: u16) -> u16 {
@@ -79,10 +97,12 @@ fn tally_damage(w: u16, half: u16, counts: &mut [u64]) {
     count(counts, ABOVE_HALF, w > half);
 }
 
-// The original is due where at most half of the least checks are damaged.
-fn due(original: &[u16], w: u16, half: u16) -> &[u16] {
-    if w <= half {
-        return original;
+// The original is due where it is legal and at most half of the least checks are damaged.
+fn due(original: &[u16], sends: bool, w: u16, half: u16) -> &[u16] {
+    if sends {
+        if w <= half {
+            return original;
+        }
     }
     part(original, 0, 0)
 }
@@ -97,13 +117,14 @@ fn show(shape: RowShape, checks: &[u16], frame: &[u16]) {
     );
 }
 
-// Damages a legal frame and compares the answers about it.
+// Damages a frame, which is legal or uniform, and compares the answers about it.
 fn compare_damaged(
     state: &mut u64,
     job: Job,
     shape: RowShape,
     checks: &[u16],
     original: &[u16],
+    sends: bool,
     base: &[u16],
     counts: &mut [u64],
 ) -> bool {
@@ -114,12 +135,32 @@ fn compare_damaged(
     copy(original, &mut room, 0);
     damage(state, shape.columns, checks.len(), w, &mut room);
     let damaged = part(&room, 0, original.len());
-    let due = due(original, w, half);
+    let due = due(original, sends, w, half);
     if agrees(job, shape, checks, damaged, due, base, counts) {
         return true;
     }
     show(shape, checks, damaged);
     false
+}
+
+// Data of a frame: random, or now and then one symbol throughout, often 0.
+fn draw_data(state: &mut u64, n: usize) -> [u16; 2048] {
+    let mut room = [0u16; 2048];
+    let s = draw(state, 257);
+    match draw(state, 8) {
+        0 => set(&mut room, n, s),
+        1 => {}
+        _ => fill_from(state, 0, 257, &mut room, n),
+    }
+    room
+}
+
+// What is sent: the frame that is encoded, or the uniform one of data that are refused.
+fn sent(room: [u16; 2048], n: usize, sends: bool) -> [u16; 2048] {
+    if sends {
+        return room;
+    }
+    constant(n, get(&room, minus(n, 1)))
 }
 
 // A random frame, encoded, damaged and compared. Each row has one of `spread` numbers of checks from `few` on.
@@ -138,14 +179,26 @@ fn compare_random(
     let columns = shape.columns as usize;
     let shaped = whole_job::shape(whole_job::empty(), columns, checks, shape.exponent);
     let n = product(rows, shape.columns) as usize;
-    let mut room = [0u16; 2048];
-    fill_from(state, 0, 257, &mut room, n);
-    if !encodes(shaped.job, shape, checks, &mut room, n) {
+    let mut room = draw_data(state, n);
+    let exponent = shape.exponent;
+    let sends = !data_of_uniform(exponent, shape.columns, checks, part(&room, 0, n));
+    count(counts, REFUSED_34, !sends);
+    if !encodes(shaped.job, shape, checks, &mut room, n, sends) {
         show(shape, checks, part(&room, 0, n));
         return false;
     }
-    let original = part(&room, 0, n);
-    compare_damaged(state, shaped.job, shape, checks, original, base, counts)
+    let other = sent(room, n, sends);
+    let original = part(&other, 0, n);
+    compare_damaged(
+        state,
+        shaped.job,
+        shape,
+        checks,
+        original,
+        sends,
+        base,
+        counts,
+    )
 }
 
 // A frame of two rows with three and two checks against a model that takes both for rows with three.
@@ -157,6 +210,8 @@ fn compare_planted(state: &mut u64, counts: &mut [u64]) -> bool {
     let checks = [3u16, 2];
     let shaped = whole_job::shape(whole_job::empty(), 6, &checks, 1);
     let mut room = [0u16; 12];
+    put(&mut room, 5, 1);
+    whole_job::encode(shaped.job, &mut room);
     damage(state, 6, 2, 2, &mut room);
     let taken = [3u16, 3];
     let none = [0u16; 0];

@@ -30,6 +30,8 @@ fn report(counts: &[u64]) {
     print(b", 24 ", counts, tallies::REFUSED_24);
     print(b", 25 ", counts, tallies::REFUSED_25);
     print(b", 26 ", counts, tallies::REFUSED_26);
+    print(b", of these dead lines ", counts, tallies::DEAD);
+    print(b"; encode 34 ", counts, tallies::REFUSED_34);
     print(
         b"\ndamage: below half the checks ",
         counts,
@@ -42,7 +44,7 @@ fn report(counts: &[u64]) {
 
 fn main() {
     let mut state = 1u64;
-    let mut counts = [0u64; 7];
+    let mut counts = [0u64; 9];
     let agreed = run(&mut state, &mut counts);
     report(&counts);
     print_end(agreed);
