@@ -14,7 +14,8 @@ use plain_frames::answers::of_reply;
 use plain_frames::compare::differ_in;
 use plain_frames::compare::same;
 use plain_frames::compare::same_columns;
-use plain_frames::frames::legal;
+use plain_frames::uniform::data_of_uniform;
+use plain_frames::uniform::legal;
 use whole_job::Answered;
 use whole_job::Job;
 
@@ -37,6 +38,14 @@ pub(crate) fn empty(planted: u16) -> Pair {
     }
 }
 
+// The number by which data are refused, or 0.
+fn data_reason(columns: u16, checks: &[u16], exponent: u32, frame: &[u16]) -> u32 {
+    if data_of_uniform(exponent, columns, checks, frame) {
+        return 34;
+    }
+    0
+}
+
 // The job with another shape, and a frame that it encodes. Declared cells play no part in either: `trial_calls` compares them.
 pub(crate) fn shape(
     pair: Pair,
@@ -48,9 +57,9 @@ pub(crate) fn shape(
     let held = pair.model;
     let model = model::shaped(held.planted, model::SHAPED, columns, checks, exponent);
     let job = whole_job::shape(pair.job, columns as usize, checks, exponent).job;
-    let number = of_checked(whole_job::encode(job, frame));
+    let number = data_reason(columns, checks, exponent, frame);
     Pair {
-        agree: number == 0,
+        agree: number == of_checked(whole_job::encode(job, frame)),
         number,
         job,
         model,

@@ -8,6 +8,7 @@ use crate::model::Model;
 use crate::model::size;
 use crate::shapes::Size;
 use crate::shapes::draw_frame;
+use crate::tallies::DEAD;
 use crate::tallies::FOUND;
 use crate::tallies::LISTS;
 use crate::tallies::MENDED;
@@ -23,6 +24,7 @@ use plain::values::minus;
 use plain::values::part;
 use plain::values::put;
 use plain::values::remainder;
+use plain::values::set;
 use plain_frames::damage::damage;
 
 // A new shape with a frame that is encoded, a locate, or a repair.
@@ -81,10 +83,12 @@ fn spoil(state: &mut u64, model: Model, words: &[u64; 32], lent: &mut [u16]) {
     }
 }
 
-// Seldom a frame has further damage before it is repaired.
+// Seldom a frame has further damage before it is repaired, or is all 0.
 fn strike_seldom(state: &mut u64, model: Model, room: &mut [u16]) {
-    if draw(state, 6) == 0 {
-        strike(state, model, 1, room);
+    match draw(state, 8) {
+        0 => strike(state, model, 1, room),
+        1 => set(room, size(model), 0),
+        _ => {}
     }
 }
 
@@ -134,12 +138,21 @@ fn call_on(state: &mut u64, call: Call, pair: Pair, room: &mut [u16]) -> Pair {
     }
 }
 
+// A repair that is refused by 26.
+fn is_dead(call: Call, number: u32) -> bool {
+    match call {
+        Call::Repair => number == 26,
+        _ => false,
+    }
+}
+
 fn next(state: &mut u64, pair: Pair, room: &mut [u16], counts: &mut [u64]) -> Pair {
     let model = pair.model;
     let call = draw_call(state, model.phase);
     prepare(state, call, model, room);
     let next = call_on(state, call, pair, room);
     tally(next.number, kind_of(call), counts);
+    count(counts, DEAD, is_dead(call, next.number));
     next
 }
 

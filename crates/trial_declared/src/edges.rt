@@ -1,6 +1,6 @@
 // Calls with declared cells at the edges (SPECIFICATION.md, "Declared cells"): what is just taken and what is just refused, which of two reasons comes first,
-// and the state that is left. The shape has four columns, the checks 3 and 2 and mostly the exponent 1; the frame of zeros is legal. The cell of
-// column i in row h has mark 256·h + i.
+// and the state that is left. The shape has four columns, the checks 3 and 2 and mostly the exponent 1. A frame is a legal one, to whose first k symbols
+// v is added, or put there where it is above 256; or, as a dead line, zeros with v at the first k places. The cell of column i in row h has mark 256·h + i.
 use crate::tallies::EDGES;
 use lost::cells::declare;
 use plain::tally::count;
@@ -8,6 +8,8 @@ use plain::tally::print_list;
 use plain::values::first;
 use plain::values::get;
 use plain::values::part;
+use plain::values::plus_product;
+use plain::values::put;
 use plain::values::set;
 use plain_frames::answers::columns_of;
 use plain_frames::answers::of_checked;
@@ -30,8 +32,44 @@ fn cells(edge: &[u16]) -> [u64; 32] {
     words
 }
 
-// Locates, with these cells, a frame whose size, the value of its first symbols and how many these are stand at places 4 to 6.
+// A legal frame of the job, with 0 in its last cell.
+fn sent(job: Job) -> [u16; 16] {
+    let mut room = [0u16; 16];
+    put(&mut room, 3, 1);
+    put(&mut room, 6, 1);
+    whole_job::encode(job, first(&mut room, 8));
+    room
+}
+
+fn struck(symbol: u16, v: u16) -> u16 {
+    if v > 256 {
+        return v;
+    }
+    plus_product(257, symbol, v, 1)
+}
+
+fn strike(room: &mut [u16], v: u16, k: usize) {
+    for i in 0..k {
+        let symbol = struck(get(room, i), v);
+        put(room, i, symbol);
+    }
+}
+
+fn received(job: Job, v: u16, k: usize) -> [u16; 16] {
+    let mut room = sent(job);
+    strike(&mut room, v, k);
+    room
+}
+
+// Locates, with these cells, a frame whose size, v and k stand at places 4 to 6.
 fn locate(job: Job, edge: &[u16]) -> Answered {
+    let words = cells(edge);
+    let room = received(job, get(edge, 5), get(edge, 6) as usize);
+    whole_job::locate(job, &words, part(&room, 0, get(edge, 4) as usize))
+}
+
+// The same of a dead line.
+fn locate_dead(job: Job, edge: &[u16]) -> Answered {
     let words = cells(edge);
     let mut room = [0u16; 16];
     set(&mut room, get(edge, 6) as usize, get(edge, 5));
@@ -111,29 +149,30 @@ fn changed(job: Job, edge: &[u16]) -> Job {
     }
 }
 
-// What the first symbols must be after a repair.
-fn left(number: u32, v: u16) -> u16 {
+// What must stand in the room after a repair.
+fn left(number: u32, job: Job, lent: [u16; 16]) -> [u16; 16] {
     if number == 0 {
-        return 0;
+        return sent(job);
     }
-    v
+    lent
 }
 
-// What repair answers of a frame that is told at places 7 to 9. A refused call must leave the frame, and a frame that is mended must be all 0, or the
-// answer is 100.
-fn repairs(job: Job, edge: &[u16]) -> u16 {
-    let v = get(edge, 8);
-    let k = get(edge, 9) as usize;
-    let mut room = [0u16; 16];
-    set(&mut room, k, v);
-    let reply = whole_job::repair(job, first(&mut room, get(edge, 7) as usize)).reply;
+// What repair answers of a frame. A refused call must leave it, and a frame that is mended must be the one sent, or the answer is 100.
+fn repairs_lent(job: Job, n: usize, lent: [u16; 16]) -> u16 {
+    let mut room = lent;
+    let reply = whole_job::repair(job, first(&mut room, n)).reply;
     let number = of_reply(reply);
-    let mut due = [0u16; 16];
-    set(&mut due, k, left(number, v));
+    let due = left(number, job, lent);
     if !same(&due, &room, 0) {
         return 100;
     }
     (number % 65536) as u16
+}
+
+// The same of a frame that is told at places 7 to 9.
+fn repairs(job: Job, edge: &[u16]) -> u16 {
+    let lent = received(job, get(edge, 8), get(edge, 9) as usize);
+    repairs_lent(job, get(edge, 7) as usize, lent)
 }
 
 // Of each edge the job, what comes before the repair with its cells and frame, the frame that is repaired, and what is answered. A job with forged cells
@@ -174,7 +213,7 @@ fn past() -> Job {
 
 // It still encodes.
 fn still_encodes() -> bool {
-    let mut room = [0u16; 8];
+    let mut room = [0u16, 0, 0, 1, 0, 0, 0, 0];
     of_checked(whole_job::encode(past(), &mut room)) == 0
 }
 
@@ -195,6 +234,42 @@ fn smallest_refused() -> bool {
     number_of(whole_job::locate(job, &words, &frame)) == 26
 }
 
+// Dead lines as they are, with lost cells that hold anything, and with damage beside one. Of each the same as above.
+fn dead_row(i: usize) -> [u16; 8] {
+    match i {
+        0 => [1, 0, 0, 0, 8, 0, 0, 26],
+        1 => [1, 0, 259, 1, 8, 0, 0, 26],
+        2 => [1, 3, 256, 2, 8, 0, 0, 26],
+        3 => [1, 3, 0, 0, 8, 65535, 3, 26],
+        4 => [1, 1, 0, 0, 8, 5, 2, 26],
+        5 => [2, 1, 0, 0, 8, 5, 2, 26],
+        _ => [1, 0, 512, 1, 8, 0, 0, 31],
+    }
+}
+
+fn dead_edge(i: usize) -> bool {
+    let edge = dead_row(i);
+    let answer = locate_dead(job_of(get(&edge, 0)), &edge);
+    number_of(answer) == get(&edge, 7)
+}
+
+// A line of fives whose lost cells, the first and the last, hold anything. 3^64 is a fourth root of 1, so that for the exponent 64 fives are a codeword.
+fn fives(exponent: u32, lost: u16) -> u16 {
+    let checks = [1u16, 1];
+    let job = whole_job::shape(whole_job::empty(), 4, &checks, exponent).job;
+    let edge = [0u16, 1, 259, 1];
+    let words = cells(&edge);
+    let frame = [lost, 5, 5, 5, 5, 5, 5, lost];
+    number_of(whole_job::locate(job, &words, &frame))
+}
+
+// The last cell is lost, and the first symbol damaged; a dead line with the same damage, and with other damage, is lent to repair.
+fn repairs_dead(v: u16) -> u16 {
+    let edge = [0u16, 0, 259, 1, 8, 5, 1];
+    let lent = [v, 0, 0, 0, 0, 0, 0, 65535, 0, 0, 0, 0, 0, 0, 0, 0];
+    repairs_lent(locate(shaped(1), &edge).job, 8, lent)
+}
+
 // A declared cell and damage in the column after it come back.
 fn comes_back(exponent: u32) -> bool {
     let edge = [0u16, 1, 0, 0, 8, 5, 2, 8, 5, 2];
@@ -210,7 +285,13 @@ fn other_edge(i: usize) -> bool {
         4 => comes_back(2),
         5 => comes_back(127),
         6 => comes_back(128),
-        _ => comes_back(255),
+        7 => comes_back(255),
+        8 => fives(64, 65535) == 26,
+        9 => fives(64, 5) == 26,
+        10 => fives(1, 65535) == 100,
+        11 => fives(1, 5) == 100,
+        12 => repairs_dead(5) == 26,
+        _ => repairs_dead(6) == 23,
     }
 }
 
@@ -219,6 +300,7 @@ fn edge(kind: u16, i: u16) -> bool {
     match kind {
         0 => locate_edge(k),
         1 => repair_edge(k),
+        2 => dead_edge(k),
         _ => other_edge(k),
     }
 }
@@ -228,7 +310,8 @@ fn edges_of(kind: u16) -> u16 {
     match kind {
         0 => 19,
         1 => 17,
-        _ => 8,
+        2 => 7,
+        _ => 14,
     }
 }
 
@@ -246,7 +329,7 @@ fn try_kind(kind: u16, counts: &mut [u64]) -> bool {
 }
 
 pub(crate) fn try_all(counts: &mut [u64]) -> bool {
-    for kind in 0..3u16 {
+    for kind in 0..4u16 {
         if !try_kind(kind, counts) {
             return false;
         }

@@ -54,13 +54,14 @@ fn confirmed(tiny: bool, model: Model, words: &[u64; 32], damaged: &[u16]) -> bo
     let exponent = model.exponent;
     check_sums(exponent, model.columns, checks, &frame, &mut sums);
     let mut marks = [0u16; 256];
-    let expected = model::search(model, words, &sums, &mut marks);
-    if !sets_agree(exponent, words, model.columns, checks, &sums, expected) {
+    let summed = model::search(model, words, &sums, &mut marks);
+    if !sets_agree(exponent, words, model.columns, checks, &sums, summed) {
         return false;
     }
     if !tiny {
         return true;
     }
+    let expected = model::ruled(model, words, &marks, damaged, summed);
     frames_agree(exponent, words, model.rows as usize, &frame, expected)
 }
 
@@ -144,7 +145,15 @@ fn tally_frame(number: u32, due: bool, counts: &mut [u64]) {
     count(counts, PAST_REACH, !due);
 }
 
-// Declares cells of a legal frame, damages it, and compares the answers about it.
+// What was sent comes back if it is legal and the damage is in reach.
+fn is_due(number: u32, w: u16, reach: usize) -> bool {
+    if number != 0 {
+        return false;
+    }
+    (w as usize) <= reach
+}
+
+// Declares cells of a legal or a uniform frame, damages it, and compares the answers about it.
 fn compare_damaged(
     state: &mut u64,
     pair: Pair,
@@ -157,7 +166,7 @@ fn compare_damaged(
     let checks = part(&list, 0, model.rows as usize);
     let words = cells::draw_cells(state, model.columns, checks);
     let w = draw(state, std::num::wrapping_add_u16(get(checks, 0) / 2, 2));
-    let due = (w as usize) <= reach(&words, checks);
+    let due = is_due(pair.number, w, reach(&words, checks));
     let mut frame = struck(state, model, &words, original, w);
     let n = model::size(model);
     let verdict = mends(pair, tiny, &words, first(&mut frame, n), original, due);

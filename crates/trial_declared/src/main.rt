@@ -1,6 +1,6 @@
 // Runs locate and repair with declared cells: at the edges of what is taken, on random frames against all legal frames, all sets of columns and elimination,
 // and in random lists against a simple model of the job. Prints how often each answer occurred, and the first call that disagrees. Then the calls are held to
-// three planted models that are wrong, and must disagree with each.
+// four planted models that are wrong, and must disagree with each.
 mod against;
 mod call_lists;
 mod disagreement;
@@ -39,8 +39,8 @@ fn run(state: &mut u64, counts: &mut [u64]) -> bool {
 
 // How often each refusal of locate and repair occurred.
 fn report_refusals(counts: &[u64]) {
-    let numbers: [u16; 9] = [21, 22, 23, 7, 31, 4, 24, 25, 26];
-    for k in 0..9 {
+    let numbers: [u16; 10] = [21, 22, 23, 7, 31, 4, 24, 25, 34, 26];
+    for k in 0..10 {
         let number = get(&numbers, k);
         io::write_all(1, b"\nrefused by ");
         io::print_decimal(1, number as u64);
@@ -57,12 +57,13 @@ fn report(counts: &[u64]) {
     print(b"\nlocated ", counts, tallies::FOUND);
     print(b", repaired in lists ", counts, tallies::MENDED);
     report_refusals(counts);
+    print(b", of repairs ", counts, tallies::DEAD);
     io::write_all(1, b"\n");
 }
 
 fn main() {
     let mut state = 1u64;
-    let mut counts = [0u64; 47];
+    let mut counts = [0u64; 48];
     let agreed = run(&mut state, &mut counts);
     report(&counts);
     print_end(agreed);
@@ -72,4 +73,6 @@ fn main() {
     print_end(call_lists::random(&mut state, model::CELLS_KEPT, 300, &mut counts));
     io::write_all(1, b"planted, exponent left out: ");
     print_end(call_lists::random(&mut state, model::EXPONENT_LEFT_OUT, 300, &mut counts));
+    io::write_all(1, b"planted, symbols received judged: ");
+    print_end(call_lists::random(&mut state, model::RECEIVED_JUDGED, 300, &mut counts));
 }

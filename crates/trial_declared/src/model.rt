@@ -9,6 +9,8 @@ use plain::values::part;
 use plain::values::product;
 use plain_frames::cells::clear;
 use plain_frames::frames::check_sums;
+use plain_frames::uniform::near_uniform;
+use plain_frames::uniform::uniform;
 
 pub(crate) const EMPTY: u16 = 0;
 
@@ -16,7 +18,8 @@ pub(crate) const SHAPED: u16 = 1;
 
 pub(crate) const LOCATED: u16 = 2;
 
-// What a planted model does wrong: it does not ask whether rows can be completed, it keeps the cells of the locate before, or it takes 1 for each exponent.
+// What a planted model does wrong: it does not ask whether rows can be completed, it keeps the cells of the locate before, it takes 1 for each exponent, or it
+// tells a dead line by the symbols that are received.
 pub(crate) const RIGHT: u16 = 0;
 
 pub(crate) const NOT_COMPLETED: u16 = 1;
@@ -24,6 +27,8 @@ pub(crate) const NOT_COMPLETED: u16 = 1;
 pub(crate) const CELLS_KEPT: u16 = 2;
 
 pub(crate) const EXPONENT_LEFT_OUT: u16 = 3;
+
+pub(crate) const RECEIVED_JUDGED: u16 = 4;
 
 // The phase, the shape and, of a located job, the check sums of the frame as read, the declared cells, the length of the register and a mark for each column
 // that it names.
@@ -121,6 +126,37 @@ pub(crate) fn search(model: Model, words: &[u64; 32], sums: &[u16], marks: &mut 
     }
 }
 
+// The frame with the marked columns and the declared cells filled would be uniform.
+fn dead(model: Model, words: &[u64; 32], marks: &[u16], frame: &[u16]) -> bool {
+    if model.planted == RECEIVED_JUDGED {
+        return uniform(frame);
+    }
+    let checks = model.checks;
+    let lent = part(&checks, 0, model.rows as usize);
+    let from = summed_from(model.planted, model.exponent);
+    near_uniform(from, model.columns, lent, words, marks, frame)
+}
+
+// What locating a frame answers where its sums tell this.
+pub(crate) fn ruled(
+    model: Model,
+    words: &[u64; 32],
+    marks: &[u16],
+    frame: &[u16],
+    summed: Expected,
+) -> Expected {
+    if summed.number != 0 {
+        return summed;
+    }
+    if !dead(model, words, marks, frame) {
+        return summed;
+    }
+    Expected {
+        number: 26,
+        length: summed.length,
+    }
+}
+
 // The cells that a located model holds.
 fn held(model: Model, words: [u64; 32]) -> [u64; 32] {
     if model.planted != CELLS_KEPT {
@@ -132,15 +168,16 @@ fn held(model: Model, words: [u64; 32]) -> [u64; 32] {
     model.words
 }
 
-// What a frame, as read, that is not refused by 21, 7, 31 or 4 makes of a job: located, or shaped by the refusals 24, 25 and 26.
-fn settle(model: Model, words: &[u64; 32], frame: &[u16]) -> Step {
+// What a frame, lent and as read, that is not refused by 21, 7, 31 or 4 makes of a job: located, or shaped by the refusals 24, 25 and 26.
+fn settle(model: Model, words: &[u64; 32], lent: &[u16], frame: &[u16]) -> Step {
     let room = model.checks;
     let checks = part(&room, 0, model.rows as usize);
     let mut sums = [0u16; 512];
     let from = summed_from(model.planted, model.exponent);
     check_sums(from, model.columns, checks, frame, &mut sums);
     let mut named = [0u16; 256];
-    let expected = search(model, words, &sums, &mut named);
+    let summed = search(model, words, &sums, &mut named);
+    let expected = ruled(model, words, &named, lent, summed);
     let number = expected.number;
     if number != 0 {
         let refused = shaped(model.planted, SHAPED, model.columns, checks, model.exponent);
@@ -192,7 +229,7 @@ pub(crate) fn located(model: Model, words: &[u64; 32], frame: &[u16]) -> Step {
     if number != 0 {
         return Step { number, model };
     }
-    settle(model, words, &room)
+    settle(model, words, frame, &room)
 }
 
 // The check sums of the frame as read are not those located.
@@ -225,12 +262,24 @@ fn repair_reason(model: Model, frame: &[u16]) -> u32 {
     if sums_differ(model, &room) {
         return 23;
     }
+    let named = model.named;
+    if dead(model, &words, &named, frame) {
+        return 26;
+    }
     0
+}
+
+// A refused repair leaves the job, but for 26.
+fn keeps(number: u32) -> bool {
+    if number == 26 {
+        return false;
+    }
+    number != 0
 }
 
 pub(crate) fn repaired(model: Model, frame: &[u16]) -> Step {
     let number = repair_reason(model, frame);
-    if number != 0 {
+    if keeps(number) {
         return Step { number, model };
     }
     let checks = model.checks;

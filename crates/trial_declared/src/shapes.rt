@@ -1,12 +1,14 @@
 // Random shapes, and frames of them.
 use crate::against;
 use crate::against::Pair;
+use plain::random::draw;
 use plain::random::draw_exponent;
 use plain::random::draw_from;
 use plain::random::fill_from;
 use plain::values::first;
 use plain::values::part;
 use plain::values::product;
+use plain::values::set;
 
 // How large frames are: of full size, of any size from 65 columns on, of at most ten columns, of at most six, or of three columns with two checks in each of at
 // most two rows.
@@ -74,7 +76,17 @@ fn draw_shape(state: &mut u64, size: Size) -> Drawn {
     }
 }
 
-// The job with a random shape; a random frame that it has encoded stands in the room.
+// Data of a frame: random, or now and then one symbol throughout, often 0.
+fn fill(state: &mut u64, room: &mut [u16], n: usize) {
+    let s = draw(state, 257);
+    match draw(state, 12) {
+        0 => set(room, n, s),
+        1 => set(room, n, 0),
+        _ => fill_from(state, 0, 257, room, n),
+    }
+}
+
+// The job with a random shape; a random frame that it has encoded stands in the room, or that of one symbol whose data are refused.
 pub(crate) fn draw_frame(state: &mut u64, pair: Pair, size: Size, room: &mut [u16]) -> Pair {
     let drawn = draw_shape(state, size);
     let mut checks = [0u16; 8];
@@ -86,7 +98,7 @@ pub(crate) fn draw_frame(state: &mut u64, pair: Pair, size: Size, room: &mut [u1
         drawn.rows as usize,
     );
     let n = product(drawn.rows, drawn.columns) as usize;
-    fill_from(state, 0, 257, room, n);
+    fill(state, room, n);
     let lent = part(&checks, 0, drawn.rows as usize);
     let exponent = draw_exponent(state);
     against::shape(pair, drawn.columns, lent, exponent, first(room, n))

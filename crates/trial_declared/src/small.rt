@@ -76,13 +76,23 @@ fn distance(base: &[u16], words: &[u64; 32], data: &[u16], frame: &[u16]) -> usi
     n
 }
 
+// The data symbols, at most two, of a legal frame near by: zeros are none, and no other of these codewords has one symbol throughout.
+fn is_near(c: usize, base: &[u16], words: &[u64; 32], data: &[u16], frame: &[u16]) -> bool {
+    if get(data, 0) == 0 {
+        if get(data, 1) == 0 {
+            return false;
+        }
+    }
+    distance(base, words, data, frame) <= c
+}
+
 // How many legal frames lie at distance c or less. The frame has at most two rows.
 fn frames_within(c: usize, base: &[u16], words: &[u64; 32], rows: usize, frame: &[u16]) -> usize {
     let mut room = [0u16; 2];
     let data: &mut [u16] = &mut room;
     let mut n: usize = 0;
     for _ in 0..66049usize {
-        let near = distance(base, words, part(data, 0, rows), frame) <= c;
+        let near = is_near(c, base, words, part(data, 0, rows), frame);
         n = std::num::wrapping_add_usize(n, near as usize);
         if !advance(257, data, 0, rows) {
             return n;

@@ -8,7 +8,7 @@ abbrev Inv-loop : tie.InvT-loop
 Inv-loop counts numbers k₀ t5 t6 k = Unit
 
 abbrev μ-loop : tie.MeasureT-loop
-μ-loop counts numbers k₀ t5 t6 k = 9 - k
+μ-loop counts numbers k₀ t5 t6 k = 10 - k
 
 pub report-refusals-spec : {M : Type 1} → statement M
 report-refusals-spec =

@@ -10,7 +10,7 @@ abbrev Inv-loop : tie.InvT-loop
 Inv-loop counts₀ kind₀ counts kind = length counts ≡ length counts₀
 
 abbrev μ-loop : tie.MeasureT-loop
-μ-loop counts₀ kind₀ counts kind = 3 - kind
+μ-loop counts₀ kind₀ counts kind = 4 - kind
 
 pub try-all-spec : {M : Type 1} → statement M
 try-all-spec =
