@@ -520,6 +520,37 @@ static void eight_heads(void) {
   CHECK(is_part(&d, 5, located, 1));
 }
 
+/* A dead line: zeros, and column 5 of them damaged as above. Encode and locate refuse it; steps, which have only sums to go by, answer the column, and then
+ * repair refuses it and lets the job go. No frame is written. */
+static void dead_lines(void) {
+  static tomkhadi_job job;
+  static tomkhadi_dispatcher d;
+  static const uint16_t spoiled[SIZE] = {65535}, dead[SIZE] = {[5] = 236, [COLUMNS + 5] = 253};
+  uint16_t frame[SIZE];
+  empty(&job);
+  dispatcher_empty(&d);
+  CHECK(shape(&job, COLUMNS, checks, ROWS, 1) == 0 && dispatcher_shape(&d, 5, COLUMNS, checks, ROWS, 1) == 0);
+  memcpy(frame, spoiled, sizeof frame);
+  CHECK(encode(&job, frame, SIZE) == 34 && head_encode(shaped, frame, SIZE) == 34 && dispatcher_encode(&d, 5, frame, SIZE) == 34);
+  SAME(frame, spoiled);
+
+  CHECK(is_answer(locate(&job, nothing, dead, SIZE), 26, 0) && is_job(&job, shaped, 0));
+  CHECK(is_answer(dispatcher_locate(&d, 5, nothing, dead, SIZE), 26, 0) && is_part(&d, 5, shaped, 0));
+  tomkhadi_head_answered answered = head_locate(shaped, job.sums, job.taps, job.declared, nothing, dead, SIZE);
+  CHECK(is_answer(answered.answer, 26, 0) && is_head(answered.head, shaped) && is_job(&job, shaped, 0));
+
+  CHECK(is_unfinished(start(&job, nothing, dead, SIZE)) && is_unfinished(dispatcher_start(&d, 5, nothing, dead, SIZE)));
+  for (int made = 1; made < 4 * ROWS; made++) CHECK(is_unfinished(step(&job)) && is_unfinished(dispatcher_turn(&d).answer));
+  CHECK(is_answer(step(&job), 0, 6) && is_answer(dispatcher_turn(&d).answer, 0, 6) && is_head(job.head, located));
+  memcpy(frame, dead, sizeof frame);
+  answered = head_repair(job.head, job.sums, job.declared, frame, SIZE);
+  CHECK(is_answer(answered.answer, 26, 0) && is_head(answered.head, shaped));
+  CHECK(is_answer(repair(&job, frame, SIZE), 26, 0) && is_head(job.head, shaped) && is_answer(repair(&job, frame, SIZE), 22, 0));
+  CHECK(is_answer(dispatcher_repair(&d, 5, frame, SIZE), 26, 0) && is_head(part(&d, 5).head, shaped));
+  CHECK(is_answer(dispatcher_repair(&d, 5, frame, SIZE), 22, 0));
+  SAME(frame, dead);
+}
+
 int main(void) {
   registers();
   searches();
@@ -530,6 +561,7 @@ int main(void) {
   sliced_heads();
   dispatchers();
   eight_heads();
+  dead_lines();
   printf("tests/src/prototypes.c: %d checks, %d failed\n", checked, failed);
   return failed != 0;
 }
