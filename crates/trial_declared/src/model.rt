@@ -243,6 +243,13 @@ fn sums_differ(model: Model, frame: &[u16]) -> bool {
     !plain_frames::compare::same(&held, &sums, 0)
 }
 
+// What repair would leave is uniform.
+fn mends_to_uniform(model: Model, frame: &[u16]) -> bool {
+    let words = model.words;
+    let named = model.named;
+    dead(model, &words, &named, frame)
+}
+
 fn repair_reason(model: Model, frame: &[u16]) -> u32 {
     if model.phase == EMPTY {
         return 21;
@@ -262,8 +269,7 @@ fn repair_reason(model: Model, frame: &[u16]) -> u32 {
     if sums_differ(model, &room) {
         return 23;
     }
-    let named = model.named;
-    if dead(model, &words, &named, frame) {
+    if mends_to_uniform(model, frame) {
         return 26;
     }
     0
