@@ -94,12 +94,12 @@ fn repair_read(j: Head, sums: &[u16; 512], held: &[u64; 32], frame: &mut [u16]) 
     if !same_sums(&summed, sums) {
         return refuse(j, Refusal::SumsDiffer);
     }
-    let set = j.columns;
-    if mends_uniform(j.shape, held, set, frame) {
+    let marked = j.columns;
+    if mends_uniform(j.shape, held, marked, frame) {
         return refuse(shaped(j.shape), Refusal::NoFrame);
     }
-    fill(j.shape, held, set, &summed, frame);
-    mended(j.shape, c, set)
+    fill(j.shape, held, marked, &summed, frame);
+    mended(j.shape, c, marked)
 }
 
 // The sums and the declared cells are read, and the taps play no part: whatever they hold is left as it was.
