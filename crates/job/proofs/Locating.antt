@@ -58,9 +58,11 @@ module _ (s : Shape) (D : Declared) (f : List ℕ) where
     where
       pick : (b : Bool) → mendsUniform s D f (namedColumns s σ) ≡ b → Each
       pick true u = absurd (false≢true (sym e ∙ ap (λ (b : Bool). b || not (namesAll s σ c && completable s D (namedColumns s σ) (sumsRead s D f))) u))
-      pick false u =
-          (u, and-eq-true-iff (namesAll s σ c) (completable s D (namedColumns s σ) (sumsRead s D f)) .0
-          (no-fail _ (sym (ap (λ (b : Bool). b || not (namesAll s σ c && completable s D (namedColumns s σ) (sumsRead s D f))) u) ∙ e)))
+      pick false u = (
+        u,
+        and-eq-true-iff (namesAll s σ c) (completable s D (namedColumns s σ) (sumsRead s D f)) .0
+            (no-fail _ (sym (ap (λ (b : Bool). b || not (namesAll s σ c && completable s D (namedColumns s σ) (sumsRead s D f))) u) ∙ e)),
+      )
 
   -- a legal frame lies at the distance c exactly where it does not fail
   pub legal-there : isShape s ≡ true → WellFormedRead s D f → aloneOf (readSequences s D f) ≡ true

@@ -93,50 +93,50 @@ module _ (s : Shape) (words new f : List ℕ) where
 module _ (s : Shape) (words new f old taps left cells : List ℕ) (r : Answered)
     (located : (a : Arrays) (g : List ℕ) →
     answeredOutcome r (withFound a (after (r .reply) (a .sums) new) left (after (r .reply) (a .declared) words)) g ≡ fromSums s (withTaps a taps) words new g)
-    where
-  -- beside the arrays as they were lent, by what the reply is
-  replied : (a : Arrays) (x : Reply) → r .reply ≡ x → answeredOutcome r (withFound a (after x old new) left (after x cells words)) f
-      ≡ fromSums s (withFound a old taps cells) words new f
-  replied a x e = ap (λ y. answeredOutcome r (withFound a (after y old new) left (after y cells words)) f) (sym e) ∙ located (withRead a old cells) f
+  where
+    -- beside the arrays as they were lent, by what the reply is
+    replied : (a : Arrays) (x : Reply) → r .reply ≡ x → answeredOutcome r (withFound a (after x old new) left (after x cells words)) f
+        ≡ fromSums s (withFound a old taps cells) words new f
+    replied a x e = ap (λ y. answeredOutcome r (withFound a (after y old new) left (after y cells words)) f) (sym e) ∙ located (withRead a old cells) f
 
-  -- no columns
-  pub not-counted : (a : Arrays) (x : Reply) → r .reply ≡ x → ((c : ℕ) → replyAnswer x ≡ columns c → ⊥)
-      → answeredOutcome r (withFound a (after x old new) left (after x cells words)) f ≡ seenFrom s (withFound a old taps cells) words new f
-  not-counted a x e none =
-      replied a x e ∙ same-refusal s words new f (withFound a old taps cells)
-      (λ c columns-answered. none c (ap replyAnswer (sym e) ∙ ap (λ (o : Outcome). o .answer) (replied a x e) ∙ columns-answered))
+    -- no columns
+    pub not-counted : (a : Arrays) (x : Reply) → r .reply ≡ x → ((c : ℕ) → replyAnswer x ≡ columns c → ⊥)
+        → answeredOutcome r (withFound a (after x old new) left (after x cells words)) f ≡ seenFrom s (withFound a old taps cells) words new f
+    not-counted a x e none =
+        replied a x e ∙ same-refusal s words new f (withFound a old taps cells)
+        (λ c columns-answered. none c (ap replyAnswer (sym e) ∙ ap (λ (o : Outcome). o .answer) (replied a x e) ∙ columns-answered))
 
-  module _ (c : ℕ) (e : r .reply ≡ Count c) (a : Arrays) where
-    tests-pass : Pass (registerTests s (declaredBy words) (heldSequences s new) unseen)
-    tests-pass =
-        passes s words new f (withFound a old taps cells) c (sym (ap (λ (o : Outcome). o .answer) (replied a (Count c) e)) ∙ ap replyAnswer e)
+    module _ (c : ℕ) (e : r .reply ≡ Count c) (a : Arrays) where
+      tests-pass : Pass (registerTests s (declaredBy words) (heldSequences s new) unseen)
+      tests-pass =
+          passes s words new f (withFound a old taps cells) c (sym (ap (λ (o : Outcome). o .answer) (replied a (Count c) e)) ∙ ap replyAnswer e)
 
-    -- the columns answered are those named
-    named-so : r .columns ≡ M s words new f
-    named-so =
-        ap (λ (o : Outcome). o .marks) (replied a (Count c) e)
-        ∙ ap (λ (o : Outcome). o .marks) (sums-given s words new f (withFound a old taps cells) tests-pass)
+      -- the columns answered are those named
+      named-so : r .columns ≡ M s words new f
+      named-so =
+          ap (λ (o : Outcome). o .marks) (replied a (Count c) e)
+          ∙ ap (λ (o : Outcome). o .marks) (sums-given s words new f (withFound a old taps cells) tests-pass)
 
-    pub counted-mendable : {none : Bool} → Seeable s none words new f → Mendable s words (r .columns) f
-    counted-mendable seeable =
-        let shape = seeable .locatable .shape in
-        subst⁻¹ (λ (J : Columns). Mendable s words J f) named-so
-        (record {
-          shape = shape;
-          whole = seeable .whole;
-          small = seeable .small;
-          below = named-below s _;
-          declarable = seeable .locatable .declarable;
-          reach = reach s words new f shape tests-pass;
-        })
+      pub counted-mendable : {none : Bool} → Seeable s none words new f → Mendable s words (r .columns) f
+      counted-mendable seeable =
+          let shape = seeable .locatable .shape in
+          subst⁻¹ (λ (J : Columns). Mendable s words J f) named-so
+          (record {
+            shape = shape;
+            whole = seeable .whole;
+            small = seeable .small;
+            below = named-below s _;
+            declarable = seeable .locatable .declarable;
+            reach = reach s words new f shape tests-pass;
+          })
 
-    module _ (b : Bool) (judged : b ≡ mendsUniform s (declaredBy words) f (r .columns)) where
-      seen : mendsUniform s (declaredBy words) f (M s words new f) ≡ b
-      seen = sym (judged ∙ ap (mendsUniform s (declaredBy words) f) named-so)
+      module _ (b : Bool) (judged : b ≡ mendsUniform s (declaredBy words) f (r .columns)) where
+        seen : mendsUniform s (declaredBy words) f (M s words new f) ≡ b
+        seen = sym (judged ∙ ap (mendsUniform s (declaredBy words) f) named-so)
 
-      pub counted-uniform : b ≡ true → refusing (shapedJob s (withFound a old taps cells)) f 26 ≡ seenFrom s (withFound a old taps cells) words new f
-      counted-uniform t = seen-uniform s words new f (withFound a old taps cells) tests-pass (seen ∙ t)
+        pub counted-uniform : b ≡ true → refusing (shapedJob s (withFound a old taps cells)) f 26 ≡ seenFrom s (withFound a old taps cells) words new f
+        counted-uniform t = seen-uniform s words new f (withFound a old taps cells) tests-pass (seen ∙ t)
 
-      pub counted-mixed : b ≡ false
-          → answeredOutcome r (withFound a new left words) f ≡ seenFrom s (withFound a old taps cells) words new f
-      counted-mixed n = replied a (Count c) e ∙ seen-mixed s words new f (withFound a old taps cells) tests-pass (seen ∙ n)
+        pub counted-mixed : b ≡ false
+            → answeredOutcome r (withFound a new left words) f ≡ seenFrom s (withFound a old taps cells) words new f
+        counted-mixed n = replied a (Count c) e ∙ seen-mixed s words new f (withFound a old taps cells) tests-pass (seen ∙ n)
