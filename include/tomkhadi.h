@@ -16,15 +16,16 @@
  *   tomkhadi_step     wants a job that is unfinished, and makes one slice; the job is still unfinished, or located after the last step
  *   tomkhadi_peek     wants a job that is unfinished, and tells how long the register is so far; the job is as it was
  *   tomkhadi_repair   wants a job that is located, and a frame with the check sums of the frame that it is located by, and mends it; the job is shaped
- * A refused call writes nothing to what is lent and leaves the job as it was, but that locate and step refused by 24, 25 or 26 leave it shaped. So between a
- * locate and its repair there may be encodes, and calls that are refused by other numbers.
+ * A refused call writes nothing to what is lent and leaves the job as it was, but that locate and step refused by 24, 25 or 26, and repair refused by 26,
+ * leave it shaped. So between a locate and its repair there may be encodes, and calls that are refused by other numbers.
  *
  * Locating in slices is for a caller that can spare little at a time. The start copies the check sums, and the frame is not read again before the repair. It
  * takes exactly N x rows steps, N being the longest sequence: the largest number of checks that a row has, less its declared cells. All steps but the last
- * answer that the locate is unfinished, and the last one answers and leaves what a locate of the copied sums would have. A peek after n finished rounds, which
- * is n x rows steps and up to the next, tells the length of the shortest register for the sequences without their last N - n symbols, empty where they have
- * no more. An unfinished job counts as shaped: encode takes it, repair is refused by 22, and shape, locate or another start drops what is unfinished, unless
- * a refusal leaves the job as it was.
+ * answer that the locate is unfinished, and the last one answers and leaves what a locate of the copied sums would have: what locate of the frame would have,
+ * but that sums do not show cells. Where the only codeword at the distance found is uniform, locate is refused by 26 and the last step is not; there, and
+ * nowhere else, a repair of the frame started is refused, by 26. A peek after n finished rounds, which is n x rows steps and up to the next, tells the length
+ * of the shortest register for the sequences without their last N - n symbols, empty where they have no more. An unfinished job counts as shaped: encode takes
+ * it, repair is refused by 22, and shape, locate or another start drops what is unfinished, unless a refusal leaves the job as it was.
  *
  * A dispatcher is for one processor with eight heads. It has eight jobs, 0 to 7, each with all the calls above but the first (tomkhadi_dispatcher_shape and so
  * on, with the number of the job; tomkhadi_dispatcher_empty makes all eight empty), and the turn: tomkhadi_dispatcher_turn makes one step of the next
@@ -36,8 +37,13 @@
  * Two calls take no job: tomkhadi_find finds the shortest register of any sequences, and tomkhadi_search the columns that the taps of a register name.
  *
  * A shape has an exponent, 0 to 255, that of the locators in the first check sum: column i has the locator 3^i, and check sum j of a row, j = 1 up to its
- * check count, is the sum over i of its symbol at column i times 3^(i*(exponent + j - 1)), modulo 257. A frame is legal where all of them are 0. Exponent 1 is
- * what shapes meant before there was a choice. A frame that is legal for one exponent seldom is for another, so both ends of a link need the same.
+ * check count, is the sum over i of its symbol at column i times 3^(i*(exponent + j - 1)), modulo 257. A frame is a codeword where all of them are 0. Exponent
+ * 1 is what shapes meant before there was a choice. A codeword for one exponent seldom is one for another, so both ends of a link need the same.
+ *
+ * A frame is uniform where all its symbols are one and the same, as a broken cable delivers them, and legal where it is a codeword and not uniform: a frame of
+ * zeros is not legal. Encode is refused by 34 where the only codeword with the data is uniform. Locate is refused by 26 where the frame that repair would
+ * leave, the declared cells filled, is uniform, also where no column is damaged; and so is repair, which may follow slices, or be lent a frame that shares only
+ * its check sums with the one located. A repair of the very frame that was lent to locate is never refused so.
  *
  * Declared cells are known to be lost: locate and repair read them as 0 whatever they hold, and repair fills them too. Each row has 256 marks, in the form of
  * an answer's: bit b of word 4*h + w declares column 64*w + b of the row at place h. Places count from 0, like those of the check counts lent to shape; the
@@ -65,13 +71,15 @@
  *    8  the tap buffer has fewer entries than the longest length plus 1
  *   31  more declared cells than checks in a row, or a mark past the last column or row
  *   32  the exponent is above 255
+ *   34  encode: the only codeword with the data is uniform
  * Refusals because of the state of the job
  *   21  the job is empty
  *   22  repair of a job that is not located
  *   23  repair of a frame whose check sums differ from those located
  *   24  locate, and the last step of one in slices, as in 25 and 26: the shortest register is not alone
  *   25  locate: it is alone, and some row has fewer checks, less its declared cells, than its length
- *   26  locate: neither of these, and no legal frame lies at a distance of that length, counted in columns that differ in cells not declared
+ *   26  locate: neither of these, and no legal frame lies at a distance of that length, counted in columns that differ in cells not declared; the last step:
+ *       no codeword lies there; repair: the check sums are those located, and the frame that it would leave is uniform
  *   33  step or peek of a job that is not unfinished; a dispatcher: the number of the job is above 7, or, of a turn, no job is unfinished
  */
 #ifndef TOMKHADI_H
@@ -207,7 +215,8 @@ static inline uint32_t tomkhadi_shape(tomkhadi_job *job, size_t columns, const u
   return shaped.refusal;
 }
 
-/* Fills the check cells of a frame from its data cells. Leaves the job as it is. Answers the refusal or 0. Refusals: 21, 7, 4. */
+/* Fills the check cells of a frame from its data cells, unless that would make it uniform. Leaves the job as it is. Answers the refusal or 0. Refusals: 21, 7,
+ * 4, 34. */
 static inline uint32_t tomkhadi_encode(const tomkhadi_job *job, uint16_t *frame, size_t size) {
   return tomkhadi_head_encode(job->head, frame, size);
 }
@@ -221,8 +230,8 @@ static inline tomkhadi_answer tomkhadi_locate(tomkhadi_job *job, const uint64_t 
 }
 
 /* Mends the located columns of a frame, and the cells declared to locate. The frame must have the check sums of the frame located, both read with these cells
- * as 0. Leaves the job shaped; refused, as it was. Answers the number of columns mended, and the columns, those of declared cells not among them where no
- * other cell of theirs is mended. Refusals: 21, 22, 7, 4, 23. */
+ * as 0. Leaves the job shaped, refused by 26 too; refused by another number, as it was. Answers the number of columns mended, and the columns, those of
+ * declared cells not among them where no other cell of theirs is mended. Refusals: 21, 22, 7, 4, 23, 26. */
 static inline tomkhadi_answer tomkhadi_repair(tomkhadi_job *job, uint16_t *frame, size_t size) {
   tomkhadi_head_answered repaired = tomkhadi_head_repair(job->head, job->sums, job->declared, frame, size);
   job->head = repaired.head;
@@ -230,8 +239,8 @@ static inline tomkhadi_answer tomkhadi_repair(tomkhadi_job *job, uint16_t *frame
 }
 
 /* Begins to find the damaged columns of a frame in slices. It only reads frame and declared cells, as locate does, and neither is read again by a step. Leaves
- * the job unfinished; where no sequence has a symbol, which is where each row has as many declared cells as checks, it does what locate does. Answers that it
- * is unfinished, or what locate answers. Refusals: 21, 7, 31, 4. */
+ * the job unfinished; where no sequence has a symbol, which is where each row has as many declared cells as checks, it does what a locate of the sums does.
+ * Answers that it is unfinished, or what that locate answers. Refusals: 21, 7, 31, 4. */
 static inline tomkhadi_answer tomkhadi_start(tomkhadi_job *job, const uint64_t declared[32], const uint16_t *frame, size_t size) {
   tomkhadi_head_answered started =
       tomkhadi_head_start(job->head, job->sums, job->taps, job->declared, job->counts, job->lengths, job->symbols, job->places, job->sizes, job->discs,
@@ -240,9 +249,9 @@ static inline tomkhadi_answer tomkhadi_start(tomkhadi_job *job, const uint64_t d
   return started.answer;
 }
 
-/* Makes the next step of what is unfinished. Leaves the job unfinished; the last step, located; refused by 24, 25 or 26, shaped. Answers that it is
- * unfinished; the last step, what locate answers. Refusals: 21, 33, 24, 25, 26. The head of a job that stays unfinished is as it was, unless it has marks that
- * no call left, and need not be stored. */
+/* Makes the next step of what is unfinished. Leaves the job unfinished; the last step, located; refused by 24, 25 or 26, shaped. Answers that it is unfinished;
+ * the last step, what a locate of the sums answers. Refusals: 21, 33, 24, 25, 26. The head of a job that stays unfinished is as it was, unless it has marks
+ * that no call left, and need not be stored. */
 static inline tomkhadi_answer tomkhadi_step(tomkhadi_job *job) {
   tomkhadi_head_answered stepped =
       tomkhadi_head_step(job->head, job->sums, job->taps, job->declared, job->counts, job->lengths, job->symbols, job->places, job->sizes, job->discs,

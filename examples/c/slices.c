@@ -25,7 +25,8 @@ static int refused(const char *call, uint32_t number) {
   return number != 0;
 }
 
-/* Makes the steps of a tick. Each answers that the locate is unfinished, but the last one, which answers what locate would. */
+/* Makes the steps of a tick. Each answers that the locate is unfinished, but the last one, which answers what locate would; only that no step sees a cell, so
+ * that a dead line is refused by the repair. */
 static tomkhadi_answer tick(tomkhadi_job *job) {
   tomkhadi_answer answer = tomkhadi_step(job);
   for (int made = 1; made < STEPS_IN_TICK && answer.unfinished; made++) answer = tomkhadi_step(job);
