@@ -35,8 +35,8 @@ pub data Example : Type 0 where
   declared :
       (n : ℕ) (checks : List ℕ) (b : ℕ) (words f : List ℕ) (sums sequences : List (List ℕ)) (c : ℕ) (taps : List ℕ) (alone : Bool) (said : Calls.Answer)
       (marked left : List ℕ) → Example
-  -- columns, check counts, exponent and frame; the frame that encode leaves
-  encoded : (n : ℕ) (checks : List ℕ) (b : ℕ) (f left : List ℕ) → Example
+  -- columns, check counts, exponent and frame; what encode answers, and the frame that it leaves
+  encoded : (n : ℕ) (checks : List ℕ) (b : ℕ) (f : List ℕ) (said : Calls.Answer) (left : List ℕ) → Example
 
 unfoldable pub lengthOf : Finder.Answer → ℕ
 lengthOf (Finder.register l a) = l
@@ -59,8 +59,9 @@ computed (declared n checks b words f sums ss c taps alone said marked left) =
     let o : Outcome = step (step (emptyJob noArrays) (Calls.shape n checks b) .job) (Calls.locate words f) in
     declared n checks b words f (sumsRead s D f) xs (sizeOf xs) (tapsOf xs) (aloneOf xs) (o .answer) (members (o .marks))
     (step (o .job) (Calls.repair f) .frame)
-computed (encoded n checks b f left) =
-    encoded n checks b f (step (step (emptyJob noArrays) (Calls.shape n checks b) .job) (Calls.encode f) .frame)
+computed (encoded n checks b f said left) =
+    let o : Outcome = step (step (emptyJob noArrays) (Calls.shape n checks b) .job) (Calls.encode f) in
+    encoded n checks b f (o .answer) (o .frame)
 
 unfoldable pub table : List Example
 table =
@@ -108,15 +109,15 @@ table =
     frame 6 (4 ∷ 1 ∷ []) 1 (1 ∷ 1 ∷ 0 ∷ 0 ∷ 0 ∷ 0 ∷ 0 ∷ 0 ∷ 0 ∷ 0 ∷ 0 ∷ 0 ∷ []) ((4 ∷ 10 ∷ 28 ∷ 82 ∷ []) ∷ (0 ∷ []) ∷ []) 2
     (1 ∷ 253 ∷ 3 ∷ []) true (Calls.refused 25) [] ∷
     -- K
-    encoded 3 (1 ∷ []) 1 (0 ∷ 1 ∷ 1 ∷ []) (245 ∷ 1 ∷ 1 ∷ []) ∷
+    encoded 3 (1 ∷ []) 1 (0 ∷ 1 ∷ 1 ∷ []) Calls.done (245 ∷ 1 ∷ 1 ∷ []) ∷
     -- data of which the only codeword is uniform: nothing is written
-    encoded 4 (1 ∷ 1 ∷ []) 64 (0 ∷ 5 ∷ 5 ∷ 5 ∷ 0 ∷ 5 ∷ 5 ∷ 5 ∷ []) (0 ∷ 5 ∷ 5 ∷ 5 ∷ 0 ∷ 5 ∷ 5 ∷ 5 ∷ []) ∷
+    encoded 4 (1 ∷ 1 ∷ []) 64 (0 ∷ 5 ∷ 5 ∷ 5 ∷ 0 ∷ 5 ∷ 5 ∷ 5 ∷ []) (Calls.refused 34) (0 ∷ 5 ∷ 5 ∷ 5 ∷ 0 ∷ 5 ∷ 5 ∷ 5 ∷ []) ∷
     -- of one row, two columns and one check all data are so where the check sums begin at the exponent 128
-    encoded 2 (1 ∷ []) 128 (0 ∷ 3 ∷ []) (0 ∷ 3 ∷ []) ∷
+    encoded 2 (1 ∷ []) 128 (0 ∷ 3 ∷ []) (Calls.refused 34) (0 ∷ 3 ∷ []) ∷
     -- the damage of G, and K, with check sums that begin at another exponent
     frame 4 (3 ∷ 2 ∷ []) 0 (230 ∷ 39 ∷ 249 ∷ 1 ∷ 42 ∷ 210 ∷ 9 ∷ 3 ∷ []) ((5 ∷ 45 ∷ 148 ∷ []) ∷ (7 ∷ 63 ∷ []) ∷ []) 1
     (1 ∷ 248 ∷ []) true (Calls.columns 1) (2 ∷ []) ∷
-    encoded 3 (1 ∷ []) 255 (0 ∷ 1 ∷ 1 ∷ []) (228 ∷ 1 ∷ 1 ∷ []) ∷
+    encoded 3 (1 ∷ []) 255 (0 ∷ 1 ∷ 1 ∷ []) Calls.done (228 ∷ 1 ∷ 1 ∷ []) ∷
     -- one row of 256 columns, damaged in column 64, the first of a word of marks, and in the last one
     frame 256 (4 ∷ []) 1 (196 ∷ 138 ∷ 169 ∷ 137 ∷ 1 ∷ (replicate 59 0 ++ (1 ∷ (replicate 190 0 ++ (3 ∷ [])))))
     ((242 ∷ 85 ∷ 216 ∷ 239 ∷ []) ∷ []) 2 (1 ∷ 187 ∷ 166 ∷ []) true (Calls.columns 2) (64 ∷ 255 ∷ []) ∷

@@ -4,15 +4,13 @@ use mathlib.Core.Logic.{_⊎_, inl, inr}
 use mathlib.Core.Bool.{true, false}
 use mathlib.Core.List.{List}
 use Prim.Native.Nat.{ℕ, _*_, _<_}
-use native.Mathlib.Decide.{decLt, ℕ-discrete}
-use native.Mathlib.Omega.{arith}
 use lib.ListN.{length}
 use Rattle.columns.specs.Columns.{has}
 use Rattle.columns.proofs.Listing.{by-test}
 use Rattle.refusal.proofs.Orders.{outcome-in-turn, outcome-refused, passed-pass}
 use Rattle.frame.proofs.Declarable.{read-says}
 use Rattle.frame.proofs.Distances.{agree, row-of-difference}
-use Rattle.frame.proofs.EncodeReasons.{encode-says, encode-passes}
+use Rattle.frame.proofs.EncodeReasons.{encode-says, encode-passes, encode-uniform}
 use Rattle.frame.proofs.ReadFrames.{length-read, read-declared, read-kept}
 use Rattle.frame.proofs.Reasons.{shape-says, frame-says}
 use Rattle.frame.specs.DeclaredCells.{Declared, asRead, readTests, readReasons, differsRead, DiffersAt, Reading}
@@ -30,7 +28,7 @@ demand-1 = record {
 }
 
 pub demand-2 : Demand2
-demand-2 s f shape pass = encode-passes s f shape (passed-pass (encodeTests s f) pass)
+demand-2 = record { encodes = λ s f shape pass. encode-passes s f shape (passed-pass (encodeTests s f) pass); uniform = λ s f. encode-uniform s f }
 
 -- a column of the frames as read differs exactly where an undeclared cell of it does
 module _ (s : Shape) (D : Declared) (f g : List ℕ) (whole : length f ≡ s .rows * s .columns) (sized : length g ≡ s .rows * s .columns) (i : ℕ)

@@ -8,7 +8,7 @@ use Prim.Native.Nat.{ℕ, _*_, _≤_, _<_}
 use lib.ListN.{length, getD}
 use Rattle.refusal.specs.Order.{Reason, First}
 use Rattle.refusal.specs.Outcome.{outcome, passed, refused}
-use Rattle.frame.specs.Encode.{encoded, encodeTests, SameData, OnlyLegal}
+use Rattle.frame.specs.Encode.{encoded, encodeTests, SameData, OnlyLegal, OnlyUniform}
 use Rattle.frame.specs.Frame.{cell, frameTests, Legal}
 use Rattle.frame.specs.Shape.{checksOf, isShape, shapeTests}
 use Rattle.frame.specs.declared.Shape.{Shape}
@@ -44,12 +44,12 @@ dataReason s f =
           (h : ℕ) × (i : ℕ) × (h < s .rows) × (checksOf s h ≤ i) × (i < s .columns) × (257 ≤ cell (s .columns) f h i);
     }
 
--- no legal frame has the data: the only codeword that has them is uniform
-abbrev pub uniformReason : Shape → (f : List ℕ) → Reason
-uniformReason s f = record { number = 34; holds = (g : List ℕ) → Legal s g → SameData s f g → ⊥ }
+-- no legal frame has the data
+abbrev pub noLegalReason : Shape → (f : List ℕ) → Reason
+noLegalReason s f = record { number = 34; holds = (g : List ℕ) → Legal s g → SameData s f g → ⊥ }
 
 abbrev pub encodeReasons : Shape → (f : List ℕ) → List Reason
-encodeReasons s f = sizeReason s f ∷ dataReason s f ∷ uniformReason s f ∷ []
+encodeReasons s f = sizeReason s f ∷ dataReason s f ∷ noLegalReason s f ∷ []
 
 abbrev pub symbolsReason : (f : List ℕ) → Reason
 symbolsReason f = record { number = 4; holds = (k : ℕ) × (k < length f) × (257 ≤ getD f k 0) }
@@ -65,5 +65,6 @@ pub record Demand1 : Type 0 where
   pub frame : (s : Shape) (f : List ℕ) (k : ℕ) → (outcome (frameTests s f) ≡ refused k) ↔ First k (frameReasons s f)
 
 -- Demand 2 of the encoder
-abbrev pub Demand2 : Type 0
-Demand2 = (s : Shape) (f : List ℕ) → isShape s ≡ true → outcome (encodeTests s f) ≡ passed → OnlyLegal s f (encoded s f)
+pub record Demand2 : Type 0 where
+  pub encodes : (s : Shape) (f : List ℕ) → isShape s ≡ true → outcome (encodeTests s f) ≡ passed → OnlyLegal s f (encoded s f)
+  pub uniform : (s : Shape) (f : List ℕ) → isShape s ≡ true → outcome (encodeTests s f) ≡ refused 34 → OnlyUniform s f (encoded s f)

@@ -10,7 +10,7 @@ use Rattle.lists.specs.Parts.{replaced}
 use Rattle.lists.specs.Tabulate.{every}
 use Rattle.refusal.specs.Order.{Test}
 use Rattle.frame.specs.Completion.{completed}
-use Rattle.frame.specs.Frame.{row, cell, Legal, uniform}
+use Rattle.frame.specs.Frame.{row, cell, Coded, Varied, Legal, uniform}
 use Rattle.frame.specs.Shape.{checksOf}
 use Rattle.frame.specs.declared.Shape.{Shape}
 
@@ -45,8 +45,15 @@ abbrev pub SameData : Shape → (f g : List ℕ) → Type 0
 SameData s f g =
     (h i : ℕ) → h < s .rows → checksOf s h ≤ i → i < s .columns → cell (s .columns) f h i ≡ cell (s .columns) g h i
 
--- Demand 2 of the encoder: what it leaves is legal, has the data given, and is the only such frame.
+-- Demand 2 of the encoder: what it leaves is legal, has the data given, and is the only codeword that has them, so the only legal frame.
 pub record OnlyLegal (s : Shape) (f e : List ℕ) : Type 0 where
   pub legal : Legal s e
   pub same-data : SameData s f e
-  pub only : (g : List ℕ) → Legal s g → SameData s f g → g ≡ e
+  pub only : (g : List ℕ) → Coded s g → SameData s f g → g ≡ e
+
+-- Where it refuses by 34: one codeword has the data given, and it is uniform.
+pub record OnlyUniform (s : Shape) (f e : List ℕ) : Type 0 where
+  pub coded : Coded s e
+  pub same-data : SameData s f e
+  pub only : (g : List ℕ) → Coded s g → SameData s f g → g ≡ e
+  pub not-varied : Varied e → ⊥

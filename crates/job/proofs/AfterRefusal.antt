@@ -71,7 +71,7 @@ same-number e = cc
 pub never-columns : {c k : ℕ} → columns c ≡ refused k → ⊥
 never-columns e = let z : _≡_ {A = ℕ} 0 1 = cc in omega arith
 
-never-done : {k : ℕ} → done ≡ refused k → ⊥
+pub never-done : {k : ℕ} → done ≡ refused k → ⊥
 never-done e = let z : _≡_ {A = ℕ} 0 1 = cc in omega arith
 
 never-shortest : {l k : ℕ} → shortest l ≡ refused k → ⊥

@@ -3,7 +3,8 @@
 use mathlib.Core.Path.{_≡_, refl, sym, ap, subst, subst⁻¹, _∙_}
 use mathlib.Core.Logic.{_⊎_, inl, inr}
 use mathlib.Core.Bool.{Bool, true, false, cond, false≢true}
-use mathlib.Core.List.{List, [], _∷_}
+use mathlib.Core.List.{List}
+use mathlib.Core.Option.{some}
 use Prim.Native.Nat.{ℕ}
 use native.Mathlib.Omega.{arith}
 use Rattle.columns.specs.declared.Columns.{Columns}
@@ -13,7 +14,7 @@ use Rattle.decoding.specs.Remaining.{allRemaining, readSequences, mended}
 use Rattle.decoding.proofs.MendedFrame.{Read, read-facts}
 use Rattle.decoding.proofs.SoleNearest.{mended-coded, mended-distance, nearest-only}
 use Rattle.frame.specs.DeclaredCells.{Declared, declaredBy, asRead}
-use Rattle.frame.specs.Frame.{heldSums, heldSequences}
+use Rattle.frame.specs.Frame.{Coded, heldSums, heldSequences}
 use Rattle.frame.specs.Shape.{isShape}
 use Rattle.frame.specs.declared.Shape.{Shape}
 use Rattle.frame.proofs.Declarable.{read-passes}
@@ -21,15 +22,18 @@ use Rattle.frame.proofs.HeldSums.{held-sequences}
 use Rattle.frame.proofs.Uniform.{varied-says}
 use Rattle.refusal.specs.Order.{firstOf}
 use Rattle.refusal.proofs.Orders.{Pass, pass-otherwise, fails-or-passes}
-use Rattle.job.specs.Calls.{locate, columns, refused, Outcome, refusing, mendsUniform, unseen, registerTests, locates, locating, step, bySums}
-use Rattle.job.specs.Job.{Arrays, Job, shapedJob}
-use Rattle.job.specs.Runs.{run, IsRefused, Taken}
-use Rattle.job.specs.Slices.{OnlyUniform, LikeLocate, BySums}
+use Rattle.job.specs.Calls.{locate, columns, refused, Outcome, refusing, mendsUniform, unseen, registerTests, locating, step, bySums}
+use Rattle.job.specs.Demands.{FoundAs}
+use Rattle.job.specs.Job.{Job, shapedJob}
+use Rattle.job.specs.Runs.{run, lastShape, IsRefused, Taken}
+use Rattle.job.specs.Slices.{UniformAt, LikeLocate, BySums, BySumsFinds}
 use Rattle.job.proofs.AfterRefusal.{never-columns}
+use Rattle.job.proofs.Cases.{by-carried}
 use Rattle.job.proofs.Emptiness.{has-shape}
 use Rattle.job.proofs.Forms.{Locates, register-passes}
 use Rattle.job.proofs.Seen.{seen-order}
-use Rattle.job.proofs.Soundness.{shape-held}
+use Rattle.job.proofs.Locating.{found-coded}
+use Rattle.job.proofs.Soundness.{holds-last-shape, not-empty-held, shape-held}
 
 module _ (j : Job) (words f : List ℕ) where
   abbrev s : Shape
@@ -58,7 +62,7 @@ module _ (j : Job) (words f : List ℕ) where
   unfolding step
   locate-after = ap (firstOf (refusing j f) (locating j words f unseen .keeping)) (seen-order s D S (mendsUniform s D f) shaped given)
 
-  pub data Beside : Type 0 where
+  data Beside : Type 0 where
     same : bySums j words f ≡ step j (locate words f) → Beside
     apart : Pass (locating j words f unseen .keeping) → Pass (registerTests s D S unseen) → mendsUniform s D f M ≡ true
         → bySums j words f ≡ locating j words f unseen .gives → step j (locate words f) ≡ refusing (shapedJob s (j .arrays)) f 26 → Beside
@@ -84,9 +88,9 @@ module _ (j : Job) (words f : List ℕ) where
           ∙ pass-otherwise (refusing j f) _ (locating j words f unseen .keeping) p ∙ pass-otherwise shaped (shaped 26) (registerTests s D S unseen) q)
 
   only-uniform : Pass (locating j words f unseen .keeping) → Pass (registerTests s D S unseen) → mendsUniform s D f M ≡ true
-      → OnlyUniform s D f (sizeOf (allRemaining s D S))
+      → UniformAt s D f (sizeOf (allRemaining s D S))
   only-uniform p q one =
-      subst⁻¹ (λ X. OnlyUniform s D f (sizeOf (allRemaining s D X))) (held-sequences s (asRead s D f)) (
+      subst⁻¹ (λ X. UniformAt s D f (sizeOf (allRemaining s D X))) (held-sequences s (asRead s D f)) (
         mended s D (namedColumns s (tapsOf ss)) f,
         mended-coded s t D f read (l .names) (l .fits),
         mended-distance s t D f read (l .names) (l .fits),
@@ -111,23 +115,36 @@ module _ (j : Job) (words f : List ℕ) where
 
   like : Beside → ((Taken (step j (locate words f)) → bySums j words f ≡ step j (locate words f))
       × (IsRefused (bySums j words f) → bySums j words f ≡ step j (locate words f))
-      × ((c : ℕ) → bySums j words f .answer ≡ columns c → IsRefused (step j (locate words f))
-      → (step j (locate words f) .answer ≡ refused 26) × OnlyUniform s D f c))
-  like (same e) = (λ t. e, λ r. e, λ c answer (k, refusal). absurd (never-columns (sym answer ∙ ap (λ (o : Outcome). o .answer) e ∙ refusal)))
+      × (Taken (bySums j words f) → IsRefused (step j (locate words f))
+      → (c : ℕ) × (bySums j words f .answer ≡ columns c) × (step j (locate words f) .answer ≡ refused 26) × UniformAt s D f c))
+  like (same e) = (λ t. e, λ r. e, λ taken (k, refusal). absurd (taken (k, ap (λ (o : Outcome). o .answer) e ∙ refusal)))
   like (apart p q one sums sees) = (
     λ taken. absurd (taken (26, ap (λ (o : Outcome). o .answer) sees)),
     λ (k, refusal). absurd (never-columns (sym (ap (λ (o : Outcome). o .answer) sums) ∙ refusal)),
-    λ c answer refusal. (
+    λ taken refusal. (
+      sizeOf (allRemaining s D S),
+      ap (λ (o : Outcome). o .answer) sums,
       ap (λ (o : Outcome). o .answer) sees,
-      subst (OnlyUniform s D f) (same-count (sym (ap (λ (o : Outcome). o .answer) sums) ∙ answer)) (only-uniform p q one),
+      only-uniform p q one,
     ),
   )
-    where
-      same-count : {m n : ℕ} → columns m ≡ columns n → m ≡ n
-      same-count e = cc
 
 pub by-sums : BySums
 by-sums a before s words f last =
     subst (λ (x : Shape). LikeLocate a before x words f) (shape-held a before s last .1)
     (let (taken, refusal, two) = like (run a before) words f (beside (run a before) words f) in
     record { where-taken = taken; where-refused = refusal; where-apart = two })
+
+pub by-sums-finds : BySumsFinds
+unfolding bySums
+by-sums-finds a calls words f =
+    let j : Job = run a calls in
+    by-carried j (locating j words f unseen)
+    (λ o. Taken o → (s : Shape) × (c : ℕ) × (lastShape calls ≡ some s) × (o .answer ≡ columns c) × FoundAs (Coded s) s words f c o)
+    (λ k m taken. absurd (taken (k, refl))) (λ k p m taken. absurd (taken (k, refl))) (λ (e, p) q taken. (
+      j .head .shape,
+      _,
+      sym (holds-last-shape a calls) ∙ not-empty-held j e,
+      refl,
+      found-coded j words f e p unseen q,
+    ))

@@ -7,7 +7,7 @@ use Rattle.job.specs.Calls.{Call, Outcome, Described, refusing, carriedO
 use Rattle.job.specs.Job.{Job, shapedJob}
 
 module _ (j : Job) (d : Described) where
-  by-carried : (P : Outcome → Type 0) → ((k : ℕ) → Among k (d .keeping) → P (refusing j (d .lent) k))
+  pub by-carried : (P : Outcome → Type 0) → ((k : ℕ) → Among k (d .keeping) → P (refusing j (d .lent) k))
       → ((k : ℕ) → Pass (d .keeping) → Among k (d .shaping) → P (refusing (shapedJob (j .head .shape) (d .beside)) (d .lent) k))
       → (Pass (d .keeping) → Pass (d .shaping) → P (d .gives)) → P (carriedOut j d)
   by-carried P kept shaped given =

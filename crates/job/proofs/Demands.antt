@@ -1,10 +1,12 @@
 -- Demands 2 and 3, about every list of calls on one job from an empty one.
 use mathlib.Core.Path.{_≡_, refl, sym, ap, subst, subst⁻¹, _∙_}
 use mathlib.Core.Logic.{_⊎_, inl, inr, _↔_}
-use mathlib.Core.Bool.{Bool, true, false, and-eq-true-iff}
+use mathlib.Core.Bool.{Bool, true, false, cond, and-eq-true-iff}
 use mathlib.Core.List.{List, [], _∷_, _++_, append-assoc}
 use mathlib.Core.Option.{some}
 use Prim.Native.Nat.{ℕ, _+_, _*_, _≤_, _<_}
+use native.Mathlib.Omega.{arith}
+use Rattle.columns.proofs.Listing.{by-test}
 use Rattle.decoding.specs.Locating.{sizeOf, tapsOf}
 use Rattle.decoding.specs.Remaining.{readSequences}
 use Rattle.decoding.proofs.LegalNearest.{legal-mixed}
@@ -12,23 +14,24 @@ use Rattle.decoding.proofs.MendedFrame.{read-facts}
 use Rattle.decoding.proofs.Recovery.{Recovers, recovers-twice}
 use Rattle.decoding.proofs.SequenceRegister.{register-of, same-size}
 use Rattle.frame.specs.DeclaredCells.{Declared, declaredBy, checksLeft, erasures, WellFormedRead, distanceRead}
-use Rattle.frame.specs.Encode.{encodeTests}
+use Rattle.frame.specs.Encode.{encoded, encodeTests, OnlyUniform}
 use Rattle.frame.specs.Frame.{Legal, uniform}
 use Rattle.frame.specs.Shape.{checksOf, isShape, shapeOf}
 use Rattle.frame.specs.declared.Shape.{Shape}
 use Rattle.frame.proofs.Demands as frames
+use Rattle.refusal.specs.Order.{Test, firstOf}
 use Rattle.refusal.specs.Outcome as outcome
 use Rattle.refusal.specs.Outcome.{passed}
 use Rattle.refusal.proofs.Orders.{Pass, no-fail, pass-otherwise}
 use Rattle.register.specs.Register.{Shortest, Alone}
-use Rattle.job.specs.Calls.{Call, shape, encode, locate, repair, done, columns, refused, Outcome, describe, step}
-use Rattle.job.specs.Demands.{ShapeGives, Encoded, Mended, Found, LocateExact, RepairMends, CheckSumsDiffer, RepairRefused, RepairExact}
+use Rattle.job.specs.Calls.{Call, shape, encode, locate, repair, done, columns, refused, Outcome, refusing, encodes, describe, step}
+use Rattle.job.specs.Demands.{ShapeGives, Encoded, EncodeUniform, Mended, Found, LocateExact, RepairMends, CheckSumsDiffer, RepairRefused, RepairExact}
 use Rattle.job.specs.Demands.{RepairOfLocated, RepairAfterLocate, DamageMended, Demand2, Demand3}
 use Rattle.job.specs.Job.{Arrays, Job, emptyJob, isEmpty, isLocatedPhase, lengthOf, declaredIn, declaredSound}
 use Rattle.job.specs.Left.{Given, LeftShaped}
 use Rattle.job.specs.Refusals.{LegalAt}
 use Rattle.job.specs.Runs.{run, lastShape, IsRefused, Taken, Between, LocatedBy, at-once, GoesBack}
-use Rattle.job.proofs.AfterRefusal.{same-number, never-columns}
+use Rattle.job.proofs.AfterRefusal.{same-number, never-columns, never-done}
 use Rattle.job.proofs.Between.{between-keeps}
 use Rattle.job.proofs.Cases.{by-call}
 use Rattle.job.proofs.Emptiness.{has-shape}
@@ -90,10 +93,48 @@ module _ (a : Arrays) (calls : List Call) (f : List ℕ) where
         last-shape e,
         record {
           answer = refl;
-          frame = frames.demand-2 _ f (has-shape (run a calls .head) e) (pass-otherwise outcome.refused passed (encodeTests _ f) p);
+          frame = frames.demand-2 .encodes _ f (has-shape (run a calls .head) e) (pass-otherwise outcome.refused passed (encodeTests _ f) p);
           job = refl;
         },
       ))
+
+-- an encode of an empty job, and of one that is not
+module _ (j : Job) (f : List ℕ) where
+  refused-empty : isEmpty j ≡ true → step j (encode f) .answer ≡ refused 21
+  unfolding step
+  refused-empty e = rw e refl
+
+  refused-tests : isEmpty j ≡ false → (k : ℕ) → step j (encode f) .answer ≡ refused k → outcome.outcome (encodeTests (j .head .shape) f) ≡ outcome.refused k
+  unfolding step
+  refused-tests full k =
+      subst⁻¹ (λ (b : Bool). cond b (refusing j f 21) (firstOf (refusing j f) (encodeTests (j .head .shape) f) (encodes j f)) .answer ≡ refused k
+      → outcome.outcome (encodeTests (j .head .shape) f) ≡ outcome.refused k) full (same-refusal (encodeTests (j .head .shape) f))
+    where
+      same-refusal : (ts : List Test) → firstOf (refusing j f) ts (encodes j f) .answer ≡ refused k → outcome.outcome ts ≡ outcome.refused k
+      same-refusal [] e = absurd (never-done e)
+      same-refusal (t ∷ ts) e = pick (t .fails) (same-refusal ts) e
+        where
+          pick : (b : Bool) → (firstOf (refusing j f) ts (encodes j f) .answer ≡ refused k → outcome.outcome ts ≡ outcome.refused k)
+              → cond b (refusing j f (t .number)) (firstOf (refusing j f) ts (encodes j f)) .answer ≡ refused k
+              → cond b (outcome.refused (t .number)) (outcome.outcome ts) ≡ outcome.refused k
+          pick true later e = ap outcome.refused (same-number e)
+          pick false later e = later e
+
+-- an encode refused by 34 is one of a job that is not empty, whose frame these tests refuse so
+uniform-data : EncodeUniform
+uniform-data a calls f e = pick (by-test (isEmpty (run a calls)))
+  where
+    j : Job
+    j = run a calls
+
+    pick : (isEmpty j ≡ true) ⊎ (isEmpty j ≡ false) → (s : Shape) × (e : List ℕ) × (lastShape calls ≡ some s) × OnlyUniform s f e
+    pick (inl empty) = absurd (let q = same-number (sym (refused-empty j f empty) ∙ e) in let z : ⊥ = omega arith in z)
+    pick (inr full) = (
+      j .head .shape,
+      encoded (j .head .shape) f,
+      last-shape a calls f full,
+      frames.demand-2 .uniform (j .head .shape) f (has-shape (j .head) full) (refused-tests j f full 34 e),
+    )
 
 shape-gives : ShapeGives
 shape-gives a calls n checks b =
@@ -198,7 +239,7 @@ module _ (s : Shape) (t : isShape s ≡ true) (words f g : List ℕ) (legal : Le
       record { well-formed = w; alone = recovers .alone; reach = recovers .reaches; names = recovers .names; fits = recovers .fits }
 
   -- the frame mended to is g, which is not uniform
-  pub damaged-mixed : one s (declaredBy words) f ≡ false
+  damaged-mixed : one s (declaredBy words) f ≡ false
   damaged-mixed = subst⁻¹ (λ e. uniform e ≡ false) (recovers .frame) (legal-mixed s g legal)
 
   -- a job that it left located mends it
@@ -223,7 +264,7 @@ damage-mended a before between s words f g last legal w twice kept =
     record { located = taken; mended = mended; frame = frame }
 
 pub demand-2 : Demand2
-demand-2 = record { encode-fills = fills }
+demand-2 = record { encode-fills = fills; encode-uniform = uniform-data }
 
 pub demand-3 : Demand3
 demand-3 = record {

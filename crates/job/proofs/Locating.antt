@@ -17,7 +17,7 @@ use Rattle.decoding.proofs.SequenceRegister.{register-of, length-taps, same-siz
 use Rattle.decoding.proofs.LegalNearest.{coded-legal, legal-at-size}
 use Rattle.decoding.proofs.SoleNearest.{rows-reach, mended-coded, mended-distance, mended-differing}
 use Rattle.frame.specs.DeclaredCells.{Declared, declaredBy, checksLeft, asRead, readTests, WellFormedRead}
-use Rattle.frame.specs.Frame.{heldSums, heldSequences}
+use Rattle.frame.specs.Frame.{Coded, Legal, heldSums, heldSequences}
 use Rattle.frame.specs.Shape.{isShape}
 use Rattle.frame.specs.declared.Shape.{Shape}
 use Rattle.frame.proofs.Declarable.{read-passes, well-formed-read}
@@ -26,7 +26,7 @@ use Rattle.lists.proofs.Tabulated.{every-of}
 use Rattle.refusal.proofs.Orders.{Pass, no-fail, pass-otherwise}
 use Rattle.register.specs.Register.{Shortest, Alone}
 use Rattle.job.specs.Calls.{locate, refused, refusing, mendsUniform, unseen, registerTests, locating, describe, step, bySums, locates}
-use Rattle.job.specs.Demands.{Found}
+use Rattle.job.specs.Demands.{FoundAs, Found}
 use Rattle.job.specs.Job.{Job, isEmpty, lengthOf}
 use Rattle.job.specs.Refusals.{LegalAt}
 use Rattle.job.specs.Runs.{IsRefused}
@@ -156,17 +156,17 @@ module _ (j : Job) (words f : List ℕ) (not-empty : isEmpty j ≡ false) where
       (every-of (s .rows) _ (λ h l. le-leb (sizeOf ss) (checksLeft s D h) (omega (arith, checks h l)))))
 
   -- what is found
-  located-found : Locates s D f → one ≡ false → Found s words f (sizeOf ss) (locatesFrame s (j .arrays) words f)
-  located-found l mixed =
+  located-found : (Is : List ℕ → Type 0) → Locates s D f → Is (mended s D M f) → FoundAs Is s words f (sizeOf ss) (locatesFrame s (j .arrays) words f)
+  located-found Is l is =
       let r = register-of ss in
       let read : Read s D f = read-facts s t D f (l .well-formed) in
       record {
         taps = tapsOf ss;
         shortest = r .shortest;
         alone = r .alone (l .alone);
-        legal-at = (
+        there = (
           mended s D (namedColumns s (tapsOf ss)) f,
-          coded-legal s _ (mended-coded s t D f read (l .names) (l .fits)) mixed,
+          is,
           mended-distance s t D f read (l .names) (l .fits),
           sym (mended-differing s t D f read (l .names) (l .fits)),
         );
@@ -182,8 +182,25 @@ module _ (j : Job) (words f : List ℕ) (not-empty : isEmpty j ≡ false) where
         };
       }
 
-  pub found : Pass (readTests (j .head .shape) (declaredBy words) f) → Pass (describe j (locate words f) .shaping)
+  -- by the check sums a codeword, and with the cells seen a legal frame
+  module _ (early : Pass (readTests (j .head .shape) (declaredBy words) f)) (one : Columns → Bool) (late : Pass (locating j words f one .shaping)) where
+    locates-so : Locates s D f
+    locates-so = register-passes s D f one late (read-passes s D f early)
+
+    coded-so : Coded s (mended s D M f)
+    coded-so = mended-coded s t D f (read-facts s t D f (locates-so .well-formed)) (locates-so .names) (locates-so .fits)
+
+    found-as : (Is : List ℕ → Type 0) → Is (mended s D M f)
+        → FoundAs Is s words f (lengthOf (locating j words f one .gives .job .head .phase)) (locating j words f one .gives)
+    found-as Is is =
+        subst⁻¹ (λ S. FoundAs Is s words f (sizeOf (allRemaining s D S)) (locates s (j .arrays) words (allRemaining s D S) (heldSums s (asRead s D f)) f)) same-sums
+        (located-found Is locates-so is)
+
+    pub found-coded :
+        FoundAs (Coded (j .head .shape)) (j .head .shape) words f (lengthOf (locating j words f one .gives .job .head .phase)) (locating j words f one .gives)
+    found-coded = found-as (Coded s) coded-so
+
+  pub found : (early : Pass (readTests (j .head .shape) (declaredBy words) f)) → Pass (describe j (locate words f) .shaping)
       → Found (j .head .shape) words f (lengthOf (describe j (locate words f) .gives .job .head .phase)) (describe j (locate words f) .gives)
   found early late =
-      subst⁻¹ (λ S. Found s words f (sizeOf (allRemaining s D S)) (locates s (j .arrays) words (allRemaining s D S) (heldSums s (asRead s D f)) f)) same-sums
-      (located-found (register-passes s D f _ late (read-passes s D f early)) (register-mixed s D f _ late))
+      found-as early (mendsUniform s D f) late (Legal s) (coded-legal s _ (coded-so early (mendsUniform s D f) late) (register-mixed s D f (mendsUniform s D f) late))

@@ -12,7 +12,7 @@ use Rattle.columns.specs.Columns.{has}
 use Rattle.decoding.specs.Remaining.{readSequences}
 use Rattle.decoding.proofs.NothingDeclared.{no-cells, well-formed-none, sequences-none, distance-none, differing-none}
 use Rattle.frame.specs.DeclaredCells.{Declared, declaredBy, nothingDeclared, asRead, rereadTests, WellFormedRead, distanceRead}
-use Rattle.frame.specs.Frame.{WellFormed, Legal, sequences, distance}
+use Rattle.frame.specs.Frame.{WellFormed, Coded, Legal, sequences, distance}
 use Rattle.frame.specs.Shape.{isShape}
 use Rattle.frame.specs.declared.Shape.{Shape}
 use Rattle.frame.proofs.NothingDeclared.{rows-unmarked, read-as-it-stands, nothing-declarable}
@@ -54,17 +54,17 @@ module _ (s : Shape) (t : isShape s ≡ true) (f : List ℕ) (whole : length f �
   same-sequences : readSequences s D f ≡ sequences s f
   same-sequences = sequences-none s t D (none s t) f whole
 
-  same-distance : (g : List ℕ) → Legal s g → distanceRead s D g f ≡ distance s g f
-  same-distance g legal = distance-none s t D (none s t) f whole g (legal .coded .well-formed .size)
+  same-distance : (g : List ℕ) → Coded s g → distanceRead s D g f ≡ distance s g f
+  same-distance g coded = distance-none s t D (none s t) f whole g (coded .well-formed .size)
 
   found-whole : (c : ℕ) (o : Outcome) → Found s noWords f c o → FoundWhole s f c o
   found-whole c o found =
-      let (g, legal, at, marks) = found .legal-at in
+      let (g, legal, at, marks) = found .there in
       record {
         taps = found .taps;
         shortest = subst (λ ss. Shortest 257 c ss (found .taps)) same-sequences (found .shortest);
         alone = subst (λ ss. Alone 257 c ss (found .taps)) same-sequences (found .alone);
-        legal-at = (g, legal, sym (same-distance g legal) ∙ at, marks ∙ differing-none s t D (none s t) f whole g (legal .coded .well-formed .size));
+        legal-at = (g, legal, sym (same-distance g (legal .coded)) ∙ at, marks ∙ differing-none s t D (none s t) f whole g (legal .coded .well-formed .size));
         number = found .number;
         sums = subst (λ (x : List ℕ). HoldsSums s x (o .job .arrays .sums)) (stands s t f whole) (found .job .sums);
       }
@@ -72,15 +72,15 @@ module _ (s : Shape) (t : isShape s ≡ true) (f : List ℕ) (whole : length f �
   mended-whole : (c : ℕ) (j : Job) (o : Outcome) → Mended s D f c j o → MendedWhole s f c o
   mended-whole c j o mended = record {
     legal = mended .legal;
-    count = sym (same-distance (o .frame) (mended .legal)) ∙ mended .count;
+    count = sym (same-distance (o .frame) (mended .legal .coded)) ∙ mended .count;
     marks = mended .marks ∙ differing-none s t D (none s t) f whole (o .frame) (mended .legal .coded .well-formed .size);
-    nearest = λ g legal other. subst (λ (d : ℕ). c < d) (same-distance g legal) (mended .nearest g legal other);
+    nearest = λ g coded other. subst (λ (d : ℕ). c < d) (same-distance g coded) (mended .nearest g coded other);
   }
 
   none-at : (c : ℕ) → (LegalAt s D f c → ⊥) ↔ ((g : List ℕ) × Legal s g × (distance s g f ≡ c) → ⊥)
   none-at c = (
-    λ never (g, legal, at). never (g, legal, same-distance g legal ∙ at),
-    λ never (g, legal, at). never (g, legal, sym (same-distance g legal) ∙ at),
+    λ never (g, legal, at). never (g, legal, same-distance g (legal .coded) ∙ at),
+    λ never (g, legal, at). never (g, legal, sym (same-distance g (legal .coded)) ∙ at),
   )
 
 same-differ : (s : Shape) → isShape s ≡ true → (f g : List ℕ) → length f ≡ s .rows * s .columns → length g ≡ s .rows * s .columns
@@ -145,7 +145,7 @@ nothing-declared = record {
       );
   damage-mended = λ a before between s f g last legal w twice kept.
       let t : isShape s ≡ true = shaped-so a before s last in
-      let at = same-distance s t f (w .size) g legal in
+      let at = same-distance s t f (w .size) g (legal .coded) in
       demand-3 .damage-mended a before between s noWords f g last legal (well-formed s t f w)
       (λ h below. (let e = no-cells s t D (none s t) h below in let l = twice h below in omega arith)) kept;
 }

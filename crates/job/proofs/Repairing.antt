@@ -68,7 +68,7 @@ located-mended s a words f t l mixed =
       legal = coded-legal s _ (mended-coded s t D f read (l .names) (l .fits)) mixed;
       count = mended-distance s t D f read (l .names) (l .fits);
       marks = sym (mended-differing s t D f read (l .names) (l .fits));
-      nearest = λ g legal other. sole-nearest s t D f read (l .alone) (l .reach) g (legal .coded) other;
+      nearest = sole-nearest s t D f read (l .alone) (l .reach);
       job = record { phase = refl; shape = refl; columns = refl; arrays = refl };
     }
 

@@ -35,7 +35,7 @@ use Rattle.job.proofs.Demands.{shaped-so, still-located, damaged-locate
 use Rattle.job.proofs.Emptiness.{sound-empty}
 use Rattle.job.proofs.Forms.{Locates, Form, empty, shaped, unfinished as going, located, run-form, run-then}
 use Rattle.job.proofs.Going.{Over}
-use Rattle.job.proofs.BySums.{by-sums}
+use Rattle.job.proofs.BySums.{by-sums, by-sums-finds}
 use Rattle.job.proofs.Locating.{sums-take}
 use Rattle.job.proofs.NoPart.{same-tests, agree, related, shaped-alike}
 use Rattle.job.proofs.NothingLeft.{nothing-left}
@@ -335,4 +335,4 @@ damage a before between after s words f g last legal w twice slicing all kept =
         (ap (λ (l : List Call). run a (before ++ (start words f ∷ l))) (sym (append-assoc between (next ∷ []) after)) ∙ same)
 
 pub locates-in-slices : LocatesInSlices
-locates-in-slices = record { slices = slices; start-goes-on = starts; by-sums = by-sums; start-early = early; damage-mended = damage }
+locates-in-slices = record { slices = slices; start-goes-on = starts; by-sums = by-sums; by-sums-finds = by-sums-finds; start-early = early; damage-mended = damage }

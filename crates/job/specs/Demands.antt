@@ -10,8 +10,8 @@ use lib.ListN.{length}
 use Rattle.columns.specs.Columns.{members}
 use Rattle.decoding.specs.Remaining.{readSequences}
 use Rattle.frame.specs.DeclaredCells.{Declared, declaredBy, erasures, checksLeft, asRead, WellFormedRead, distanceRead, differingRead}
-use Rattle.frame.specs.Encode.{OnlyLegal}
-use Rattle.frame.specs.Frame.{Legal}
+use Rattle.frame.specs.Encode.{OnlyLegal, OnlyUniform}
+use Rattle.frame.specs.Frame.{Coded, Legal}
 use Rattle.frame.specs.Shape.{checksOf}
 use Rattle.frame.specs.declared.Shape.{Shape}
 use Rattle.register.specs.Register.{Shortest, Alone}
@@ -68,21 +68,30 @@ EncodeFills =
     (a : Arrays) (calls : List Call) (f : List ℕ) → Taken (afterCalls a calls (encode f)) →
     (s : Shape) × (lastShape calls ≡ some s) × Encoded s f (run a calls) (afterCalls a calls (encode f))
 
+-- Where an encode is refused by 34, one codeword has the data of f, and it is uniform.
+abbrev pub EncodeUniform : Type 0
+EncodeUniform =
+    (a : Arrays) (calls : List Call) (f : List ℕ) → afterCalls a calls (encode f) .answer ≡ refused 34 →
+    (s : Shape) × (e : List ℕ) × (lastShape calls ≡ some s) × OnlyUniform s f e
+
 -- ---- locate
 
--- What c is of a locate that answers it, with the cells that the words declare: the length of the only shortest register; a legal frame lies at distance c,
--- and the marked columns are those that this distance counts, c in number. The frame is only read; the job is located, and holds the frame's sums, the
--- register, the declared cells and the marks.
-pub record Found (s : Shape) (words f : List ℕ) (c : ℕ) (after : Outcome) : Type 0 where
+-- What c is of a locate that answers it, with the cells that the words declare: the length of the only shortest register; a frame of the kind asked for lies
+-- at distance c, and the marked columns are those that this distance counts, c in number. The frame is only read; the job is located, and holds the frame's
+-- sums, the register, the declared cells and the marks.
+pub record FoundAs (Is : List ℕ → Type 0) (s : Shape) (words f : List ℕ) (c : ℕ) (after : Outcome) : Type 0 where
   pub taps : List ℕ
   pub shortest : Shortest 257 c (readSequences s (declaredBy words) f) taps
   pub alone : Alone 257 c (readSequences s (declaredBy words) f) taps
-  pub legal-at :
-      (g : List ℕ) × Legal s g × (distanceRead s (declaredBy words) g f ≡ c) ×
-      (after .marks ≡ differingRead s (declaredBy words) g f)
+  pub there :
+      (g : List ℕ) × Is g × (distanceRead s (declaredBy words) g f ≡ c) × (after .marks ≡ differingRead s (declaredBy words) g f)
   pub number : length (members (after .marks)) ≡ c
   pub frame : after .frame ≡ f
   pub job : LeftLocated s words f c taps (after .marks) (after .job)
+
+-- a legal frame
+abbrev pub Found : (s : Shape) (words f : List ℕ) (c : ℕ) (after : Outcome) → Type 0
+Found s words f c after = FoundAs (Legal s) s words f c after
 
 abbrev pub LocateFinds : Type 0
 LocateFinds =
@@ -103,12 +112,12 @@ LocateExact =
 -- ---- repair
 
 -- Demand 3, first part, D being the declared cells. A repair of the frame f that answers c leaves a legal frame; c is its distance from f, the marked columns
--- are those that this distance counts, and every other legal frame lies farther from f. The job is shaped.
+-- are those that this distance counts, and every other codeword, so every other legal frame, lies farther from f. The job is shaped.
 pub record Mended (s : Shape) (D : Declared) (f : List ℕ) (c : ℕ) (before : Job) (after : Outcome) : Type 0 where
   pub legal : Legal s (after .frame)
   pub count : distanceRead s D (after .frame) f ≡ c
   pub marks : after .marks ≡ differingRead s D (after .frame) f
-  pub nearest : (g : List ℕ) → Legal s g → (g ≡ after .frame → ⊥) → c < distanceRead s D g f
+  pub nearest : (g : List ℕ) → Coded s g → (g ≡ after .frame → ⊥) → c < distanceRead s D g f
   pub job : LeftShaped s (before .arrays) (after .job)
 
 -- The declared cells are those of the locate, at once or in slices, that the repair goes back to.
@@ -206,6 +215,7 @@ ArraysPlayNoPart = (i j : Job) (c : Call) → Alike i j → SameOutcome (step i 
 
 pub record Demand2 : Type 0 where
   pub encode-fills : EncodeFills
+  pub encode-uniform : EncodeUniform
 
 pub record Demand3 : Type 0 where
   pub reached : (a : Arrays) (calls : List Call) → Reached a calls

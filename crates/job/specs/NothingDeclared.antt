@@ -7,7 +7,7 @@ use mathlib.Core.Option.{some}
 use Prim.Native.Nat.{ℕ, _*_, _≤_, _<_}
 use lib.ListN.{length, replicate}
 use Rattle.columns.specs.Columns.{members}
-use Rattle.frame.specs.Frame.{WellFormed, Legal, sequences, distance, differing}
+use Rattle.frame.specs.Frame.{WellFormed, Coded, Legal, sequences, distance, differing}
 use Rattle.frame.specs.Shape.{checksOf}
 use Rattle.frame.specs.declared.Shape.{Shape}
 use Rattle.register.specs.Register.{Shortest, Alone}
@@ -35,7 +35,7 @@ pub record MendedWhole (s : Shape) (f : List ℕ) (c : ℕ) (after : Outcome) : 
   pub legal : Legal s (after .frame)
   pub count : distance s (after .frame) f ≡ c
   pub marks : after .marks ≡ differing s (after .frame) f
-  pub nearest : (g : List ℕ) → Legal s g → (g ≡ after .frame → ⊥) → c < distance s g f
+  pub nearest : (g : List ℕ) → Coded s g → (g ≡ after .frame → ⊥) → c < distance s g f
 
 abbrev pub SumsDifferWhole : Shape → (f g : List ℕ) → Type 0
 SumsDifferWhole s f g =

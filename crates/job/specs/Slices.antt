@@ -12,7 +12,7 @@ use Rattle.frame.specs.declared.Shape.{Shape}
 use Rattle.register.specs.Register.{Shortest}
 use Rattle.register.specs.Sequences.{longest, shortened}
 use Rattle.job.specs.Calls.{Call, locate, repair, start, next, peek, columns, unfinished, shortest, refused, Outcome, bySums, late}
-use Rattle.job.specs.Demands.{Alike, SameOutcome}
+use Rattle.job.specs.Demands.{FoundAs, Alike, SameOutcome}
 use Rattle.job.specs.Job.{Arrays}
 use Rattle.job.specs.Runs.{run, afterCalls, lastShape, IsRefused, Taken, Between, Slicing, stepsIn}
 
@@ -57,18 +57,26 @@ abbrev pub StartGoesOn : Type 0
 StartGoesOn = (a : Arrays) (before : List Call) (s : Shape) (words f : List ℕ) → lastShape before ≡ some s → Started a before s words f
 
 -- one codeword lies at distance c from f, and it is uniform
-abbrev pub OnlyUniform : Shape → Declared → (f : List ℕ) (c : ℕ) → Type 0
-OnlyUniform s D f c =
+abbrev pub UniformAt : Shape → Declared → (f : List ℕ) (c : ℕ) → Type 0
+UniformAt s D f c =
     (g : List ℕ) × Coded s g × (distanceRead s D g f ≡ c) × (Varied g → ⊥) ×
     ((e : List ℕ) → Coded s e → distanceRead s D e f ≡ c → e ≡ g)
 
--- A locate by the check sums does what locate does, but where it finds c columns and the only codeword at distance c is uniform: there locate is refused by 26.
+-- What a locate by the check sums finds that is not refused is what locate finds, but that the frame at distance c is a codeword.
+abbrev pub BySumsFinds : Type 0
+BySumsFinds =
+    (a : Arrays) (calls : List Call) (words f : List ℕ) → Taken (bySums (run a calls) words f) →
+    (s : Shape) × (c : ℕ) × (lastShape calls ≡ some s) × (bySums (run a calls) words f .answer ≡ columns c) ×
+    FoundAs (Coded s) s words f c (bySums (run a calls) words f)
+
+-- It does what locate does, but where the only codeword at distance c is uniform: there locate is refused by 26.
 pub record LikeLocate (a : Arrays) (before : List Call) (s : Shape) (words f : List ℕ) : Type 0 where
   pub where-taken : Taken (afterCalls a before (locate words f)) → bySums (run a before) words f ≡ afterCalls a before (locate words f)
   pub where-refused : IsRefused (bySums (run a before) words f) → bySums (run a before) words f ≡ afterCalls a before (locate words f)
   pub where-apart :
-      (c : ℕ) → bySums (run a before) words f .answer ≡ columns c → IsRefused (afterCalls a before (locate words f)) →
-      (afterCalls a before (locate words f) .answer ≡ refused 26) × OnlyUniform s (declaredBy words) f c
+      Taken (bySums (run a before) words f) → IsRefused (afterCalls a before (locate words f)) →
+      (c : ℕ) × (bySums (run a before) words f .answer ≡ columns c) × (afterCalls a before (locate words f) .answer ≡ refused 26) ×
+      UniformAt s (declaredBy words) f c
 
 abbrev pub BySums : Type 0
 BySums = (a : Arrays) (before : List Call) (s : Shape) (words f : List ℕ) → lastShape before ≡ some s → LikeLocate a before s words f
@@ -97,5 +105,6 @@ pub record LocatesInSlices : Type 0 where
   pub slices : InSlices
   pub start-goes-on : StartGoesOn
   pub by-sums : BySums
+  pub by-sums-finds : BySumsFinds
   pub start-early : StartEarly
   pub damage-mended : DamageMendedInSlices
