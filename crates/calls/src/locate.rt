@@ -1,5 +1,5 @@
-// Locating: the frame is tested, its check sums are taken, and the columns are located from these and its cells. Where nothing is declared, as it is most often, the frame is
-// looked at as it stands; else it is read with 0 in the declared cells.
+// Locating: the frame is tested, its check sums are taken, and the columns are located from these and its cells. Where nothing is declared, as it is most
+// often, the frame is looked at as it stands; else it is read with 0 in the declared cells.
 use codec::sums::frame_sums;
 use erasures::cells::nothing;
 use erasures::reading::check_read;

@@ -1,4 +1,5 @@
-// Repair: the rows of a frame completed at their marked and declared columns, unless that would make it uniform. Where the job holds no declared cells the frame is looked at as it stands.
+// Repair: the rows of a frame completed at their marked and declared columns, unless that would make it uniform. Where the job holds no declared cells the
+// frame is looked at as it stands.
 use codec::sums::frame_sums;
 use completion::mend::mend;
 use erasures::cells::is_declarable;

@@ -1,5 +1,5 @@
--- Legal frames are the codewords with two different symbols. Where the register is alone and no row has fewer checks left than its length, a legal frame lies at
--- a distance of that length exactly where as many columns are named, every row can be completed, and the mended frame is not uniform.
+-- Legal frames are the codewords with two different symbols. Where the register is alone and no row has fewer checks left than its length, a legal frame lies
+-- at a distance of that length exactly where as many columns are named, every row can be completed, and the mended frame is not uniform.
 use mathlib.Core.Path.{_≡_, subst}
 use mathlib.Core.Bool.{true, false}
 use mathlib.Core.List.{List}

@@ -1,5 +1,5 @@
--- A locate that nothing drops has made all its steps after eight times as many turns, so after 4,096, and the last of them does what a locate by the check sums would
--- have.
+-- A locate that nothing drops has made all its steps after eight times as many turns, so after 4,096, and the last of them does what a locate by the check
+-- sums would have.
 use mathlib.Core.Path.{_≡_, ap, subst, subst⁻¹, _∙_}
 use mathlib.Core.Bool.{false}
 use mathlib.Core.List.{List, [], _∷_, _++_}

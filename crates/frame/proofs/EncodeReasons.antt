@@ -1,5 +1,5 @@
--- The tests of encode say their reasons in turn: where the frame has its size and symbols for data, the only codeword with these data is uniform exactly where no
--- legal frame has them. Where the tests pass, what the encoder leaves is the only legal frame with the data.
+-- The tests of encode say their reasons in turn: where the frame has its size and symbols for data, the only codeword with these data is uniform exactly
+-- where no legal frame has them. Where the tests pass, what the encoder leaves is the only legal frame with the data.
 use mathlib.Core.Path.{_≡_, refl, sym, subst, _∙_}
 use mathlib.Core.Logic.{_⊎_, inl, inr}
 use mathlib.Core.Bool.{true, false, false≢true}

@@ -1,5 +1,5 @@
--- The refusals by the shortest register of the check sums are those of a locate by them: where as many columns are named as it is long, the rows in which no named
--- column is declared can be completed.
+-- The refusals by the shortest register of the check sums are those of a locate by them: where as many columns are named as it is long, the rows in which no
+-- named column is declared can be completed.
 use mathlib.Core.Path.{_≡_, refl, ap}
 use mathlib.Core.Bool.{Bool, true, false, _&&_}
 use mathlib.Core.Logic.{_⊎_, inl, inr}

@@ -98,7 +98,7 @@ module _ (s : Shape) (a : Arrays) (g : List ℕ) where
     abbrev D : Declared
     D = declaredBy (a .declared)
 
-    -- what it comes to: unfinished, or what locate gives
+    -- what it comes to: unfinished, or what a locate by the check sums gives
     pub data Comes : Outcome → Type 0 where
       goes : (n h : ℕ) → Going s a f n h → Comes (goesOn s a g)
       comes : Locates s (declaredBy (a .declared)) f →

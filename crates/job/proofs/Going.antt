@@ -42,7 +42,7 @@ pub record Going (s : Shape) (a : Arrays) (f : List ℕ) (n h : ℕ) : Type 0 wh
   pub round : n < longest (readSequences s (declaredBy (a .declared)) f)
   pub step : h < s .rows
 
--- All rounds are finished: what is refused and given is what locate refuses and gives.
+-- All rounds are finished: what is refused and given is what a locate by the check sums refuses and gives.
 pub record Over (s : Shape) (a : Arrays) (f : List ℕ) : Type 0 where
   pub well-formed : WellFormedRead s (declaredBy (a .declared)) f
   pub sums : a .sums ≡ heldSums s (asRead s (declaredBy (a .declared)) f)

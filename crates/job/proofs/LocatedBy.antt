@@ -1,5 +1,5 @@
 -- The job that is located, at once or in slices, is the one that its frame leaves: the start holds the frame's sums, no call between the steps changes what is
--- kept, and the step that ends the search gives what locate gives.
+-- kept, and the step that ends the search gives what a locate by the check sums gives.
 use mathlib.Core.Path.{_≡_, refl, sym, ap, subst, _∙_}
 use mathlib.Core.Bool.{true, false}
 use mathlib.Core.List.{List, [], _∷_, _++_, append-assoc}

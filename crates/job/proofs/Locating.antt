@@ -113,7 +113,8 @@ module _ (j : Job) (words f : List ℕ) (not-empty : isEmpty j ≡ false) where
       (subst⁻¹ (λ S. Pass (registerTests s D S unseen)) same-sums (passes-register l)) ∙ gives-frame
 
   pub locate-takes : Locates (j .head .shape) (declaredBy words) f
-      → mendsUniform (j .head .shape) (declaredBy words) f (namedColumns (j .head .shape) (tapsOf (readSequences (j .head .shape) (declaredBy words) f))) ≡ false
+      → mendsUniform (j .head .shape) (declaredBy words) f
+      (namedColumns (j .head .shape) (tapsOf (readSequences (j .head .shape) (declaredBy words) f))) ≡ false
       → step j (locate words f) ≡ locatesFrame (j .head .shape) (j .arrays) words f
   locate-takes l mixed =
       step-gives j (locate words f) (not-empty, well-formed-read s D f (l .well-formed))
@@ -193,14 +194,16 @@ module _ (j : Job) (words f : List ℕ) (not-empty : isEmpty j ≡ false) where
     found-as : (Is : List ℕ → Type 0) → Is (mended s D M f)
         → FoundAs Is s words f (lengthOf (locating j words f one .gives .job .head .phase)) (locating j words f one .gives)
     found-as Is is =
-        subst⁻¹ (λ S. FoundAs Is s words f (sizeOf (allRemaining s D S)) (locates s (j .arrays) words (allRemaining s D S) (heldSums s (asRead s D f)) f)) same-sums
+        subst⁻¹ (λ S.
+        FoundAs Is s words f (sizeOf (allRemaining s D S)) (locates s (j .arrays) words (allRemaining s D S) (heldSums s (asRead s D f)) f)) same-sums
         (located-found Is locates-so is)
 
     pub found-coded :
         FoundAs (Coded (j .head .shape)) (j .head .shape) words f (lengthOf (locating j words f one .gives .job .head .phase)) (locating j words f one .gives)
     found-coded = found-as (Coded s) coded-so
 
-  pub found : (early : Pass (readTests (j .head .shape) (declaredBy words) f)) → Pass (describe j (locate words f) .shaping)
+  pub found : Pass (readTests (j .head .shape) (declaredBy words) f) → Pass (describe j (locate words f) .shaping)
       → Found (j .head .shape) words f (lengthOf (describe j (locate words f) .gives .job .head .phase)) (describe j (locate words f) .gives)
   found early late =
-      found-as early (mendsUniform s D f) late (Legal s) (coded-legal s _ (coded-so early (mendsUniform s D f) late) (register-mixed s D f (mendsUniform s D f) late))
+      found-as early (mendsUniform s D f) late (Legal s)
+      (coded-legal s _ (coded-so early (mendsUniform s D f) late) (register-mixed s D f (mendsUniform s D f) late))

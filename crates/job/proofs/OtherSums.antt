@@ -1,7 +1,7 @@
 -- A repair of a frame, well-formed with the declared cells, of a job that another frame has located: refused by 23 exactly where some check sum of the two, as
 -- read, differs, and by 26 where none does and no legal frame lies at the distance that was located.
 use mathlib.Core.Path.{_≡_, refl, sym, ap, subst, subst⁻¹, _∙_}
-use mathlib.Core.Logic.{_⊎_, inl, inr, _↔_}
+use mathlib.Core.Logic.{_⊎_, inl, inr}
 use mathlib.Core.Bool.{Bool, true, false, false≢true}
 use mathlib.Core.List.{List}
 use Prim.Native.Nat.{ℕ, zero, suc, _+_}

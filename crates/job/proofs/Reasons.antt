@@ -33,7 +33,8 @@ use Rattle.register.specs.EachRound.{IsShortest}
 use Rattle.register.specs.Register.{Generator}
 use Rattle.slices.specs.Synthesis.{Synthesis, size, ended}
 use Rattle.job.specs.Calls.{Call, shape, encode, locate, repair, start, next, peek, describe, emptyTest, notLocatedTest, notUnfinishedTest}
-use Rattle.job.specs.Calls.{sameSums, sumsTest, uniformTest, mendsUniform, unseen, locating, registerTests, byRegisterTests, arrivesTests, heldTaps, heldMark, started, stepped}
+use Rattle.job.specs.Calls.{sameSums, sumsTest, uniformTest, mendsUniform, unseen, locating, registerTests, byRegisterTests}
+use Rattle.job.specs.Calls.{arrivesTests, heldTaps, heldMark, started, stepped}
 use Rattle.job.specs.Job.{Arrays, Job, sound, isEmptyPhase, isLocatedPhase, isLocated, lengthOf, declaredIn, declaredSound, countsEmpty}
 use Rattle.job.specs.Job.{isUnfinishedPhase, stepSound}
 use Rattle.job.specs.Refusals.{CodedAt, LegalAt, ShortRow, emptyReason, notLocatedReason, sumsReason, notUnfinishedReason, reasons}
@@ -255,7 +256,9 @@ pub keeping-says : (j : Job) (c : Call) → SayInTurn (describe j c .keeping) (r
 keeping-says j (shape n checks b) = in-turn (shapeTests n checks b) (shapeReasons n checks b) (shape-says n checks b)
 keeping-says j (encode f) =
     after-empty j (encodeTests (j .head .shape) f) (encodeReasons (j .head .shape) f) (encode-says (j .head .shape) f)
-keeping-says j (locate words f) = in-turn (describe j (locate words f) .keeping) (reasons j (locate words f) .keeping) (empty-says j, read-says (j .head .shape) (declaredBy words) f)
+keeping-says j (locate words f) =
+    in-turn (describe j (locate words f) .keeping) (reasons j (locate words f) .keeping)
+    (empty-says j, read-says (j .head .shape) (declaredBy words) f)
 keeping-says j (repair f) = in-turn (describe j (repair f) .keeping) (reasons j (repair f) .keeping) (
   empty-says j,
   (
@@ -264,7 +267,9 @@ keeping-says j (repair f) = in-turn (describe j (repair f) .keeping) (reasons j 
         (reread-says (j .head .shape) (declaredIn j) f) (sums-say j f, tt),
   ),
 )
-keeping-says j (start words f) = in-turn (describe j (start words f) .keeping) (reasons j (start words f) .keeping) (empty-says j, read-says (j .head .shape) (declaredBy words) f)
+keeping-says j (start words f) =
+    in-turn (describe j (start words f) .keeping) (reasons j (start words f) .keeping)
+    (empty-says j, read-says (j .head .shape) (declaredBy words) f)
 keeping-says j next = in-turn (describe j next .keeping) (reasons j next .keeping) (empty-says j, (not-unfinished-says j, tt))
 keeping-says j peek = in-turn (describe j peek .keeping) (reasons j peek .keeping) (empty-says j, (not-unfinished-says j, tt))
 

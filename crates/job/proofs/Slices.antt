@@ -1,5 +1,5 @@
--- Locating in slices: every step but the last goes on, the last one gives what a locate by the check sums would have, and none comes after; what a peek tells; and the frame
--- that was sent comes back.
+-- Locating in slices: every step but the last goes on, the last one gives what a locate by the check sums would have, and none comes after; what a peek
+-- tells; and the frame that was sent comes back.
 use mathlib.Core.Path.{_≡_, refl, sym, ap, ap₂, subst, subst⁻¹, _∙_}
 use mathlib.Core.Bool.{Bool, true, false, not, cond, _&&_, false≢true}
 use mathlib.Core.List.{List, [], _∷_, _++_, append-assoc}
@@ -335,4 +335,11 @@ damage a before between after s words f g last legal w twice slicing all kept =
         (ap (λ (l : List Call). run a (before ++ (start words f ∷ l))) (sym (append-assoc between (next ∷ []) after)) ∙ same)
 
 pub locates-in-slices : LocatesInSlices
-locates-in-slices = record { slices = slices; start-goes-on = starts; by-sums = by-sums; by-sums-finds = by-sums-finds; start-early = early; damage-mended = damage }
+locates-in-slices = record {
+  slices = slices;
+  start-goes-on = starts;
+  by-sums = by-sums;
+  by-sums-finds = by-sums-finds;
+  start-early = early;
+  damage-mended = damage;
+}

@@ -19,7 +19,8 @@ use Rattle.frame.specs.declared.Shape.{Shape}
 use Rattle.frame.proofs.Declarable.{read-passes}
 use Rattle.frame.proofs.Shapes.{shape-ranges}
 use Rattle.refusal.proofs.Orders.{Pass, no-fail}
-use Rattle.job.specs.Calls.{Call, shape, encode, locate, repair, start, next, peek, Outcome, refusing, describe, mendsUniform, registerTests, started, stepped, step}
+use Rattle.job.specs.Calls.{Call, shape, encode, locate, repair, start, next, peek, Outcome, refusing, describe}
+use Rattle.job.specs.Calls.{mendsUniform, registerTests, started, stepped, step}
 use Rattle.job.specs.Job.{Arrays, Job, isEmpty}
 use Rattle.job.specs.Runs.{run, Taken}
 use Rattle.job.specs.Tries.{UpToLast, LocateTries, TriesAtEnd, SlicesTry, OthersTryNone}

@@ -1,7 +1,7 @@
 -- What is owed of locating in slices, over every list of calls on one job. Proved in proofs/Slices.antt.
 use mathlib.Core.Path.{_≡_}
 use mathlib.Core.Bool.{false}
-use mathlib.Core.List.{List, [], _∷_, _++_}
+use mathlib.Core.List.{List, _∷_, _++_}
 use mathlib.Core.Option.{some}
 use Prim.Native.Nat.{ℕ, suc, _+_, _-_, _*_, _/_, _≤_, _<_}
 use Rattle.decoding.specs.Remaining.{readSequences}
@@ -29,7 +29,8 @@ pub record SameAnswer (o p : Outcome) : Type 0 where
 
 -- The frame f was lent to a start that is not refused, after `before`; then came `between`, steps, peeks, encodes and calls refused early. Each step but the
 -- last answers that the locate is unfinished; the last one answers and leaves what a locate of f by its check sums would have, on the job before the start; and
--- no step comes after. A peek answers the shortest length for the sequences without their last N − n symbols, n being the number of finished rounds, N the longest length.
+-- no step comes after. A peek answers the shortest length for the sequences without their last N − n symbols, n being the number of finished rounds, N the
+-- longest length.
 pub record Sliced (a : Arrays) (before between : List Call) (s : Shape) (words f : List ℕ) : Type 0 where
   pub on : suc (stepsIn between) < slicesOf s words f → afterCalls a (before ++ (start words f ∷ between)) next .answer ≡ unfinished
   pub last :

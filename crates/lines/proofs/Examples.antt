@@ -36,6 +36,7 @@ unfolding table startsWhole wholesUpTo restUpTo wholesOf restOf linesOfAll whole
     frameLine outputOf lineOf claimedBy isWhole countedOf bodyOf recordOf decimalUpTo decimal spaced line split ordered placed largest discrepancy stepAt
     start withSaved changed turn rounds isAlone found foundAlone tabulate every joined noColumns phaseSound headSound countsEmpty step registerTests shapeOf
     rowsInRange columnsInRange checksInRange exponentInRange isShape shapeTests weight checkSum checkSums rowSums sequences heldSums heldSequences asRead
-    marksInside declarable undeclaredBelow readTests eachRow cleared locatorPolynomial remaining allRemaining leftReach completable either mended uniform completed completion without tests answer
+    marksInside declarable undeclaredBelow readTests eachRow cleared locatorPolynomial remaining allRemaining leftReach completable either
+    mended uniform completed completion without tests answer
     total noDivisor isPrime isModulus shifted reduced value sizeOf tapsOf aloneOf named namedColumns namesAll count listed columnsOf has number
 examples = refl

@@ -1,9 +1,9 @@
--- What locating by the check sums alone answers, and what is answered where the cells are seen: the same where no columns are, and where the frame that would be
--- mended to is not uniform; else 26.
-use mathlib.Core.Path.{_≡_, refl, sym, ap, subst⁻¹, _∙_}
+-- What locating by the check sums alone answers, and what is answered where the cells are seen: the same where no columns are, and where the frame that would
+-- be mended to is not uniform; else 26.
+use mathlib.Core.Path.{_≡_, sym, ap, subst⁻¹, _∙_}
 use mathlib.Core.Logic.{_⊎_, inl, inr}
 use mathlib.Core.Bool.{Bool, true, false, cond, and-eq-true-iff}
-use mathlib.Core.List.{List, [], _∷_}
+use mathlib.Core.List.{List}
 use Prim.Native.Nat.{ℕ}
 use lib.ListN.{length}
 use Rattle.columns.specs.Columns.{members}

@@ -1,9 +1,9 @@
--- Locating from sums: what the finder answers is the shortest register of what is left of them, and locating by that register is what locate
--- does by its sums alone.
+-- Locating from sums: what the finder answers is the shortest register of what is left of them, and locating by that register is what a locate by the check
+-- sums does.
 use mathlib.Core.Path.{_≡_, refl, sym, ap, ap₂, _∙_}
 use mathlib.Core.Bool.{Bool, true}
 use mathlib.Core.List.{List, _++_}
-use Prim.Native.Nat.{ℕ, suc, _+_, _-_, _≤_, _<_}
+use Prim.Native.Nat.{ℕ, suc, _+_, _-_}
 use native.Mathlib.Omega.{arith}
 use lib.ListN.{length, take, replicate}
 use lib.Seq.{take-at}

@@ -1,9 +1,8 @@
 -- The first reason of an order: there is one, or none holds; orders one after the other.
 use mathlib.Core.Path.{_≡_, sym, _∙_}
-use mathlib.Core.Logic.{_⊎_, inl, inr}
+use mathlib.Core.Logic.{inl, inr}
 use mathlib.Core.List.{List, [], _∷_, _++_}
 use Prim.Native.Nat.{ℕ, _<_}
-use native.Mathlib.Omega.{arith}
 use Rattle.refusal.specs.Order.{Reason, First, None}
 
 pub first-same : (rs : List Reason) (m k : ℕ) → First m rs → First k rs → m ≡ k

@@ -7,7 +7,8 @@ use lib.ListN.{length}
 use Rattle.refusal.specs.Number.{number}
 use Rattle.refusal.specs.declared.Refusal.{Refusal}
 use Rattle.refusal.specs.declared.Refusal.the-variants.{Modulus, Count, Lengths, Symbol, Columns, Checks, FrameSize, TapBuffer, BadRecord}
-use Rattle.refusal.specs.declared.Refusal.the-variants.{Empty, NotLocated, SumsDiffer, NotAlone, ShortRow, NoFrame, BadCells, Exponent, NotUnfinished, UniformFrame}
+use Rattle.refusal.specs.declared.Refusal.the-variants.{Empty, NotLocated, SumsDiffer, NotAlone, ShortRow, NoFrame, BadCells}
+use Rattle.refusal.specs.declared.Refusal.the-variants.{Exponent, NotUnfinished, UniformFrame}
 use Rattle.text.specs.Text.{spaced, line}
 use Rattle.text.specs.Written.{Written}
 use Rattle.text.proofs.Digits.{spaced-append}

@@ -219,7 +219,7 @@ fn locate_dead_edge(i: usize) -> bool {
     }
 }
 
-// Edges 10 and 11 have one damage: its rows 5 5 are legal for the exponent 128, since 3^128 is −1, and not for 127.
+// Edges 10 and 11 have one damage: its rows 5 5 have check sums 0 for the exponent 128, since 3^128 is −1, and not for 127.
 fn locate_edge(i: usize) -> bool {
     match i {
         0 => locates(whole_job::empty(), 8, 5, 1) == 21,

@@ -15,7 +15,7 @@ fn run(state: &mut u64, counts: &mut [u64]) -> bool {
     if !edges::try_all(counts) {
         return false;
     }
-    call_lists::random(state, false, 500, counts)
+    call_lists::random(state, false, 2000, counts)
 }
 
 // How often each refusal of the calls on a job occurred.

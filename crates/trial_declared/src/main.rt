@@ -34,7 +34,7 @@ fn run(state: &mut u64, counts: &mut [u64]) -> bool {
     if !frames::random(state, Size::Full, 20, counts) {
         return false;
     }
-    call_lists::random(state, model::RIGHT, 500, counts)
+    call_lists::random(state, model::RIGHT, 2000, counts)
 }
 
 // How often each refusal of locate and repair occurred.

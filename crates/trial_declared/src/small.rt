@@ -49,13 +49,13 @@ fn sets_within(
     0
 }
 
-// The legal row of three symbols, two of them checks, whose data symbol is 1: as a polynomial it is the product of x − 3^b and x − 3^(b + 1).
-fn legal_row(exponent: u32) -> [u16; 3] {
+// The row of three symbols, two of them checks, with both check sums 0, whose data symbol is 1: as a polynomial it is (x − 3^b)·(x − 3^(b + 1)).
+fn coded_row(exponent: u32) -> [u16; 3] {
     let y = power(3, exponent as usize);
     [times(257, times(257, y, y), 3), times(257, 253, y), 1]
 }
 
-// The frame differs in column i from the legal one with these data symbols, one in each row.
+// The frame differs in column i from the codeword with these data symbols, one in each row.
 fn differs(base: &[u16], words: &[u64; 32], data: &[u16], frame: &[u16], i: u16) -> bool {
     for h in 0..data.len() {
         if !is_declared(words, h, i) {
@@ -143,6 +143,6 @@ pub(crate) fn frames_agree(
             return true;
         }
     }
-    let base = legal_row(exponent);
+    let base = coded_row(exponent);
     frames_within(expected.length, &base, words, rows, frame) == due(expected.number)
 }

@@ -1,4 +1,4 @@
-// The legal frames of three columns with two checks in every row, one by one. Such a row has one data symbol, and is a multiple of
+// The codewords of three columns with two checks in every row, one by one. Such a row has one data symbol, and is a multiple of
 // the row whose data symbol is 1.
 use plain::counting::advance;
 use plain::values::get;
@@ -8,7 +8,7 @@ use plain::values::times;
 use plain_frames::frames::codeword;
 use plain_frames::frames::row;
 
-// Finds the legal row whose data symbol is 1 by trying all check symbols.
+// Finds the row with both check sums 0 whose data symbol is 1 by trying all check symbols.
 pub(crate) fn find_base(exponent: u32, base: &mut [u16]) -> bool {
     put(base, 2, 1);
     let checks = [2u16];
@@ -23,7 +23,7 @@ pub(crate) fn find_base(exponent: u32, base: &mut [u16]) -> bool {
     false
 }
 
-// The frame differs in column i from the legal one with these data symbols, one in each row.
+// The frame differs in column i from the codeword with these data symbols, one in each row.
 fn differs(base: &[u16], data: &[u16], frame: &[u16], i: usize) -> bool {
     for h in 0..data.len() {
         let symbol = times(257, get(data, h), get(base, i));

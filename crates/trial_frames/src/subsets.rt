@@ -1,4 +1,4 @@
-// How far the nearest legal frame is, for frames of few columns: all sets of columns are tried, and elimination tells whether errors in
+// How far the nearest codeword is, for frames of few columns: all sets of columns are tried, and elimination tells whether errors in
 // them alone give the check sums.
 use plain::counting::advance;
 use plain::sequences::sequence;
