@@ -22,7 +22,9 @@ use Rattle.columns.proofs.Listing.{by-test, length-listed}
 use Rattle.field.specs.Coefficients.{value}
 use Rattle.field.proofs.Bridge.{res-zero, res-mod, res-mul, res-total}
 use Rattle.field.proofs.Remainders.{mul-mod-mod}
-use Rattle.lists.proofs.Totals.{total-ext, total-mod}
+use Rattle.lists.specs.Total.{total}
+use Rattle.lists.proofs.Totals.{total-bound, total-ext, total-mod}
+use Rattle.lists.proofs.Zeros.{zeros, zeros-entry}
 use Rattle.field.proofs.Prime257.{prime-257}
 use Rattle.field257.specs.Powers.{powerOf3}
 use Rattle.field257.proofs.Accumulation.{power-of-power}
@@ -43,6 +45,13 @@ rowSum b n d j = sum R257 n (λ i. d i ⊗ weightAt b i j)
 pub checkSum-below : (b n : ℕ) (x : List ℕ) (j : ℕ) → checkSum b n x j < 257
 unfolding checkSum
 checkSum-below b n x j = mod-lt _ (lit< tt)
+
+-- the check sums of zeros
+pub zeros-sum : (b n j : ℕ) → checkSum b n (zeros n) j ≡ 0
+unfolding checkSum
+zeros-sum b n j =
+    let none : total n (λ i. getD (zeros n) i 0 * weight b i j) ≤ n * 0 = total-bound n 0 _ (λ i _. rw (zeros-entry n i) (omega arith)) in
+    omega arith
 
 pub res-checkSum : (b n : ℕ) (x : List ℕ) (j : ℕ) → res257 (checkSum b n x (suc j)) ≡ rowSum b n (symbols x) j
 unfolding checkSum

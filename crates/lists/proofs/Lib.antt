@@ -7,6 +7,7 @@ pub mod Filling
 pub mod Fours
 pub mod Halves
 pub mod Joined
+pub mod Largest
 pub mod Mapped
 pub mod Moving
 pub mod Padded

@@ -1,5 +1,6 @@
 -- A row that holds one symbol, as it is lent from an array of that symbol: its check sums are values of a polynomial.
 use mathlib.Core.Path.{_≡_, sym, ap, _∙_}
+use mathlib.Core.Bool.{true}
 use mathlib.Core.List.{List}
 use Prim.Native.Nat.{ℕ, suc, _+_, _-_, _≤_, _<_}
 use native.Mathlib.Decide.{decLt}
@@ -7,15 +8,17 @@ use native.Mathlib.Nat.{sub-zero}
 use native.Mathlib.Omega.{arith}
 use lib.ListN.{length, getD, replicate, length-replicate, getD-replicate, List·getD-eq-default}
 use lib.Seq.{ext-getD, length-take-le}
+use borrow.Author.Tests.{eq-eqb}
 use borrow.Rule.Slice.PartMut.{midOf}
 use Rattle.field.specs.Coefficients.{value}
 use Rattle.field257.specs.Powers.{powerOf3}
 use Rattle.field257.specs.Table.{table}
 use Rattle.frame.specs.Frame.{checkSum}
-use Rattle.frame.proofs.CheckSums.{check-sum-value}
+use Rattle.frame.proofs.CheckSums.{check-sum-value, zeros-sum}
 use Rattle.lists.proofs.Entries.{getD-part}
+use Rattle.lists.proofs.Tabulated.{every-of}
 use Rattle.polynomials.specs.Evaluable.{Evaluable}
-use Rattle.uniform.specs.Constant.{Summed}
+use Rattle.uniform.specs.Constant.{Summed, constantCoded}
 
 module _ (b n a m : ℕ) (asked : Summed b n a m) where
   abbrev lent : List ℕ
@@ -53,3 +56,8 @@ module _ (b n a m : ℕ) (asked : Summed b n a m) where
   sum-value j v e =
       sym (e ∙ ap (λ (x : List ℕ). value 257 x (powerOf3 (b + j))) is-constant ∙ check-sum-value b (replicate n a) j
       ∙ ap (λ (k : ℕ). checkSum b k (replicate n a) (suc j)) (length-replicate n a))
+
+-- the check sums of zeros are 0
+pub zeros-coded : (b n a m : ℕ) → a ≡ 0 → true ≡ constantCoded b n a m
+zeros-coded b n a m e =
+    sym (ap (λ (x : ℕ). constantCoded b n x m) e ∙ every-of m _ (λ j _. eq-eqb _ 0 (zeros-sum b n (suc j))))

@@ -33,20 +33,22 @@ fn data_hold(s: Shape, frame: &[u16], a: u16) -> bool
     true
 }
 
-// Whether a in every cell makes all check sums 0.
+// Whether a in every cell makes all check sums 0. All rows are alike then, so the sums are made once, as many as the row with most checks has.
 fn checks_coded(s: Shape, a: u16) -> bool
     requires { ⌜ (isShape s ≡ true) × (a < 257) ⌝ }
     ensures { λ r. ⌜ r ≡ every (s .rows) (λ h. constantCoded (s .exponent) (s .columns) a (checksOf s h)) ⌝ }
 {
     let rows = s.rows;
+    let mut most = 0;
     let mut h = 0;
     while h < rows {
-        if !constant_coded(s.exponent, s.columns, a, wide(s.checks[h]) as usize) {
-            return false;
+        let m = wide(s.checks[h]) as usize;
+        if m > most {
+            most = m;
         }
         h += 1;
     }
-    true
+    constant_coded(s.exponent, s.columns, a, most)
 }
 
 // Whether the frame is uniform once it is encoded. The last cell of row 0 is a data cell; most frames differ from it at once.

@@ -9,7 +9,7 @@ use borrow.Author.Needs.{needs}
 use borrow.Author.Tests.{eq-eqb, ne-eqb}
 use Rattle.frame.specs.Frame.{checkSum}
 use Rattle.lists.proofs.Testing.{Tested, tested-none, tested-out, tested-pass, tested-all}
-use Rattle.uniform.proofs.ConstantRows.{evaluable, sum-value}
+use Rattle.uniform.proofs.ConstantRows.{evaluable, sum-value, zeros-coded}
 use Rattle.uniform.proofs.constant.constant_coded.Statement.{statement}
 use Rattle.uniform.proofs.constant.constant_coded.Tie as tie
 
@@ -25,10 +25,13 @@ abbrev μ-loop : tie.MeasureT-loop
 
 -- the ways back
 abbrev start-of : tie.In-loop Inv-loop μ-loop → tie.Start Inv-loop μ-loop
-start-of c = c .before .before .before
+start-of c = c .before .before .before .before
 
 abbrev in-loop : tie.After-value-at Inv-loop μ-loop → tie.In-loop Inv-loop μ-loop
 in-loop c = c .before .before .before .before
+
+returns : tie.Need-returns Inv-loop μ-loop
+returns c = zeros-coded _ _ _ _ (c .if1 .taken)
 
 loop-holds : tie.Need-loop-holds Inv-loop μ-loop
 loop-holds c = tested-none _ _
@@ -51,21 +54,21 @@ value-at-requires c κs =
     let inside = c .before .before .before in
     evaluable _ _ _ _ (start-of inside .pre) _ (inside .before .before .powers .ensures) _ (inside .loop-test .taken)
 
-returns : tie.Need-returns Inv-loop μ-loop
-returns c =
+returns-2 : tie.Need-returns-2 Inv-loop μ-loop
+returns-2 c =
     let inside = in-loop (c .before) in
     tested-out _ _ (inside .before .loop .j) (inside .loop-test .taken)
-    (ap (λ (x : ℕ). eqb x 0) (sum-value _ _ _ _ (start-of inside .pre) _ _ (c .before .value-at .ensures .0)) ∙ ne-eqb _ 0 (c .if1 .taken))
+    (ap (λ (x : ℕ). eqb x 0) (sum-value _ _ _ _ (start-of inside .pre) _ _ (c .before .value-at .ensures .0)) ∙ ne-eqb _ 0 (c .if2 .taken))
 
 loop-again : tie.Need-loop-again Inv-loop μ-loop
 loop-again c =
     let inside = in-loop (c .before) in
     let at = inside .before .loop in
     tested-pass _ _ (at .j) true (at .inv) (inside .loop-test .taken) true refl
-    (ap (λ (x : ℕ). eqb x 0) (sum-value _ _ _ _ (start-of inside .pre) _ _ (c .before .value-at .ensures .0)) ∙ eq-eqb _ 0 (c .if1 .left))
+    (ap (λ (x : ℕ). eqb x 0) (sum-value _ _ _ _ (start-of inside .pre) _ _ (c .before .value-at .ensures .0)) ∙ eq-eqb _ 0 (c .if2 .left))
 
-returns-2 : tie.Need-returns-2 Inv-loop μ-loop
-returns-2 c = tested-all _ _ _ _ (c .before .loop .inv) (c .loop-test .left)
+returns-3 : tie.Need-returns-3 Inv-loop μ-loop
+returns-3 c = tested-all _ _ _ _ (c .before .loop .inv) (c .loop-test .left)
 
 pub constant-coded-spec : {M : Type 1} → statement M
 constant-coded-spec =
@@ -73,6 +76,7 @@ constant-coded-spec =
     (tie.spec
     Inv-loop
     μ-loop
+    returns
     (λ c κs. search needs)
     loop-holds
     (λ c. omega arith)
@@ -81,8 +85,8 @@ constant-coded-spec =
     cast-value-at
     add-value-at
     value-at-requires
-    returns
+    returns-2
     (λ c. omega arith)
     (λ c. omega arith)
     loop-again
-    returns-2)
+    returns-3)
