@@ -9,7 +9,7 @@ use plain::values::{get, put, times};
 use plain_frames::frames::{power, size};
 
 // What locating must answer: the number of the refusal, or 0, and the length of the shortest register.
-#[derive(Drop)]
+#[derive(Clone, Copy)]
 pub struct Expected {
     pub number: u32,
     pub length: usize,

@@ -8,7 +8,7 @@ use elimination::{add, clear, contradicts, determined};
 use plain::sequences::{discrepancy, sequence};
 use plain::values::{before, put};
 
-#[derive(Drop)]
+#[derive(Clone, Copy)]
 pub struct Answer {
     pub length: usize,
     pub alone: bool,

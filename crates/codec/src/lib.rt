@@ -1,2 +1,4 @@
 // Check sums of frames.
+#![tactic(auto)]
+
 pub mod sums;

@@ -1,9 +1,11 @@
 // A set of columns: 256 marks in four 64-bit words, column 0 lowest. Column i is bit i mod 64 of word i / 64.
+#![tactic(auto)]
+
 ghost use Rattle.std.specs.Prelude.{◌≡◌, false, ◌&&◌, ◌||◌, ◌<◌, ◌≤◌, eqb, leb, length};
 ghost use Rattle.columns.specs.Columns.{bit, has, marking, columns_of, members, either, Sound};
 ghost use Rattle.columns.specs.Listed.{count, least};
 
-#[derive(Drop)]
+#[derive(Clone, Copy)]
 pub struct Columns {
     pub words: [u64; 4],
 }

@@ -1,11 +1,13 @@
 // What the dispatcher of eight jobs answers, what each of its functions promises, and the laws of that (SPECIFICATION.md, "Eight jobs").
+#![tactic(auto)]
+
 use columns::Columns;
 use job::Reply;
 
 pub mod answers;
 
 // What locate, repair, start and step answer: an `Answered` without the head, which stays with the dispatcher.
-#[derive(Drop)]
+#[derive(Clone, Copy)]
 pub struct Said {
     pub reply: Reply,
     pub columns: Columns,
@@ -13,7 +15,7 @@ pub struct Said {
 }
 
 // What a turn answers: the number of the job that it served, 8 where none is unfinished, and what the step said.
-#[derive(Drop)]
+#[derive(Clone, Copy)]
 pub struct Turned {
     pub job: usize,
     pub said: Said,

@@ -1,4 +1,6 @@
 // The calls on one of eight jobs that do all at once: shape, encode, locate and repair; and eight empty jobs.
+#![tactic(auto)]
+
 pub mod empty;
 pub mod encode;
 pub mod locate;

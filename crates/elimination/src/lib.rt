@@ -1,6 +1,8 @@
 // Linear equations modulo a prime p, solved by elimination without division. An equation is a row of values in a table: value 0 is the
 // constant, value k the coefficient of unknown k. Row k leads with unknown k, or its value k is 0 and it counts as empty. Row 0 is
 // the equation that is being added.
+#![tactic(auto)]
+
 ghost use Rattle.std.specs.Prelude.{◌≡◌, get_or, replicate};
 ghost use Rattle.elimination.specs.Equations.{Cancelled, Cleared, CrossedAt, Decided, LeadsRow, Stored, place_of, value_at};
 ghost use Rattle.plain.specs.Plain.{Each, Tells};
@@ -12,7 +14,7 @@ use plain::values::{cross, get, put};
 const SPAN: usize = 129;
 
 // What an added equation does: it follows from those before it, or it leads with a new unknown, or no solution is left.
-#[derive(Drop)]
+#[derive(Clone, Copy)]
 pub enum Added {
     Follows,
     Leads,

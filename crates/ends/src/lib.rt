@@ -1,4 +1,6 @@
 // What stands before the first round of Algorithm 4, and what is read off after the last: the places of the sequences, and the alone mark.
+#![tactic(auto)]
+
 ghost use Rattle.std.specs.Prelude.{◌≡◌, ◌<◌, min};
 ghost use Rattle.ends.specs.Ends.{Startable, Started, alone_mark};
 

@@ -1,1 +1,2 @@
 // The marked examples. There is no code here.
+#![tactic(auto)]

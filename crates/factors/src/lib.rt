@@ -1,2 +1,4 @@
 // The table of factors by which columns are multiplied before each stage of a transform.
+#![tactic(auto)]
+
 pub mod table;

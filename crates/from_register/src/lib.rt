@@ -1,4 +1,6 @@
 // Locating by a register: the columns that it names, and whether a frame can lie there (SPECIFICATION.md, "Jobs" and "Declared cells").
+#![tactic(auto)]
+
 ghost use Rattle.std.specs.Prelude.{◌≡◌, List, ℕ, suc, take};
 ghost use Rattle.decoding.specs.Remaining.{left_reach, meeting_completable};
 ghost use Rattle.frame.specs.DeclaredCells.{declared_by};

@@ -1,11 +1,13 @@
 // The job of the receiving end: its types, and the mathematics of its calls. There are no functions here (SPECIFICATION.md, "Jobs").
+#![tactic(auto)]
+
 use columns::Columns;
 use frame::Shape;
 use refusal::{Checked, Refusal};
 
 // Where a job stands. An unfinished one was started to locate in slices. What a located one has found carries the length of the register, which is the number
 // of columns to mend, and whether the register is alone.
-#[derive(Drop)]
+#[derive(Clone, Copy)]
 pub enum Phase {
     Empty,
     Shaped,
@@ -16,7 +18,7 @@ pub enum Phase {
 // The head of a job, which the calls take and return by value; its columns are those that locating named. The arrays of a job stand beside it, lent to the
 // calls and written in place: the check sums of all rows, row after row, `[u16; 512]`, the taps of the register, `[u16; 65]`, the declared cells, `[u64; 32]`,
 // and those of a search for a register in slices (crate `slices`).
-#[derive(Drop)]
+#[derive(Clone, Copy)]
 pub struct Head {
     pub phase: Phase,
     pub shape: Shape,
@@ -24,7 +26,7 @@ pub struct Head {
 }
 
 // What start, step, locate and repair answer: the number of columns; that the locate is unfinished, as start and step do; or why they refuse.
-#[derive(Drop)]
+#[derive(Clone, Copy)]
 pub enum Reply {
     Count(usize),
     Unfinished,
@@ -32,14 +34,14 @@ pub enum Reply {
 }
 
 // What peek answers: the length of the register after the last finished round, or why it refuses.
-#[derive(Drop)]
+#[derive(Clone, Copy)]
 pub enum Peeked {
     Length(usize),
     Refused(Refusal),
 }
 
 // What shape returns.
-#[derive(Drop)]
+#[derive(Clone, Copy)]
 pub struct Reshaped {
     pub checked: Checked,
     pub head: Head,
@@ -47,7 +49,7 @@ pub struct Reshaped {
 
 // What start, step, locate and repair return: the answer, the columns, none where it refuses, how many columns were tried in a search for them, and the job's head as the
 // call leaves it.
-#[derive(Drop)]
+#[derive(Clone, Copy)]
 pub struct Answered {
     pub reply: Reply,
     pub columns: Columns,

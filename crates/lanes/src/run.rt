@@ -4,7 +4,7 @@ ghost use Rattle.lanes.specs.Lanes.{Runnable, Ran};
 use crate::step::step;
 
 // What the lanes have in the end: the value of each quotient, and what was read off with its coefficients.
-#[derive(Drop)]
+#[derive(Clone, Copy)]
 pub struct Lanes {
     pub values: [u16; 64],
     pub totals: [u32; 64],

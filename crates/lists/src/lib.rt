@@ -1,2 +1,4 @@
 // Mathematics of lists alone, and what a proof about arrays asks of the code.
+#![tactic(auto)]
+
 pub mod lend;

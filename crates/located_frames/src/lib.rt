@@ -1,4 +1,6 @@
 // Locating a frame of which the check sums are taken: by these, and by what its cells show (SPECIFICATION.md, "Jobs").
+#![tactic(auto)]
+
 ghost use Rattle.std.specs.Prelude.{◌≡◌};
 ghost use Rattle.job.specs.Answers.{answered_outcome};
 ghost use Rattle.job.specs.Job.{Arrays, with_found};

@@ -1,9 +1,11 @@
 // What crosses the C interface, as structs of numbers and arrays, and what it stands for: heads of jobs both ways, answers on the way out.
+#![tactic(auto)]
+
 pub mod answers;
 pub mod head;
 
 #[repr(C)]
-#[derive(Drop)]
+#[derive(Clone, Copy)]
 pub struct CRegister {
     pub refusal: u32,
     pub alone: u32,
@@ -11,7 +13,7 @@ pub struct CRegister {
 }
 
 #[repr(C)]
-#[derive(Drop)]
+#[derive(Clone, Copy)]
 pub struct CColumns {
     pub refusal: u32,
     pub tried: usize,
@@ -20,7 +22,7 @@ pub struct CColumns {
 
 // The head of a job. The header's struct of a job has the arrays beside it, and lends them.
 #[repr(C)]
-#[derive(Drop)]
+#[derive(Clone, Copy)]
 pub struct CHead {
     pub phase: u32,
     pub alone: u32,
@@ -33,14 +35,14 @@ pub struct CHead {
 }
 
 #[repr(C)]
-#[derive(Drop)]
+#[derive(Clone, Copy)]
 pub struct CShaped {
     pub refusal: u32,
     pub head: CHead,
 }
 
 #[repr(C)]
-#[derive(Drop)]
+#[derive(Clone, Copy)]
 pub struct CAnswer {
     pub refusal: u32,
     pub unfinished: u32,
@@ -50,14 +52,14 @@ pub struct CAnswer {
 }
 
 #[repr(C)]
-#[derive(Drop)]
+#[derive(Clone, Copy)]
 pub struct CPeeked {
     pub refusal: u32,
     pub length: usize,
 }
 
 #[repr(C)]
-#[derive(Drop)]
+#[derive(Clone, Copy)]
 pub struct CAnswered {
     pub answer: CAnswer,
     pub head: CHead,
@@ -65,7 +67,7 @@ pub struct CAnswered {
 
 // What a turn among eight jobs answers: the number of the job that it served, 8 where none is unfinished, and what the step said.
 #[repr(C)]
-#[derive(Drop)]
+#[derive(Clone, Copy)]
 pub struct CTurned {
     pub job: usize,
     pub answer: CAnswer,

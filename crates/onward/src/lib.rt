@@ -1,5 +1,7 @@
 // A step that is not the last one, and so leaves the head of the job as it is. What its caller holds of the head is lent in parts, and answered is whether it is
 // made: no struct goes by value, which takes longer than most steps.
+#![tactic(auto)]
+
 ghost use Rattle.onward.specs.GoingOn.{GoesOn};
 ghost use Rattle.slices.specs.Synthesis.{synthesis};
 

@@ -1,16 +1,18 @@
 // The 16-bit fields of a record's bytes, little-endian, handed out one after another. The borrow checker covers no function over a
 // struct that holds a slice, so those are few and thin: the work stands in `field_at` below them, and callers use `nth` above them.
+#![tactic(auto)]
+
 ghost use Rattle.std.specs.Prelude.{◌≡◌, ◌+◌, ◌*◌, ◌/◌, ◌^◌, ◌<◌, min, length};
 ghost use Rattle.reader.specs.Fields.{field_at, Filled};
 
 // The bytes of a record, and the place of the next field.
-#[derive(Drop)]
+#[derive(Clone, Copy)]
 pub struct Reader<'a> {
     pub src: &'a [u8],
     pub at: usize,
 }
 
-#[derive(Drop)]
+#[derive(Clone, Copy)]
 pub enum Field {
     Value(u16),
     End,

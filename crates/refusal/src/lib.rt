@@ -1,8 +1,10 @@
 // The refusals that the calls of the library answer, one name for each number (SPECIFICATION.md, "Refusals").
+#![tactic(auto)]
+
 ghost use Rattle.std.specs.Prelude.{◌≡◌};
 ghost use Rattle.refusal.specs.Number.{number};
 
-#[derive(Drop)]
+#[derive(Clone, Copy)]
 pub enum Refusal {
     Modulus,
     Count,
@@ -26,7 +28,7 @@ pub enum Refusal {
 }
 
 // What a test of the input finds: nothing to refuse, or the refusal.
-#[derive(Drop)]
+#[derive(Clone, Copy)]
 pub enum Checked {
     Pass,
     Refuse(Refusal),

@@ -10,7 +10,7 @@ use field257::powers::{powers, wide};
 use frame::Shape;
 
 // The lengths of the sequences; their symbols, one sequence after the other; how many symbols these are.
-#[derive(Drop)]
+#[derive(Clone, Copy)]
 pub struct Left {
     pub lengths: [u16; 8],
     pub symbols: [u16; 512],

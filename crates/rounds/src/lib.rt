@@ -1,4 +1,6 @@
 // The rounds of Algorithm 4: each round, and those that may change something.
+#![tactic(auto)]
+
 ghost use Rattle.std.specs.Prelude.{◌≡◌, ◌+◌, ◌≤◌, ◌<◌};
 ghost use Rattle.register.specs.Algorithm4.{rounds as roundsOf};
 ghost use Rattle.discrepancy.specs.Modulus.{WorkedOut, Moduli};

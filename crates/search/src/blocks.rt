@@ -5,7 +5,7 @@ use crate::values::values;
 use columns::mark;
 
 // How many columns are left to find, and how many were tried.
-#[derive(Drop)]
+#[derive(Clone, Copy)]
 pub struct Trial {
     pub left: usize,
     pub tried: usize,

@@ -1,4 +1,6 @@
 // The search for the columns that a register names, which goes up from column 0 and ends as soon as they are found (SPECIFICATION.md, "Search").
+#![tactic(auto)]
+
 mod blocks;
 pub mod roots;
 mod values;
@@ -7,14 +9,14 @@ use columns::Columns;
 use refusal::Checked;
 
 // The columns found, and how many columns were tried.
-#[derive(Drop)]
+#[derive(Clone, Copy)]
 pub struct Sought {
     pub columns: Columns,
     pub tried: usize,
 }
 
 // What the search returns: whether it refuses, and what it found, nothing where it does.
-#[derive(Drop)]
+#[derive(Clone, Copy)]
 pub struct Searched {
     pub checked: Checked,
     pub sought: Sought,

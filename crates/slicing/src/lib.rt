@@ -1,4 +1,6 @@
 // The calls that locate in slices: start, step and peek (SPECIFICATION.md, "Slices").
+#![tactic(auto)]
+
 pub mod next;
 pub mod peek;
 pub mod start;

@@ -1,4 +1,6 @@
 // The program: reads records from standard input and writes a line for each.
+#![tactic(auto)]
+
 ghost use Rattle.std.specs.Prelude.{◌≡◌};
 ghost use Rattle.tomkhadi.specs.Ran.{Ran};
 ghost use Rattle.tomkhadi.specs.Turned.{Turned};

@@ -11,7 +11,7 @@ use plain_frames::uniform::legal;
 use whole_job::{Answered, Job};
 
 // A job and its model. They agree until a call answers or leaves what the model does not; whether the last call was refused.
-#[derive(Drop)]
+#[derive(Clone, Copy)]
 pub(crate) struct Pair {
     pub(crate) agree: bool,
     pub(crate) refused: bool,

@@ -9,7 +9,7 @@ use plain::tally::{count, print_frame};
 use plain::values::{copy, first, minus, part, put, remainder, set};
 use plain_frames::damage::damage;
 
-#[derive(Drop)]
+#[derive(Clone, Copy)]
 enum Call {
     Shape,
     Encode,

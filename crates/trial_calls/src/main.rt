@@ -1,5 +1,7 @@
 // Runs the calls on a job at the edges of what is taken and in random lists against a simple model of the job, prints how often each answer
 // occurred, and the first call that disagrees. Then the calls are held to a planted model that is wrong, and must disagree with it.
+#![tactic(auto)]
+
 mod against;
 mod call_lists;
 mod edges;

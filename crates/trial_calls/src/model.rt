@@ -12,7 +12,7 @@ pub(crate) const LOCATED: u16 = 2;
 
 // The phase, the shape and, of a located job, the check sums, the length of the register and a mark for each column that it names. A planted
 // model is wrong: it takes a job whose locate is refused by 24, 25 or 26 for one that is left as it was.
-#[derive(Drop)]
+#[derive(Clone, Copy)]
 pub(crate) struct Model {
     pub(crate) planted: bool,
     pub(crate) phase: u16,
@@ -26,7 +26,7 @@ pub(crate) struct Model {
 }
 
 // The number of the refusal, or 0, and the model as the call leaves it.
-#[derive(Drop)]
+#[derive(Clone, Copy)]
 pub(crate) struct Step {
     pub(crate) number: u32,
     pub(crate) model: Model,

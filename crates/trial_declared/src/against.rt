@@ -10,7 +10,7 @@ use plain_frames::uniform::{data_of_uniform, legal};
 use whole_job::{Answered, Job};
 
 // A job and its model. They agree until a call answers or leaves what the model does not; the number by which the last call is refused, or 0.
-#[derive(Drop)]
+#[derive(Clone, Copy)]
 pub(crate) struct Pair {
     pub(crate) agree: bool,
     pub(crate) number: u32,

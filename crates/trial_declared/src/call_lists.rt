@@ -13,7 +13,7 @@ use plain::values::{copy, first, minus, part, put, remainder, set};
 use plain_frames::damage::damage;
 
 // A new shape with a frame that is encoded, a locate, or a repair.
-#[derive(Drop)]
+#[derive(Clone, Copy)]
 enum Call {
     Renew,
     Locate,

@@ -89,7 +89,7 @@ fn restores(located: Pair, damaged: &mut [u16], original: &[u16], due: bool) -> 
 }
 
 // What is answered of a damaged frame, and whether that is right.
-#[derive(Drop)]
+#[derive(Clone, Copy)]
 struct Verdict {
     number: u32,
     agree: bool,

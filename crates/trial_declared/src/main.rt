@@ -1,6 +1,8 @@
 // Runs locate and repair with declared cells: at the edges of what is taken, on random frames against all legal frames, all sets of columns and elimination,
 // and in random lists against a simple model of the job. Prints how often each answer occurred, and the first call that disagrees. Then the calls are held to
 // four planted models that are wrong, and must disagree with each.
+#![tactic(auto)]
+
 mod against;
 mod call_lists;
 mod disagreement;

@@ -27,7 +27,7 @@ pub(crate) const RECEIVED_JUDGED: u16 = 4;
 
 // The phase, the shape and, of a located job, the check sums of the frame as read, the declared cells, the length of the register and a mark for each column
 // that it names.
-#[derive(Drop)]
+#[derive(Clone, Copy)]
 pub(crate) struct Model {
     pub(crate) planted: u16,
     pub(crate) phase: u16,
@@ -42,7 +42,7 @@ pub(crate) struct Model {
 }
 
 // The number of the refusal, or 0, and the model as the call leaves it.
-#[derive(Drop)]
+#[derive(Clone, Copy)]
 pub(crate) struct Step {
     pub(crate) number: u32,
     pub(crate) model: Model,

@@ -6,7 +6,7 @@ use plain::values::{first, part, product, set};
 
 // How large frames are: of full size, of any size from 65 columns on, of at most ten columns, of at most six, or of three columns with two checks in each of at
 // most two rows.
-#[derive(Drop)]
+#[derive(Clone, Copy)]
 pub(crate) enum Size {
     Full,
     Large,
@@ -23,7 +23,7 @@ pub(crate) fn is_tiny(size: Size) -> bool {
 }
 
 // Each row has one of `spread` numbers of checks from `few` on.
-#[derive(Drop)]
+#[derive(Clone, Copy)]
 struct Drawn {
     columns: u16,
     rows: u16,

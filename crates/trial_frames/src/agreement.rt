@@ -13,7 +13,7 @@ use plain_frames::uniform::{legal, near_uniform};
 use whole_job::{Answered, Job};
 
 // What the rows of a frame have in common: how many columns they have, and the exponent at which their check sums begin.
-#[derive(Drop)]
+#[derive(Clone, Copy)]
 pub(crate) struct RowShape {
     pub(crate) columns: u16,
     pub(crate) exponent: u32,

@@ -13,7 +13,7 @@ use whole_job::Job;
 
 // How large random frames are: of full size, of any size from 65 columns on, of at most seven columns, or of three columns with two checks
 // in each of at most two rows, these with a given exponent; or, for the planted model, of six columns and two rows.
-#[derive(Drop)]
+#[derive(Clone, Copy)]
 pub(crate) enum Size {
     Full,
     Large,

@@ -1,5 +1,7 @@
 // Runs encode, locate and repair on random frames against second implementations that share no code with them, prints how often each
 // answer occurred, and the first frame on which two disagree. Then the calls are held to a planted model that is wrong, and must disagree with it.
+#![tactic(auto)]
+
 mod agreement;
 mod every_frame;
 mod frames;

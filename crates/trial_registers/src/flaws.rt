@@ -129,7 +129,7 @@ fn compare(p: u16, lengths: &[u16], symbols: &[u16], room: usize, counts: &mut [
 }
 
 // Input has up to two flaws: 0 of the modulus, 1 of the count, 2 of a length, 3 of the number of symbols, 4 of a symbol, 5 of the taps.
-#[derive(Drop)]
+#[derive(Clone, Copy)]
 struct Flaws {
     first: u16,
     second: u16,

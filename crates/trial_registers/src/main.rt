@@ -1,5 +1,7 @@
 // Runs the finder against second implementations that share no code with it, prints how often each answer occurred, and the first input
 // on which two disagree. Then the finder is held to a planted model that is wrong, and must disagree with it.
+#![tactic(auto)]
+
 mod algorithm4;
 mod drawn;
 mod edges;

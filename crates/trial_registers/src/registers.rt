@@ -26,7 +26,7 @@ fn proportional(p: u16, a: &[u16], b: &[u16], n: usize) -> bool {
 
 // What the finder is held to: elimination and Algorithm 4; besides, where there are few taps, the trial of them all; or, planted, Algorithm 4
 // with the sequences aligned at their starts, which can miss the shortest register.
-#[derive(Drop)]
+#[derive(Clone, Copy)]
 enum Model {
     Usual,
     Few,
@@ -161,7 +161,7 @@ fn compare_random(
 
 // What is drawn: up to five short sequences of any kind; up to eight long ones that a short register generates; or three short ones for the
 // planted model.
-#[derive(Drop)]
+#[derive(Clone, Copy)]
 pub(crate) enum Drawn {
     Short,
     Long,

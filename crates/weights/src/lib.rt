@@ -1,4 +1,6 @@
 // The coefficients with which the symbol at a column of a set is read off the check sums, shared by all rows.
+#![tactic(auto)]
+
 pub mod read;
 
 ghost use Rattle.std.specs.Prelude.{◌≡◌, ℕ, suc, ◌≤◌, ◌<◌, length, get_or};

@@ -1,5 +1,7 @@
 // A job with its arrays as one value, so that a trial can keep, copy and hand on a job as it does a number. Each call here is the library's on the parts of
 // the job.
+#![tactic(auto)]
+
 ghost use Rattle.std.specs.Prelude.{List, [], ◌≡◌, ℕ};
 ghost use Rattle.job.specs.Answers.{shape_outcome, encode_outcome, answered_outcome, peek_outcome};
 ghost use Rattle.job.specs.Calls.{step, shape, encode, locate, repair, start, next, peek};
@@ -12,7 +14,7 @@ use job::{Head, Peeked, Reply};
 use refusal::Checked;
 
 // What is kept of a locate in slices, as in crate `slices`.
-#[derive(Drop)]
+#[derive(Clone, Copy)]
 pub struct Synthesis {
     pub counts: [u16; 5],
     pub lengths: [u16; 8],
@@ -25,7 +27,7 @@ pub struct Synthesis {
     pub saved: [u16; 1152],
 }
 
-#[derive(Drop)]
+#[derive(Clone, Copy)]
 pub struct Job {
     pub head: Head,
     pub sums: [u16; 512],
@@ -35,14 +37,14 @@ pub struct Job {
 }
 
 // What shape answers, and the job as it leaves it.
-#[derive(Drop)]
+#[derive(Clone, Copy)]
 pub struct Reshaped {
     pub checked: Checked,
     pub job: Job,
 }
 
 // What start, step, locate and repair answer, and the job as they leave it.
-#[derive(Drop)]
+#[derive(Clone, Copy)]
 pub struct Answered {
     pub reply: Reply,
     pub columns: Columns,

@@ -5,7 +5,7 @@ ghost use Rattle.window.specs.Window.{Inside, Filled, Refilled, is_lacking};
 use record::parse::claimed;
 
 // The bytes from `start` to `end` are still to be used, and the input may have more.
-#[derive(Drop)]
+#[derive(Clone, Copy)]
 pub struct Window {
     pub start: usize,
     pub end: usize,

@@ -9,7 +9,7 @@ use record::line::line;
 use record::parse::claimed;
 
 // Where the lines that were put end, and where the bytes start that are still to be used.
-#[derive(Drop)]
+#[derive(Clone, Copy)]
 pub struct Put {
     pub start: usize,
     pub used: usize,
