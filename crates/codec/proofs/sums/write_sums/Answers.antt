@@ -1,0 +1,6 @@
+-- `codec::sums::write_sums` meets its contract.
+use Rattle.frame.proofs.Shapes.{shape-ranges}
+use Rattle.codec.proofs.sums.write_sums.Goals as goal
+
+pub weights-t-requires : goal.weights-t-requires
+weights-t-requires c = (shape-ranges c.args.s c.requires.0).exponent-most

@@ -1,0 +1,46 @@
+-- `division::rows::encode_row` meets its contract.
+use mathlib.Core.Path.{◌≡◌}
+use Prim.Native.Nat.{◌-◌}
+use native.Mathlib.Omega.{arith}
+use borrow.Rule.Slice.PartMut.{put_mid, same_len_mid}
+use lib.ListN.{length}
+use Rattle.frame.proofs.Remainder.{length_part, part_small, completed-by_remainder}
+use Rattle.division.proofs.rows.encode_row.Goals as goal
+use Rattle.division.proofs.rows.encode_row.Goals.{After-cells-3-1}
+
+-- the cells after the division
+refilled : (c : After-cells-3-1) →
+    let divided = c.before.before.before in
+    let made = divided.before.before in
+    length (put_mid 0 (length made.args.row.now - 0) made.data_cells-cells.result divided.divide.new.0) ≡ 256
+refilled c =
+    let divided = c.before.before.before in
+    let made = divided.before.before in
+    omega (arith, same_len_mid 0 (length made.args.row.now - 0) made.data_cells-cells.result divided.divide.new.0 divided.divide.auto.0)
+
+pub divide-requires : goal.divide-requires
+divide-requires c =
+    let room : length c.data_cells-cells.result ≡ 256 = omega arith in
+    let m = c.args.m in
+    let row = c.args.row.now in
+    let cells = c.data_cells-cells.result in
+    let size = length_part m row cells c.requires.reach c.requires.narrow room c.data_cells-cells.ensures in
+    record {
+      divisor = c.requires.divisor;
+      reach = omega (arith, size);
+      narrow = omega (arith, size);
+      small = part_small m row cells c.requires.reach c.requires.narrow room c.data_cells-cells.ensures c.slice-known.given;
+    }
+
+pub slice_bounds-put_negatives-end : goal.slice_bounds-put_negatives-end
+slice_bounds-put_negatives-end c = omega (arith, refilled c)
+
+pub put_negatives-requires : goal.put_negatives-requires
+put_negatives-requires c = omega (arith, refilled c)
+
+pub returns : goal.returns
+returns c =
+    λ b of.
+    completed-by_remainder c.args.m c.args.row.now c.data_cells-cells.result c.requires.reach c.requires.narrow (omega arith)
+    c.data_cells-cells.ensures b c.divide.new.0 _ c.divide.auto.0
+    c.put_negatives.ensures c.requires.small (c.divide.ensures b of)

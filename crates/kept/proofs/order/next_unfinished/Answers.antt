@@ -1,0 +1,36 @@
+use mathlib.Core.Path.{sym, ap}
+use mathlib.Core.List.{List}
+use Prim.Native.Nat.{ℕ, ◌-◌}
+use native.Mathlib.Omega.{arith}
+use Rattle.mirror.specs.declared.CHead.{CHead}
+use Rattle.kept.specs.Kept.{heads, numbers_at, number_of}
+use Rattle.kept.proofs.InOrder.{three_unfinished, others-not, looks_first, looks_here, looks_on, looks_through}
+use Rattle.kept.proofs.order.next_unfinished.Goals as goal
+use Rattle.kept.proofs.order.next_unfinished.Goals.{In-loop-i}
+
+-- the numbers of the job that is looked at
+abbrev numbers-here : In-loop-i → (extents checks marks : List (List ℕ)) → CHead
+numbers-here c extents checks marks =
+    numbers_at (heads c.args.states.now extents checks marks) c.loop-i.k
+
+pub returns-then-states-k-eq3 : goal.returns-then-states-k-eq3
+returns-then-states-k-eq3 c =
+    λ extents checks marks.
+    let inside = c.before.before in
+    let here = three_unfinished (numbers-here inside extents checks marks) c.if-states-k-eq3.true in
+    sym (ap number_of (looks_here _ _ (inside.loop-i.invariant.1 extents checks marks) (let less = inside.loop-i-test.true in omega arith) here))
+
+pub loop-i-preserved : goal.loop-i-preserved
+loop-i-preserved c =
+    let inside = c.before.before in (
+      omega arith,
+      λ extents checks marks.
+          let here = others-not (numbers-here inside extents checks marks) c.if-states-k-eq3.false in
+          looks_on _ _ (inside.loop-i.invariant.1 extents checks marks) (let less = inside.loop-i-test.true in omega arith) here,
+    )
+
+pub loop-i-init : goal.loop-i-init
+loop-i-init c. = looks_first _ _)
+
+pub returns : goal.returns
+returns c = sym (ap number_of (looks_through _ _ (c.loop-i.invariant.1 extents checks marks) c.loop-i-test.false))

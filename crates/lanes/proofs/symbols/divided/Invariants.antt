@@ -1,0 +1,13 @@
+-- `lanes::symbols::divided` meets its contract.
+use Prim.Native.Nat.{◌-◌}
+use lib.ListN.{get_or}
+use Rattle.lanes.specs.Symbols.{symbols_in}
+use Rattle.lists.proofs.Filling.{Filled}
+use Rattle.lists.proofs.Zeros.{zeros}
+use Rattle.lanes.proofs.symbols.divided.Given as goal
+
+abbrev pub invariant-loop-k : goal.invariant-loop-k
+invariant-loop-k l = Filled (λ l.k. get_or (symbols_in l.m l.weights l.lanes) l.k 0) (zeros 64) l.k l.symbols
+
+abbrev pub decreases-loop-k : goal.decreases-loop-k
+decreases-loop-k l = l.m - l.k

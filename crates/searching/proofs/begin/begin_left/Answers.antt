@@ -1,0 +1,50 @@
+-- `searching::begin::begin_left` meets its contract.
+use mathlib.Core.Path.{◌≡◌, refl}
+use lib.ListN.{length, get_or}
+use Rattle.decoding.specs.Remaining.{all_remaining}
+use Rattle.frame.specs.DeclaredCells.{declared_by}
+use Rattle.frame.specs.Frame.{held_sequences}
+use Rattle.lists.specs.Total.{total}
+use Rattle.locating.proofs.Lending.{Lent, left-lent, left-counted}
+use borrow.Author.Rules.{rules}
+use Rattle.searching.proofs.Beginning.{lent_beginnable, lent-begun}
+use Rattle.searching.proofs.begin.begin_left.Goals as goal
+use Rattle.searching.proofs.begin.begin_left.Goals.{After-all_remaining-left, After-begin_lent-arg-9-1, After-told-2-1}
+
+-- ---- the ways back
+
+abbrev taken : After-told-2-1 → After-all_remaining-left
+taken c = c.before.before.before
+
+abbrev told-before : After-begin_lent-arg-9-1 → After-told-2-1
+told-before c = c.before.before.before.before.before.before.before.before.before
+
+eight : (c : After-all_remaining-left) → length c.all_remaining-left.result.lengths ≡ 8
+eight c = search rules
+
+sized : (c : After-told-2-1) → length (taken c).all_remaining-left.result.symbols ≡ 512
+sized c = search rules
+
+lent : (c : After-told-2-1) →
+    let args = (taken c).args in
+    let left = (taken c).all_remaining-left.result in
+    Lent args.s.rows left.lengths left.symbols
+    (all_remaining args.s (declared_by args.declared.now) (held_sequences args.s args.sums.now))
+lent c =
+    let left = taken c in
+    let args = left.args in
+    left-lent args.s left.requires.shape (declared_by args.declared.now) args.sums.now left.all_remaining-left.result
+    left.all_remaining-left.ensures (eight left) (sized c)
+
+counted : (c : After-all_remaining-left) →
+    let left = c.all_remaining-left.result in
+    left.count ≡ total c.args.s.rows (λ h. get_or left.lengths h 0)
+counted c = left-counted c.args.s c.requires.shape _ _ c.all_remaining-left.result c.all_remaining-left.ensures
+
+pub begin_lent-requires : goal.begin_lent-requires
+begin_lent-requires c = let told = told-before c in lent_beginnable (lent told) _ (counted (taken told))
+
+pub returns : goal.returns
+returns c =
+    let told = told-before c.before in
+    lent-begun (lent told) _ (counted (taken told)) refl _ c.begin_lent.ensures

@@ -1,0 +1,69 @@
+-- `slicing::start::start_read` meets its contract.
+use mathlib.Core.Path.{◌≡◌, refl, sym, ap, subst⁻¹, ◌∙◌}
+use mathlib.Core.Bool.{true}
+use mathlib.Core.List.{List}
+use Prim.Native.Nat.{◌<◌}
+use lib.ListN.{get_or}
+use Rattle.frame.specs.DeclaredCells.{declared_by, read_tests}
+use Rattle.frame.specs.Shape.{is_shape}
+use Rattle.frame.proofs.Declarable.{well_formed_declarable}
+use Rattle.frame.proofs.HeldSums.{held_below}
+use Rattle.job.proofs.Emptiness.{has-shape}
+use Rattle.refusal.specs.Outcome.{outcome, outcome_of, passed}
+use Rattle.locating.proofs.Steps.{refusal-outcome, passed-read}
+use Rattle.searching.proofs.Calling.{start-refused, start-goes-on}
+use Rattle.slicing.proofs.start.start_read.Goals as goal
+use Rattle.slicing.proofs.start.start_read.Goals.{After-check_read-checked, After-start_left-arg-11-1, After-sums_read, In_default, Start}
+
+-- ---- the ways back
+
+abbrev start_of : After-check_read-checked → Start
+start_of c = c.before.before
+
+abbrev tested : In_default → After-check_read-checked
+tested c = c.before.before
+
+abbrev summed : After-start_left-arg-11-1 → After-sums_read
+summed c = c.before.before.before.before.before.before.before.before.before.before.before.before
+
+-- ---- the tests
+
+shape : (c : Start) → is_shape c.args.j.shape ≡ true
+shape c = has-shape _ c.requires.full
+
+pub check_read-checked-requires : goal.check_read-checked-requires
+check_read-checked-requires c = shape c.before
+
+pub returns-in-Refuse : goal.returns-in-Refuse
+returns-in-Refuse c =
+    refusal-outcome _ _ _ c.refuse.ensures refl
+    ∙ start-refused _ _ _ (start_of c.before.before).requires.full _
+    (sym c.check_read-checked.ensures ∙ ap outcome_of c.checked-1.given.1)
+
+-- the frame is well-formed
+passes : (c : In_default) →
+    let args = (start_of (tested c)).args in
+    outcome (read_tests args.j.shape (declared_by args.declared.now) args.frame.now) ≡ passed
+passes c = sym (tested c).check_read-checked.ensures ∙ ap outcome_of c.enum_told-1.given.1
+
+-- ---- the search from its sums
+
+pub sums_read-requires : goal.sums_read-requires
+sums_read-requires c = (shape (start_of (tested c)), passed-read _ _ _ (passes c))
+
+pub start_left-requires : goal.start_left-requires
+start_left-requires c =
+    let given = summed c in
+    let told = given.before in
+    let start = start_of (tested told) in
+    record {
+      shape = shape start;
+      declared = well_formed_declarable _ _ _ (passed-read _ _ _ (passes told));
+      sums-small = λ k. subst⁻¹ (λ (l : List _). get_or l k 0 < 257) given.sums_read.ensures (held_below _ _ k);
+    }
+
+pub returns : goal.returns
+returns c =
+    let given = summed c.before in
+    c.start_left.ensures _
+    ∙ start-goes-on _ _ _ _ _ _ _ (start_of (tested given.before)).requires.full (passes given.before) given.sums_read.ensures
