@@ -34,7 +34,7 @@ use Rattle.lists.proofs.Totals.{total_ext, total-bound}
 use Rattle.lists.proofs.Zeros.{zeros, drop-zeros}
 use Rattle.refusal.specs.Outcome.{outcome, passed, refused}
 use Rattle.refusal.proofs.Orders.{Pass, pass-otherwise}
-use Rattle.refusal.proofs.Ranges.{in_range}
+use Rattle.refusal.proofs.Ranges.{in_range_lem}
 use Rattle.register.specs.Algorithm4.{found, found_alone}
 use Rattle.register.specs.Sequences.{largest, longest, ordered, split}
 use Rattle.register.proofs.Bounds.{bounded-rounds}
@@ -109,7 +109,7 @@ module _ {rows : ℕ} {lengths symbols : List ℕ} {ss : List (List ℕ)} (lent 
       let m = lent.rows-most in (
         refl,
         (
-          ap not (in_range 1 8 (length first) (omega arith) (omega arith)),
+          ap not (in_range_lem 1 8 (length first) (omega arith) (omega arith)),
           (
             ap not (ap₂ ◌&&◌ (every_of (length first) _ (λ h l. le-leb (get_or first h 0) 128 (omega (arith, first-most h l)))) (eq-eqb _ _ lent_total)),
             (

@@ -17,8 +17,8 @@ module _ (lo hi n : ℕ) where
   pub above_range : hi < n → in_range lo hi n ≡ false
   above_range h = ap (λ (b : Bool). leb lo n && b) (lt-leb n hi h) ∙ and-false (leb lo n)
 
-  pub in_range : lo ≤ n → n ≤ hi → in_range lo hi n ≡ true
-  in_range a b = ap₂ ◌&&◌ (le-leb lo n a) (le-leb n hi b)
+  pub in_range_lem : lo ≤ n → n ≤ hi → in_range lo hi n ≡ true
+  in_range_lem a b = ap₂ ◌&&◌ (le-leb lo n a) (le-leb n hi b)
 
   pub range_most : in_range lo hi n ≡ true → n ≤ hi
   range_most e = leb-true n hi ((and-eq-true_iff (leb lo n) (leb n hi)).0 e).1
@@ -38,4 +38,4 @@ outside-says k lo hi n = says-not k (in_range lo hi n) ((n < lo) ⊎ (hi < n)) n
     pick e (yes l) d = inl l
     pick e (no l) (yes h) = inr h
     pick e (no l) (no h) =
-        absurd (false≢true (sym e ∙ in_range lo hi n (omega arith) (omega arith)))
+        absurd (false≢true (sym e ∙ in_range_lem lo hi n (omega arith) (omega arith)))

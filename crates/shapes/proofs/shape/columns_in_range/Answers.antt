@@ -14,4 +14,4 @@ returns-then-columns-gt256 c = sym (above_range 2 256 _ c.if-columns-gt256.true)
 
 pub returns : goal.returns
 unfolding columns_in_range
-returns c = sym (in_range 2 256 _ c.if-columns-lt2.false c.if-columns-gt256.false)
+returns c = sym (in_range_lem 2 256 _ c.if-columns-lt2.false c.if-columns-gt256.false)

@@ -14,4 +14,4 @@ returns-then-rows-gt8 c = sym (above_range 1 8 _ c.if-rows-gt8.true)
 
 pub returns : goal.returns
 unfolding rows_in_range
-returns c = sym (in_range 1 8 _ c.if-rows-lt1.false c.if-rows-gt8.false)
+returns c = sym (in_range_lem 1 8 _ c.if-rows-lt1.false c.if-rows-gt8.false)
