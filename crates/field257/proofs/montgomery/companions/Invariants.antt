@@ -7,7 +7,7 @@ use Rattle.lists.proofs.Zeros.{zeros}
 use Rattle.field257.proofs.montgomery.companions.Given as goal
 
 abbrev pub invariant-loop-k : goal.invariant-loop-k
-invariant-loop-k l = Filled (λ l.k. companion (get_or l.x l.k 0)) (zeros 64) l.k l.z
+invariant-loop-k l = Filled (λ k. companion (get_or l.x k 0)) (zeros 64) l.k l.z
 
 abbrev pub decreases-loop-k : goal.decreases-loop-k
 decreases-loop-k l = 64 - l.k

@@ -7,7 +7,7 @@ use Rattle.lists.proofs.Zeros.{zeros}
 use Rattle.lanes.proofs.symbols.divided.Given as goal
 
 abbrev pub invariant-loop-k : goal.invariant-loop-k
-invariant-loop-k l = Filled (λ l.k. get_or (symbols_in l.m l.weights l.lanes) l.k 0) (zeros 64) l.k l.symbols
+invariant-loop-k l = Filled (λ k. get_or (symbols_in l.m l.weights l.lanes) k 0) (zeros 64) l.k l.symbols
 
 abbrev pub decreases-loop-k : goal.decreases-loop-k
 decreases-loop-k l = l.m - l.k

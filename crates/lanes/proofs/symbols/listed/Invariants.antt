@@ -8,7 +8,7 @@ use Rattle.lists.proofs.Zeros.{zeros}
 use Rattle.lanes.proofs.symbols.listed.Given as goal
 
 abbrev pub invariant-loop-i : goal.invariant-loop-i
-invariant-loop-i l = Walk l.set l.k l.i × Filled (λ l.k. get_or (members l.set) l.k 0) (zeros 64) l.k l.list
+invariant-loop-i l = Walk l.set l.k l.i × Filled (λ k. get_or (members l.set) k 0) (zeros 64) l.k l.list
 
 abbrev pub decreases-loop-i : goal.decreases-loop-i
 decreases-loop-i l = 256 - l.i

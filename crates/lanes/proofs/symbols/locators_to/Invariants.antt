@@ -7,7 +7,7 @@ use Rattle.lists.proofs.Zeros.{zeros}
 use Rattle.lanes.proofs.symbols.locators_to.Given as goal
 
 abbrev pub invariant-loop-k : goal.invariant-loop-k
-invariant-loop-k l = (l.k ≤ l.m) × Filled (λ l.k. get_or (locators_to l.m l.list l.e) l.k 0) (zeros 64) l.k l.x
+invariant-loop-k l = (l.k ≤ l.m) × Filled (λ k. get_or (locators_to l.m l.list l.e) k 0) (zeros 64) l.k l.x
 
 abbrev pub decreases-loop-k : goal.decreases-loop-k
 decreases-loop-k l = l.m - l.k
