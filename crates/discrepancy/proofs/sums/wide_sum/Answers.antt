@@ -39,18 +39,18 @@ few c = omega (arith, near c, c.requires.short)
 
 pub overflow_add-low : goal.overflow_add-low
 overflow_add-low c =
-    record { fits = half_fits {n = 136} (omega arith) (few c.before.before.before) c.loop-i.invariant.lows (omega (arith, c.bottom.ensures)) }
+    record { fits = half_fits {n = 136} (omega arith) (few (goal.at.overflow_add-low c).In-loop-i) c.loop-i.invariant.lows (omega (arith, c.bottom.ensures)) }
 
 pub overflow_add-high : goal.overflow_add-high
 overflow_add-high c =
-    let small : c.top.result < 65536 = rw c.top.ensures (top_small c.requires c.loop-i.i (near c.before.before.before.before)) in
-    record { fits = half_fits {n = 136} (omega arith) (few c.before.before.before.before) c.loop-i.invariant.highs small }
+    let small : c.top.result < 65536 = rw c.top.ensures (top_small c.requires c.loop-i.i (near (goal.at.overflow_add-high c).In-loop-i)) in
+    record { fits = half_fits {n = 136} (omega arith) (few (goal.at.overflow_add-high c).In-loop-i) c.loop-i.invariant.highs small }
 
 pub loop-i-preserved : goal.loop-i-preserved
 loop-i-preserved c =
     let top = c.top.ensures in
     halved-more _ _ c.loop-i.i c.loop-i.low c.loop-i.high c.loop-i.invariant (omega arith) c.bottom.ensures top
-    (rw top (top_small c.requires c.loop-i.i (near c.before.before.before.before)))
+    (rw top (top_small c.requires c.loop-i.i (near (goal.at.loop-i-preserved c).In-loop-i)))
 
 pub wide_remainder-requires : goal.wide_remainder-requires
 wide_remainder-requires c =

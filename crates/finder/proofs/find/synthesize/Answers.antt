@@ -13,9 +13,8 @@ room : (c : Start) → 0 < length c.args.taps.now
 room c = omega (arith, (accepted _ _ _ _ c.requires).enough)
 
 pub bounds-taps-0 : goal.bounds-taps-0
-bounds-taps-0 c = room c.before.before.before.before.before
+bounds-taps-0 c = room (goal.at.bounds-taps-0 c).Start
 
 pub returns-then-all_zero : goal.returns-then-all_zero
 returns-then-all_zero c =
-    let start = c.before.before.before.before.before in
-    finds-none start.requires (room start) (sym c.all_zero.ensures ∙ c.if-all_zero.true)
+    finds-none c.requires (room (goal.at.returns-then-all_zero c).Start) (sym c.all_zero.ensures ∙ c.if-all_zero.true)

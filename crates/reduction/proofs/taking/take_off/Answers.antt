@@ -21,12 +21,10 @@ loop-i-init c =
 
 -- the modulus that is read
 read : (c : After-less_product-arg-in-loop-i-1) →
-    let at = c.before.before.before.before in
-    let args = at.args in
-    get_or args.moduli.now at.loop-i.i 0 ≡ args.f.p
+    let args = c.args in
+    get_or args.moduli.now c.loop-i.i 0 ≡ args.f.p
 read c =
-    let at = c.before.before.before.before in
-    at.requires.odd.lent.each at.loop-i.i (omega (arith, at.requires.cells.within))
+    c.requires.odd.lent.each c.loop-i.i (omega (arith, c.requires.cells.within))
 
 pub overflow_sub-p : goal.overflow_sub-p
 overflow_sub-p c = omega (arith, read c)
@@ -45,11 +43,11 @@ loop-i-preserved c =
     let odd = c.requires.odd in
     let p = args.f.p in
     let ensures = c.less_product.ensures in
-    let below : c.less_product.result < p = omega (arith, read c.before, ensures.below) in (
+    let below : c.less_product.result < p = omega (arith, read (goal.at.loop-i-preserved c).After-less_product-arg-in-loop-i-1, ensures.below) in (
       search rules,
       each-modulus (λ p. Less p args.u args.numbers.now args.from args.e (c.loop-i.i + 1) args.cells.now _) odd.lent
           (less-more c.requires.cells args.u args.numbers.now (c.loop-i.invariant.1 p odd.lent) (omega arith) below
-          (taken-by (read c.before) refl odd.factor _ _ _ ensures.equals)),
+          (taken-by (read (goal.at.loop-i-preserved c).After-less_product-arg-in-loop-i-1) refl odd.factor _ _ _ ensures.equals)),
     )
 
 pub returns : goal.returns

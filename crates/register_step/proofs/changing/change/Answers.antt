@@ -29,39 +29,35 @@ positive-at c = omega (arith, c.requires.worked_out.taken.two_or_more)
 
 pub reduce-requires : goal.reduce-requires
 reduce-requires c =
-    let at = c.before.before.before.before.before.before in
-    let pre = at.requires in
+    let pre = c.requires in
     let a = pre.changeable in
-    record { divided = record { modulus = pre.worked_out; lent = pre.moduli; loose = pre.loose.0; residue = over-less (positive-at at) a }; reducible = reducible (positive-at at) a }
+    record { divided = record { modulus = pre.worked_out; lent = pre.moduli; loose = pre.loose.0; residue = over-less (positive-at (goal.at.reduce-requires c).Start) a }; reducible = reducible (positive-at (goal.at.reduce-requires c).Start) a }
 
 pub returns-then-n-size : goal.returns-then-n-size
 returns-then-n-size c =
-    let at = c.before.before.before.before.before.before.before in
-    let a = at.requires.changeable in
-    changed-stays _ _ _ _ _ (by-sum (positive-at at) a _ at.requires.loose.1 (c.reduce.ensures _ a.readable.quotient))
+    let a = c.requires.changeable in
+    changed-stays _ _ _ _ _ (by-sum (positive-at (goal.at.returns-then-n-size c).Start) a _ c.requires.loose.1 (c.reduce.ensures _ a.readable.quotient))
     c.if-n-size.true
 
 pub reduce_keeping-requires : goal.reduce_keeping-requires
 reduce_keeping-requires c =
-    let at = c.before.before.before.before.before.before in
-    let pre = at.requires in
+    let pre = c.requires in
     let a = pre.changeable in
-    record { divided = record { modulus = pre.worked_out; lent = pre.moduli; loose = pre.loose.0; residue = over-less (positive-at at) a }; reducible = reducible (positive-at at) a }
+    record { divided = record { modulus = pre.worked_out; lent = pre.moduli; loose = pre.loose.0; residue = over-less (positive-at (goal.at.reduce_keeping-requires c).Start) a }; reducible = reducible (positive-at (goal.at.reduce_keeping-requires c).Start) a }
 
 pub overflow_cast-sizes : goal.overflow_cast-sizes
 overflow_cast-sizes c = let a = c.requires.changeable in record { fits = omega (arith, a.size, a.round) }
 
 pub quotient-requires : goal.quotient-requires
 quotient-requires c =
-    let at = c.before.before.before.before.before.before.before in
-    let f = at.requires.worked_out in
+    let f = c.requires.worked_out in
     record {
       two_or_more = f.taken.two_or_more;
       operands =
           record {
             modulus = f.taken.modulus;
-            factor = rw f.unit (mod-lt 65536 (positive-at at));
-            base = at.requires.changeable.discrepancy;
+            factor = rw f.unit (mod-lt 65536 (positive-at (goal.at.quotient-requires c).Start));
+            base = c.requires.changeable.discrepancy;
             reciprocal = f.reciprocal;
           };
     }
@@ -73,9 +69,8 @@ overflow_add-result c =
 
 pub returns : goal.returns
 returns c =
-    let at = c.before.before.before.before.before.before.before in
-    let a = at.requires.changeable in
+    let a = c.requires.changeable in
     changed-grows _ _ _ _ _
-    (by-sum (positive-at at) a _ at.requires.loose.1 (c.reduce_keeping.ensures.by_index _ a.readable.quotient))
-    (c.quotient.ensures.equals ∙ ap (λ (x : ℕ). quotient_of at.args.f.p x at.args.d) at.requires.worked_out.unit)
+    (by-sum (positive-at (goal.at.returns c).Start) a _ c.requires.loose.1 (c.reduce_keeping.ensures.by_index _ a.readable.quotient))
+    (c.quotient.ensures.equals ∙ ap (λ (x : ℕ). quotient_of c.args.f.p x c.args.d) c.requires.worked_out.unit)
     c.reduce_keeping.ensures.saved_after c.if-n-size.false

@@ -1,9 +1,9 @@
-use mathlib.Core.Logic.{⊎_elim}
 use Prim.Native.Nat.{◌-◌}
 use native.Mathlib.Omega.{arith}
 use borrow.Author.Tests.{lt-ltb, le-ltb}
 use Rattle.lists.proofs.Testing.{tested-none, tested-pass, tested_fail, tested-all}
 use Rattle.sequences.proofs.check.below.Goals as goal
+use Rattle.sequences.proofs.check.below.Goals.{then-symbols-i, else-symbols-i}
 
 pub loop-i-init : goal.loop-i-init
 loop-i-init c = tested-none _ _
@@ -14,10 +14,10 @@ overflow_cast-symbols c = omega (arith, c.shared_slice_known-1.given c.loop-i.i)
 pub loop-i-preserved : goal.loop-i-preserved
 loop-i-preserved c =
     let at = c.loop-i in
-    ⊎_elim
-    (λ w. tested_fail _ _ at.i at.all at.invariant c.loop-i-test.true _ w.1 (le-ltb _ _ w.0.taken))
-    (λ w. tested-pass _ _ at.i at.all at.invariant c.loop-i-test.true _ w.1 (lt-ltb _ _ w.0.left))
-    c.if-symbols-i.branch
+    elim c.if-symbols-i.branch [
+      then-symbols-i w ↦ tested_fail _ _ at.i at.all at.invariant c.loop-i-test.true _ w.all-is (le-ltb _ _ w.if-symbols-i.true)
+      | else-symbols-i w ↦ tested-pass _ _ at.i at.all at.invariant c.loop-i-test.true _ w.all-is (lt-ltb _ _ w.if-symbols-i.false)
+    ]
 
 pub returns : goal.returns
 returns c = tested-all _ _ _ _ c.loop-i.invariant c.loop-i-test.false

@@ -3,7 +3,6 @@ use mathlib.Core.Path.{◌≡◌, sym, ◌∙◌}
 use mathlib.Core.Bool.{not, cond}
 use Prim.Native.Nat.{suc}
 use lib.Dec.{ltb}
-use borrow.Author.Tests.{not-false}
 use Rattle.refusal.specs.Outcome.{outcome, passed, refused}
 use Rattle.sequences.specs.Tests.{is_below, tests}
 use Rattle.sequences.proofs.Checks.{counted-bounds, room-short, room-enough}
@@ -12,16 +11,14 @@ use Rattle.sequences.proofs.check.check.Goals.{After-below, After-longest}
 
 -- the tests after the first three, once these pass
 past_three : (c : After-longest) →
-    let test1 = c.before.before.before.before.before in
-    let args = test1.args in
+    let args = c.args in
     outcome (tests args.p args.lengths.now args.symbols.now args.room) ≡
     cond (ltb args.room (suc c.longest.result)) (refused 8) (cond (not (is_below args.p args.symbols.now)) (refused 4) passed)
 unfolding tests
 past_three c =
-    let test1 = c.before.before in
     rw (
-      ← test1.is_modulus.ensures,
-      test1.if-not-is_modulus.false,
+      ← c.is_modulus.ensures,
+      c.if-not-is_modulus.false,
       ← c.counted.ensures,
       c.if-not-counted.false,
       ← c.measured.ensures,
@@ -32,8 +29,10 @@ past_three c =
 -- the last test, once the others pass
 past-four : (c : After-below) →
     let args = c.args in
+    outcome (tests args.p args.lengths.now args.symbols.now args.room) ≡
+    cond (ltb args.room (suc c.longest.result)) (refused 8) (cond (not (is_below args.p args.symbols.now)) (refused 4) passed) →
     outcome (tests args.p args.lengths.now args.symbols.now args.room) ≡ cond (not c.below.result) (refused 4) passed
-past-four c = past_three c.before.before ∙ rw (room-enough c.if-room-longest.false, ← c.below.ensures)
+past-four c three = three ∙ rw (room-enough c.if-room-longest.false, ← c.below.ensures)
 
 pub returns-then-not-is_modulus : goal.returns-then-not-is_modulus
 unfolding tests
@@ -44,7 +43,7 @@ unfolding tests
 returns-then-not-counted c = rw (← c.is_modulus.ensures, c.if-not-is_modulus.false, ← c.counted.ensures, c.if-not-counted.true)
 
 pub measured-requires : goal.measured-requires
-measured-requires c = (counted-bounds _ (sym c.counted.ensures ∙ not-false _ c.if-not-counted.false)).1
+measured-requires c = (counted-bounds _ (sym c.counted.ensures ∙ c.if-not-counted.false)).1
 
 pub returns-then-not-measured : goal.returns-then-not-measured
 unfolding tests
@@ -59,10 +58,10 @@ returns-then-not-measured c =
     )
 
 pub returns-then-room-longest : goal.returns-then-room-longest
-returns-then-room-longest c = sym (past_three c.before ∙ rw (room-short c.if-room-longest.true))
+returns-then-room-longest c = sym (past_three (goal.at.returns-then-room-longest c).After-longest ∙ rw (room-short c.if-room-longest.true))
 
 pub returns-then-not-below : goal.returns-then-not-below
-returns-then-not-below c = sym (past-four c.before ∙ rw c.if-not-below.true)
+returns-then-not-below c = sym (past-four (goal.at.returns-then-not-below c).After-below (past_three (goal.at.returns-then-not-below c).After-longest) ∙ rw c.if-not-below.true)
 
 pub returns : goal.returns
-returns c = sym (past-four c.before ∙ rw c.if-not-below.false)
+returns c = sym (past-four (goal.at.returns c).After-below (past_three (goal.at.returns c).After-longest) ∙ rw c.if-not-below.false)

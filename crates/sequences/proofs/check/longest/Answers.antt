@@ -1,9 +1,9 @@
-use mathlib.Core.Logic.{⊎_elim}
 use Prim.Native.Nat.{◌-◌}
 use native.Mathlib.Omega.{arith}
 use borrow.Author.Rules.{rules}
 use Rattle.register.proofs.Largest.{largest-next, largest-all}
 use Rattle.sequences.proofs.check.longest.Goals as goal
+use Rattle.sequences.proofs.check.longest.Goals.{else-n-most, then-n-most}
 
 pub loop-h-init : goal.loop-h-init
 loop-h-init c = (search rules, omega arith)
@@ -17,7 +17,7 @@ loop-h-preserved c =
     let args = c.args in (
       search rules,
       largest-next args.lengths.now at.h at.most c.if-n-most.most (search rules) at.invariant.1
-          (⊎_elim (λ w. omega arith) (λ w. omega arith) c.if-n-most.branch),
+          (elim c.if-n-most.branch [ then-n-most w ↦ omega arith | else-n-most w ↦ omega arith ]),
     )
 
 pub returns : goal.returns

@@ -23,9 +23,8 @@ bounds-taps-i c = omega (arith, c.requires.within)
 
 -- the tap is a residue
 tap-less : (c : After-take_off-arg-1) →
-    let at = c.before.before.before in
-    get_or at.args.taps.now at.loop-i.i 0 < at.args.f.p
-tap-less c = let at = c.before.before.before in at.requires.residues at.loop-i.i (omega arith)
+    get_or c.args.taps.now c.loop-i.i 0 < c.args.f.p
+tap-less c = c.requires.residues c.loop-i.i (omega arith)
 
 pub overflow_cast-taps : goal.overflow_cast-taps
 overflow_cast-taps c = record { fits = omega (arith, tap-less c, c.requires.modulus.taken.modulus) }

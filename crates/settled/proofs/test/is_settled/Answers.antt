@@ -3,7 +3,6 @@ use mathlib.Core.Bool.{true}
 use Prim.Native.Nat.{◌-◌}
 use native.Mathlib.Omega.{arith}
 use borrow.Author.Rules.{rules}
-use borrow.Author.Tests.{not-true, not-false}
 use Rattle.lists.proofs.Testing.{tested-none, tested-pass, tested_out, tested-all}
 use Rattle.settled.specs.Settled.{settled}
 use Rattle.settled.proofs.test.is_settled.Goals as goal
@@ -19,13 +18,12 @@ is_settled_in-requires c = c.requires.1 c.loop-h.h c.loop-h-test.true
 
 pub returns-then-not-is_settled_in : goal.returns-then-not-is_settled_in
 unfolding settled
-returns-then-not-is_settled_in c =
-    tested_out _ _ c.loop-h.h c.loop-h-test.true (sym c.is_settled_in.ensures ∙ not-true _ c.if-not-is_settled_in.true)
+returns-then-not-is_settled_in c = tested_out _ _ c.loop-h.h c.loop-h-test.true (sym c.is_settled_in.ensures ∙ c.if-not-is_settled_in.true)
 
 pub loop-h-preserved : goal.loop-h-preserved
 loop-h-preserved c =
     let at = c.loop-h in
-    tested-pass _ _ at.h true at.invariant c.loop-h-test.true _ refl (sym c.is_settled_in.ensures ∙ not-false _ c.if-not-is_settled_in.false)
+    tested-pass _ _ at.h true at.invariant c.loop-h-test.true _ refl (sym c.is_settled_in.ensures ∙ c.if-not-is_settled_in.false)
 
 pub returns : goal.returns
 unfolding settled

@@ -5,7 +5,7 @@ use Prim.Native.Nat.{ℕ, ◌+◌}
 use native.Mathlib.Numerals.{add-one}
 use lib.Dec.{eqb}
 use lib.ListN.{get_or}
-use borrow.Author.Tests.{eq-eqb, ne_eqb, not-true, not-false}
+use borrow.Author.Tests.{eq-eqb, ne_eqb}
 use Rattle.lists.specs.Tabulate.{every}
 use Rattle.slices.specs.Synthesis.{taps_sound}
 use Rattle.slices.proofs.Answers.{fails, passes}
@@ -18,11 +18,11 @@ returns-then-taps-ne1 c = fails _ _ (ne_eqb _ _ c.if-taps-ne1.true)
 pub returns-then-not-all_residues : goal.returns-then-not-all_residues
 unfolding taps_sound
 returns-then-not-all_residues c =
-    passes _ _ (eq-eqb _ _ c.if-taps-ne1.false) (fails _ _ (sym c.all_residues.ensures ∙ not-true _ c.if-not-all_residues.true))
+    passes _ _ (eq-eqb _ _ c.if-taps-ne1.false) (fails _ _ (sym c.all_residues.ensures ∙ c.if-not-all_residues.true))
 
 pub returns : goal.returns
 unfolding taps_sound
 returns c =
     let zeros : ℕ → Bool = λ m. every 8 (λ i. eqb (get_or c.args.taps.now (m + i) 0) 0) in
     passes _ _ (eq-eqb _ _ c.if-taps-ne1.false)
-    (passes _ _ (sym c.all_residues.ensures ∙ not-false _ c.if-not-all_residues.false) (c.eight_zeros.ensures ∙ ap zeros (add-one _)))
+    (passes _ _ (sym c.all_residues.ensures ∙ c.if-not-all_residues.false) (c.eight_zeros.ensures ∙ ap zeros (add-one _)))
