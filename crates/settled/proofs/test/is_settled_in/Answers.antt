@@ -7,4 +7,4 @@ pub returns : goal.returns
 returns c =
     let modulus = c.requires.modulus in
     settled_where c.args.f.p c.args.f.inverse (modulus.inverse c.requires.not-two) c.args.h c.args.long
-    c.args.left c.ahead.ensures c.asked.ensures (omega arith) c.all_zero.ensures
+    c.args.left c.ahead-cells.ensures c.asked-count.ensures (omega arith) c.all_zero.ensures
