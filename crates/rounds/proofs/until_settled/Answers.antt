@@ -18,11 +18,11 @@ pub is_settled-requires : goal.is_settled-requires
 is_settled-requires c =
     let pre = c.requires in
     let r = pre.running in
-    (r.count, testable pre.worked_out pre.fact.0 pre.moduli r (omega arith) c.loop.invariant.1)
+    (r.count, testable pre.worked_out pre.fact.0 pre.moduli r (omega arith) c.loop-n.invariant.1)
 
 pub returns-then-is_settled : goal.returns-then-is_settled
 returns-then-is_settled c =
-    settles c.requires.running _ c.loop.invariant.0 (sym c.is_settled.ensures ∙ c.if-is_settled.true) c.loop.invariant.1
+    settles c.requires.running _ c.loop-n.invariant.0 (sym c.is_settled.ensures ∙ c.if-is_settled.true) c.loop-n.invariant.1
 
 pub advance-l-requires : goal.advance-l-requires
 advance-l-requires c =

@@ -72,7 +72,7 @@ slice_bounds-copy-end c =
 pub slice_bounds-copy-end-2 : goal.slice_bounds-copy-end-2
 slice_bounds-copy-end-2 c =
     taps-room (fine-at (goal.at.slice_bounds-copy-end-2 c).After-worked_out-f) c.longest-most.ensures c.by_length-order.ensures
-    _ c.all_backwards.ensures c.rounds.ensures
+    _ c.all_backwards.ensures c.rounds-l.ensures
 
 pub alone-requires : goal.alone-requires
 alone-requires c =
@@ -86,5 +86,5 @@ returns c =
     in
     finds-same same
     (finds (fine-at (goal.at.returns c).After-worked_out-f) c.longest-most.ensures c.by_length-order.ensures _ c.all_backwards.ensures
-    c.rounds.ensures passes (c.rounds.result + 1 - 0) c.alone.ensures (omega arith)
+    c.rounds-l.ensures passes (c.rounds-l.result + 1 - 0) c.alone.ensures (omega arith)
     c.copy.ensures)

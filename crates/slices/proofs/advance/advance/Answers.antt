@@ -50,28 +50,14 @@ overflow_cast-counts c =
     let few = few-rounds (goal.at.overflow_cast-counts c).Start in
     record { fits = omega (arith, few.0, few.1, size-grown _ (held (goal.at.overflow_cast-counts c).Start) c.requires.count_bound c.requires.saved_value) }
 
-modulus-is : (c : After-single_step-arg-8-1) → c.modulus-f.result.p ≡ 257
-modulus-is c = c.modulus-f.ensures.0
-
--- how long the arrays are
-module _ (c : After-lend-3) where
-  counts-width : length c.args.counts.now ≡ 5
-  counts-width = search rules
-
-  width : length (lent-from c).args.taps.now ≡ 144
-  width = search rules
-
-  saved-width : length (lent-from c).args.saved.now ≡ 1152
-  saved-width = search rules
-
 pub single_step-l-requires : goal.single_step-l-requires
 single_step-l-requires c =
     let made = c.modulus-f.ensures in
-    record { worked_out = made.1; steppable = steppable made.0 _ (held (goal.at.single_step-l-requires c).Start) c.requires.count_bound c.requires.saved_value (width (goal.at.single_step-l-requires c).After-lend-3) (saved-width (goal.at.single_step-l-requires c).After-lend-3) }
+    record { worked_out = made.1; steppable = steppable made.0 _ (held (goal.at.single_step-l-requires c).Start) c.requires.count_bound c.requires.saved_value (search rules) (search rules) }
 
 short : (c : After-single_step-l) → c.single_step-l.result ≤ 64
 short c =
-    stays-short (modulus-is (TODO_After-single_step-arg-8-1 c)) _ (held (TODO_Start c)) c.requires.count_bound c.requires.saved_value (width (TODO_After-lend-3 c)) (saved-width (TODO_After-lend-3 c)) c.single_step-l.ensures
+    stays-short c.modulus-f.ensures.0 _ _ c.requires.count_bound c.requires.saved_value (search rules) (search rules) c.single_step-l.ensures
 
 pub overflow_cast-counts-2 : goal.overflow_cast-counts-2
 overflow_cast-counts-2 c = record { fits = omega (arith, short c) }
@@ -87,7 +73,7 @@ overflow_cast-counts-then-h-count c = record { fits = omega (arith, few-steps (g
 
 pub returns-then-h-count : goal.returns-then-h-count
 returns-then-h-count c =
-    goes_on (modulus-is (goal.at.returns-then-h-count c).After-single_step-arg-8-1) _ (held (goal.at.returns-then-h-count c).Start) _ (counts-width (goal.at.returns-then-h-count c).After-lend-3) c.single_step-l.ensures c.if-h-count.true
+    goes_on c.modulus-f.ensures.0 _ (held (goal.at.returns-then-h-count c).Start) _ (search rules) c.single_step-l.ensures c.if-h-count.true
 
 pub overflow_add-counts-2 : goal.overflow_add-counts-2
 overflow_add-counts-2 c = let few = few-rounds (goal.at.overflow_add-counts-2 c).Start in record { fits = omega (arith, few.0, few.1) }
@@ -100,4 +86,4 @@ overflow_cast-counts-4 c = record { fits = omega (arith, short (goal.at.overflow
 
 pub returns : goal.returns
 returns c =
-    finishes (modulus-is (goal.at.returns c).After-single_step-arg-8-1) _ (held (goal.at.returns c).Start) _ (counts-width (goal.at.returns c).After-lend-3) c.single_step-l.ensures c.if-h-count.false
+    finishes c.modulus-f.ensures.0 _ (held (goal.at.returns c).Start) _ (search rules) c.single_step-l.ensures c.if-h-count.false

@@ -1,8 +1,8 @@
-use mathlib.Core.Logic.{⊎_elim}
 use Prim.Native.Nat.{◌-◌}
 use Rattle.lists.proofs.Testing.{tested-none, tested-pass, tested_fail, tested-all}
 use Rattle.slices.proofs.Answers.{residue, no-residue}
 use Rattle.slices.proofs.sound.residues.Goals as goal
+use Rattle.slices.proofs.sound.residues.Goals.{then-x-from-gt256, else-x-from-gt256}
 
 pub loop-i-init : goal.loop-i-init
 loop-i-init c = tested-none _ _
@@ -10,10 +10,10 @@ loop-i-init c = tested-none _ _
 pub loop-i-preserved : goal.loop-i-preserved
 loop-i-preserved c =
     let at = c.loop-i in
-    ⊎_elim
-    (λ w. tested_fail _ _ at.i at.all at.invariant c.loop-i-test.true _ w.1 (no-residue _ w.0.taken))
-    (λ w. tested-pass _ _ at.i at.all at.invariant c.loop-i-test.true _ w.1 (residue _ w.0.left))
-    c.if-x-from-gt256.branch
+    elim c.if-x-from-gt256.branch [
+      then-x-from-gt256 w ↦ tested_fail _ _ at.i at.all at.invariant c.loop-i-test.true _ w.all-is (no-residue _ w.if-x-from-gt256.true)
+      | else-x-from-gt256 w ↦ tested-pass _ _ at.i at.all at.invariant c.loop-i-test.true _ w.all-is (residue _ w.if-x-from-gt256.false)
+    ]
 
 pub returns : goal.returns
 returns c = tested-all _ _ _ _ c.loop-i.invariant c.loop-i-test.false

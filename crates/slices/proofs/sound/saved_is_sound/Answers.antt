@@ -15,42 +15,39 @@ use Rattle.slices.proofs.Tests.{Counts, counts_say}
 use Rattle.slices.proofs.sound.saved_is_sound.Goals as goal
 use Rattle.slices.proofs.sound.saved_is_sound.Goals.{Else-not-are_inverse, Start}
 
-counts-at : (c : Start) → Counts 8 (synthesis c.args.counts.now c.args.lengths.now [] [] [] [] [] [] [])
-counts-at c = (counts_say 8 _).0 c.requires
-
 pub overflow_cast-h : goal.overflow_cast-h
-overflow_cast-h c = record { fits = omega (arith, (counts-at (goal.at.overflow_cast-h c).Start).step) }
+overflow_cast-h c = record { fits = omega (arith, ((counts_say 8 _).0 c.requires).step) }
 
 pub offset_bounds-places-h : goal.offset_bounds-places-h
-offset_bounds-places-h c = record { fits = omega (arith, (counts-at (goal.at.offset_bounds-places-h c).Start).step) }
+offset_bounds-places-h c = record { fits = omega (arith, ((counts_say 8 _).0 c.requires).step) }
 
 pub bounds-places-h : goal.bounds-places-h
-bounds-places-h c = omega (arith, (counts-at (goal.at.bounds-places-h c).Start).step)
+bounds-places-h c = omega (arith, ((counts_say 8 _).0 c.requires).step)
 
 pub offset_bounds-sizes-h : goal.offset_bounds-sizes-h
-offset_bounds-sizes-h c = record { fits = omega (arith, (counts-at (goal.at.offset_bounds-sizes-h c).Start).step) }
+offset_bounds-sizes-h c = record { fits = omega (arith, ((counts_say 8 _).0 c.requires).step) }
 
 pub bounds-sizes-h : goal.bounds-sizes-h
-bounds-sizes-h c = omega (arith, (counts-at (goal.at.bounds-sizes-h c).Start).step)
+bounds-sizes-h c = omega (arith, ((counts_say 8 _).0 c.requires).step)
 
 pub offset_bounds-quotients-h : goal.offset_bounds-quotients-h
-offset_bounds-quotients-h c = record { fits = omega (arith, (counts-at (goal.at.offset_bounds-quotients-h c).Start).step) }
+offset_bounds-quotients-h c = record { fits = omega (arith, ((counts_say 8 _).0 c.requires).step) }
 
 pub bounds-quotients-h : goal.bounds-quotients-h
-bounds-quotients-h c = omega (arith, (counts-at (goal.at.bounds-quotients-h c).Start).step)
+bounds-quotients-h c = omega (arith, ((counts_say 8 _).0 c.requires).step)
 
 pub returns-then-size-place : goal.returns-then-size-place
 unfolding saved_sound
 returns-then-size-place c = fails _ _ (lt-leb _ _ c.if-size-place.true)
 
 pub offset_bounds-lengths-h : goal.offset_bounds-lengths-h
-offset_bounds-lengths-h c = record { fits = omega (arith, (counts-at (goal.at.offset_bounds-lengths-h c).Start).step) }
+offset_bounds-lengths-h c = record { fits = omega (arith, ((counts_say 8 _).0 c.requires).step) }
 
 pub bounds-lengths-h : goal.bounds-lengths-h
-bounds-lengths-h c = omega (arith, (counts-at (goal.at.bounds-lengths-h c).Start).step)
+bounds-lengths-h c = omega (arith, ((counts_say 8 _).0 c.requires).step)
 
 pub overflow_sub-counts : goal.overflow_sub-counts
-overflow_sub-counts c = let counts = counts-at (goal.at.overflow_sub-counts c).Start in counts.shorter _ counts.step
+overflow_sub-counts c = let counts = (counts_say 8 _).0 c.requires in counts.shorter _ counts.step
 
 pub returns-then-place-larger : goal.returns-then-place-larger
 unfolding saved_sound
@@ -64,10 +61,10 @@ returns-then-quotient-gt256 c =
     (passes _ _ ((at_most _ _ c.larger.ensures).0 c.if-place-larger.false) (fails _ _ (no-residue _ c.if-quotient-gt256.true)))
 
 pub offset_bounds-discs-h : goal.offset_bounds-discs-h
-offset_bounds-discs-h c = record { fits = omega (arith, (counts-at (goal.at.offset_bounds-discs-h c).Start).step) }
+offset_bounds-discs-h c = record { fits = omega (arith, ((counts_say 8 _).0 c.requires).step) }
 
 pub bounds-discs-h : goal.bounds-discs-h
-bounds-discs-h c = omega (arith, (counts-at (goal.at.bounds-discs-h c).Start).step)
+bounds-discs-h c = omega (arith, ((counts_say 8 _).0 c.requires).step)
 
 pub are_inverse-requires : goal.are_inverse-requires
 are_inverse-requires c = omega (arith, c.if-quotient-gt256.false)
@@ -80,11 +77,11 @@ returns-then-not-are_inverse c =
     (passes _ _ (residue _ c.if-quotient-gt256.false) (fails _ _ (sym c.are_inverse.ensures ∙ c.if-not-are_inverse.true))))
 
 step_less : (c : Else-not-are_inverse) → get_or c.args.counts.now 2 0 < 8
-step_less c = (counts-at (TODO_Start c)).step
+step_less c = ((counts_say 8 _).0 c.requires).step
 
 size_less : (c : Else-not-are_inverse) → get_or c.args.sizes.now (get_or c.args.counts.now 2 0) 0 ≤ 64
 size_less c =
-    let counts = counts-at (TODO_Start c) in
+    let counts = (counts_say 8 _).0 c.requires in
     omega (arith, c.if-size-place.false, c.if-place-larger.false, c.larger.ensures, counts.few, counts.round)
 
 pub overflow_mul-h : goal.overflow_mul-h
