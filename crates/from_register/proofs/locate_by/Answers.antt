@@ -4,29 +4,22 @@ use mathlib.Core.Bool.{true}
 use Prim.Native.Nat.{◌≤◌}
 use native.Mathlib.Omega.{arith}
 use lib.ListN.{length}
-use borrow.Author.Tests.{not-true, not-false}
 use Rattle.columns.specs.Columns.{members}
 use Rattle.decoding.specs.Remaining.{left_reach}
 use Rattle.frame.specs.DeclaredCells.{declared_by}
 use Rattle.from_register.proofs.Naming.{refusal-left, few-columns, gives_24, gives_25, gives_26, completable-asked, gives_unfit, gives-columns}
 use Rattle.from_register.proofs.locate_by.Goals as goal
-use Rattle.from_register.proofs.locate_by.Goals.{After-sought_columns-sought, Else-not-alone, Else-not-reaches, Else-size-length, Start}
+use Rattle.from_register.proofs.locate_by.Goals.{Else-not-alone, Else-not-reaches, Else-size-length}
 
 -- ---- the ways back, and what the tests passed tell
 
-abbrev start_of : Else-not-reaches → Start
-start_of c = c.before.before.before
-
-abbrev reached-before : After-sought_columns-sought → Else-not-reaches
-reached-before c = c.before.before.before
-
 is-alone : (c : Else-not-alone) → c.args.alone ≡ true
-is-alone c = not-false _ c.if-not-alone.false
+is-alone c = c.if-not-alone.false
 
-reach : (c : Else-not-reaches) → left_reach (start_of c).args.s (declared_by (start_of c).args.declared.now) (start_of c).args.length ≡ true
-reach c = sym c.reaches.ensures ∙ not-false _ c.if-not-reaches.false
+reach : (c : Else-not-reaches) → left_reach c.args.s (declared_by c.args.declared.now) c.args.length ≡ true
+reach c = sym c.reaches.ensures ∙ c.if-not-reaches.false
 
-enough : (c : Else-size-length) → (start_of (reached-before c.before.before.before)).args.length ≤ length (members c.sought_columns-sought.result.columns)
+enough : (c : Else-size-length) → c.args.length ≤ length (members c.sought_columns-sought.result.columns)
 enough c = omega (arith, c.size.ensures, c.if-size-length.false)
 
 -- ---- the needs
@@ -34,53 +27,42 @@ enough c = omega (arith, c.size.ensures, c.if-size-length.false)
 pub returns-then-not-alone : goal.returns-then-not-alone
 returns-then-not-alone c =
     λ a f. refusal-left a _ _ _ f _ c.refuse.ensures c.shaped.ensures
-    ∙ gives_24 c.requires _ f (not-true _ c.if-not-alone.true)
+    ∙ gives_24 c.requires _ f (c.if-not-alone.true)
 
 pub reaches-requires : goal.reaches-requires
 reaches-requires c = let r = c.requires.locatable in record { shape = r.shape; flag = r.flag }
 
 pub returns-then-not-reaches : goal.returns-then-not-reaches
 returns-then-not-reaches c =
-    let alone = c.before.before in
     λ a f. refusal-left a _ _ _ f _ c.refuse-then-not-reaches.ensures c.shaped-then-not-reaches.ensures
-    ∙ gives_25 alone.requires _ f (is-alone alone) (sym c.reaches.ensures ∙ not-true _ c.if-not-reaches.true)
+    ∙ gives_25 c.requires _ f (is-alone (goal.at.returns-then-not-reaches c).Else-not-alone) (sym c.reaches.ensures ∙ c.if-not-reaches.true)
 
 pub overflow_add-end : goal.overflow_add-end
-overflow_add-end c = record { fits = omega (arith, (start_of c).requires.short) }
+overflow_add-end c = record { fits = omega (arith, c.requires.short) }
 
 pub slice_bounds-sought_columns-end : goal.slice_bounds-sought_columns-end
-slice_bounds-sought_columns-end c = let whole = c.held-1.given in omega (arith, (start_of c.before).requires.short, whole.0)
+slice_bounds-sought_columns-end c = let whole = c.held-1.given in omega (arith, c.requires.short, whole.0)
 
 pub sought_columns-sought-requires : goal.sought_columns-sought-requires
-sought_columns-sought-requires c = few-columns (start_of c.before.before).requires
+sought_columns-sought-requires c = few-columns c.requires
 
 pub returns-then-size-length : goal.returns-then-size-length
 returns-then-size-length c =
-    let named = c.before.before.before in
-    let reached = reached-before named in
     λ a f. refusal-left a _ _ _ f _ c.refuse-then-size-length.ensures c.shaped-then-size-length.ensures
-    ∙ gives_26 (start_of reached).requires (is-alone reached.before.before) (reach reached) named.sought_columns-sought.ensures _ f
+    ∙ gives_26 c.requires (is-alone (goal.at.returns-then-size-length c).Else-not-alone) (reach (goal.at.returns-then-size-length c).Else-not-reaches) c.sought_columns-sought.ensures _ f
     (omega (arith, c.size.ensures, c.if-size-length.true))
 
 pub completes-requires : goal.completes-requires
 completes-requires c =
-    let named = c.before.before.before in
-    let reached = reached-before named in
-    completable-asked (start_of reached).requires (is-alone reached.before.before) (reach reached) named.sought_columns-sought.ensures (enough c)
+    completable-asked c.requires (is-alone (goal.at.completes-requires c).Else-not-alone) (reach (goal.at.completes-requires c).Else-not-reaches) c.sought_columns-sought.ensures (enough c)
 
 pub returns-then-not-completes : goal.returns-then-not-completes
 returns-then-not-completes c =
-    let passed = c.before.before in
-    let named = passed.before.before.before in
-    let reached = reached-before named in
     λ a f. refusal-left a _ _ _ f _ c.refuse-then-not-completes.ensures c.shaped-then-not-completes.ensures
-    ∙ gives_unfit (start_of reached).requires (is-alone reached.before.before) (reach reached) named.sought_columns-sought.ensures (enough passed) _ f
-    (sym c.completes.ensures ∙ not-true _ c.if-not-completes.true)
+    ∙ gives_unfit c.requires (is-alone (goal.at.returns-then-not-completes c).Else-not-alone) (reach (goal.at.returns-then-not-completes c).Else-not-reaches) c.sought_columns-sought.ensures (enough (goal.at.returns-then-not-completes c).Else-size-length) _ f
+    (sym c.completes.ensures ∙ c.if-not-completes.true)
 
 pub returns : goal.returns
 returns c =
-    let passed = c.before.before in
-    let named = passed.before.before.before in
-    let reached = reached-before named in
-    λ a f. gives-columns (start_of reached).requires (is-alone reached.before.before) (reach reached) named.sought_columns-sought.ensures (enough passed) _ f
-    (sym c.completes.ensures ∙ not-false _ c.if-not-completes.false) c.located.ensures
+    λ a f. gives-columns c.requires (is-alone (goal.at.returns c).Else-not-alone) (reach (goal.at.returns c).Else-not-reaches) c.sought_columns-sought.ensures (enough (goal.at.returns c).Else-size-length) _ f
+    (sym c.completes.ensures ∙ c.if-not-completes.false) c.located.ensures

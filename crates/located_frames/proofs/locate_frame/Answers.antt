@@ -7,15 +7,8 @@ use Rattle.job.proofs.LocatedBy.{never_both}
 use Rattle.locating.proofs.Steps.{refusal-outcome}
 use Rattle.located_frames.proofs.Seeing.{not-counted, counted_mendable, counted-uniform, counted_mixed}
 use Rattle.located_frames.proofs.locate_frame.Goals as goal
-use Rattle.located_frames.proofs.locate_frame.Goals.{After-locate_from-answer, In-Count, Start}
 
 -- ---- the ways back
-
-abbrev start_of : After-locate_from-answer → Start
-start_of c = c.before.before.before.before
-
-abbrev searched : In-Count → After-locate_from-answer
-searched c = c.before.before
 
 -- ---- the needs
 
@@ -23,22 +16,17 @@ pub locate_from-answer-requires : goal.locate_from-answer-requires
 locate_from-answer-requires c = c.requires.locatable
 
 pub mends_uniform-requires : goal.mends_uniform-requires
-mends_uniform-requires c =
-    counted_mendable _ _ _ _ [] _ _ [] _ (searched c).locate_from-answer.ensures _ c.enum_told-1.given.1 no_arrays (start_of (searched c)).requires
+mends_uniform-requires c = counted_mendable _ _ _ _ [] _ _ [] _ c.locate_from-answer.ensures _ c.enum_told-1.given.1 no_arrays c.requires
 
 pub returns-then-mends_uniform : goal.returns-then-mends_uniform
 returns-then-mends_uniform c =
-    let judged = c.before.before.before in
-    let counted = judged.before in
     λ a. refusal-outcome _ _ _ c.refuse.ensures c.shaped.ensures
-    ∙ counted-uniform _ _ _ _ _ _ _ _ _ (searched counted).locate_from-answer.ensures _ counted.enum_told-1.given.1 a _ judged.mends_uniform.ensures
+    ∙ counted-uniform _ _ _ _ _ _ _ _ _ c.locate_from-answer.ensures _ c.enum_told-1.given.1 a _ c.mends_uniform.ensures
     c.if-mends_uniform.true
 
 pub returns-else-mends_uniform : goal.returns-else-mends_uniform
 returns-else-mends_uniform c =
-    let judged = c.before.before.before in
-    let counted = judged.before in
-    λ a. counted_mixed _ _ _ _ _ _ _ _ _ (searched counted).locate_from-answer.ensures _ counted.enum_told-1.given.1 a _ judged.mends_uniform.ensures
+    λ a. counted_mixed _ _ _ _ _ _ _ _ _ c.locate_from-answer.ensures _ c.enum_told-1.given.1 a _ c.mends_uniform.ensures
     c.if-mends_uniform.false
 
 pub returns-in-Unfinished : goal.returns-in-Unfinished

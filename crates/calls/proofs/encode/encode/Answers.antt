@@ -15,8 +15,8 @@ full : (c : Else-counts_as_empty) → counts_empty c.args.j ≡ false
 full c = sym c.counts_as_empty.ensures ∙ c.if-counts_as_empty.false
 
 pub encode_frame-requires : goal.encode_frame-requires
-encode_frame-requires c = has-shape _ (full c.before)
+encode_frame-requires c = has-shape _ (full (goal.at.encode_frame-requires c).Else-counts_as_empty)
 
 pub returns : goal.returns
 returns c =
-    λ a. encode-given _ _ (full c.before.before) c.encode_frame.result c.encode_frame.ensures.answer c.encode_frame.ensures.left
+    λ a. encode-given _ _ (full (goal.at.returns c).Else-counts_as_empty) c.encode_frame.result c.encode_frame.ensures.answer c.encode_frame.ensures.left

@@ -13,15 +13,9 @@ use Rattle.refusal.specs.Outcome.{outcome, outcome_of, passed}
 use Rattle.locating.proofs.Locating.{from-frame}
 use Rattle.locating.proofs.Steps.{refusal-outcome, passed-read, passed-undeclared, locate-refused, locate-goes-on}
 use Rattle.calls.proofs.locate.locate_read.Goals as goal
-use Rattle.calls.proofs.locate.locate_read.Goals.{After-check_read-checked, In_default, Start}
+use Rattle.calls.proofs.locate.locate_read.Goals.{In_default, Start}
 
 -- ---- the ways back
-
-abbrev start_of : After-check_read-checked → Start
-start_of c = c.before.before
-
-abbrev tested : In_default → After-check_read-checked
-tested c = c.before.before
 
 -- ---- the tests
 
@@ -29,44 +23,40 @@ shape : (c : Start) → is_shape c.args.j.shape ≡ true
 shape c = has-shape _ c.requires.full
 
 pub check_read-checked-requires : goal.check_read-checked-requires
-check_read-checked-requires c = shape c.before
+check_read-checked-requires c = shape (goal.at.check_read-checked-requires c).Start
 
 pub returns-in-Refuse : goal.returns-in-Refuse
 returns-in-Refuse c =
     λ a. refusal-outcome _ _ _ c.refuse.ensures refl
-    ∙ locate-refused _ _ _ (start_of c.before.before).requires.full _
+    ∙ locate-refused _ _ _ c.requires.full _
     (sym c.check_read-checked.ensures ∙ ap outcome_of c.checked-1.given.1)
 
 -- the frame is well-formed
 passes : (c : In_default) →
-    let args = (start_of (tested c)).args in
+    let args = c.args in
     outcome (read_tests args.j.shape (declared_by args.declared.now) args.frame.now) ≡ passed
-passes c = sym (tested c).check_read-checked.ensures ∙ ap outcome_of c.enum_told-1.given.1
+passes c = sym c.check_read-checked.ensures ∙ ap outcome_of c.enum_told-1.given.1
 
 -- ---- locating from its sums
 
 pub sums_read-read-requires : goal.sums_read-read-requires
-sums_read-read-requires c = (shape (start_of (tested c)), passed-read _ _ _ (passes c))
+sums_read-read-requires c =
+    (shape (goal.at.sums_read-read-requires c).Start, passed-read _ _ _ (passes (goal.at.sums_read-read-requires c).In_default))
 
 pub locate_frame-requires : goal.locate_frame-requires
 locate_frame-requires c =
-    let summed = c.before.before.before.before in
-    let told = summed.before in
-    let start = start_of (tested told) in
     record {
       locatable = record {
-        shape = shape start;
-        flag = sym start.requires.some;
-        declarable = well_formed_declarable _ _ _ (passed-read _ _ _ (passes told));
-        small = λ k. subst⁻¹ (λ (l : List _). get_or l k 0 < 257) summed.sums_read-read.ensures (held_below _ _ k);
+        shape = shape (goal.at.locate_frame-requires c).Start;
+        flag = sym c.requires.some;
+        declarable = well_formed_declarable _ _ _ (passed-read _ _ _ (passes (goal.at.locate_frame-requires c).In_default));
+        small = λ k. subst⁻¹ (λ (l : List _). get_or l k 0 < 257) c.sums_read-read.ensures (held_below _ _ k);
       };
-      whole = (passed-read _ _ _ (passes told)).size;
-      small = passed-undeclared _ _ _ (passes told);
+      whole = (passed-read _ _ _ (passes (goal.at.locate_frame-requires c).In_default)).size;
+      small = passed-undeclared _ _ _ (passes (goal.at.locate_frame-requires c).In_default);
     }
 
 pub returns : goal.returns
 returns c =
-    let summed = c.before.before.before.before.before in
-    let told = summed.before in
-    λ a. from-frame _ _ _ _ _ (c.locate_frame.ensures a) summed.sums_read-read.ensures
-    ∙ locate-goes-on _ _ _ (start_of (tested told)).requires.full (passes told)
+    λ a. from-frame _ _ _ _ _ (c.locate_frame.ensures a) c.sums_read-read.ensures
+    ∙ locate-goes-on _ _ _ c.requires.full (passes (goal.at.returns c).In_default)

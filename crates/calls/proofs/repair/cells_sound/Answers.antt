@@ -1,7 +1,6 @@
 -- `calls::repair::cells_sound` meets its contract.
 use mathlib.Core.Path.{sym, ap, ◌∙◌}
 use mathlib.Core.Bool.{Bool, ◌&&◌}
-use borrow.Author.Tests.{not-true, not-false}
 use Rattle.decoding.specs.Remaining.{left_reach}
 use Rattle.frame.specs.DeclaredCells.{declared_by}
 use Rattle.job.specs.Job.{declared_sound}
@@ -12,7 +11,7 @@ unfolding declared_sound
 returns-then-not-is_declarable c =
     let args = c.args in
     sym (ap (λ (b : Bool). b && left_reach args.s (declared_by args.held.now) args.c)
-    (sym c.is_declarable.ensures ∙ not-true _ c.if-not-is_declarable.true))
+    (sym c.is_declarable.ensures ∙ c.if-not-is_declarable.true))
 
 pub returns : goal.returns
 unfolding declared_sound
@@ -20,4 +19,4 @@ returns c =
     let args = c.args in
     c.left_reach.ensures
     ∙ sym (ap (λ (b : Bool). b && left_reach args.s (declared_by args.held.now) args.c)
-    (sym c.is_declarable.ensures ∙ not-false _ c.if-not-is_declarable.false))
+    (sym c.is_declarable.ensures ∙ c.if-not-is_declarable.false))

@@ -10,11 +10,7 @@ use Rattle.slices.specs.Synthesis.{Synthesis, synthesis}
 use Rattle.capi.specs.Exports.{arrays_of}
 use Rattle.capi.proofs.GoingOn.{gone_on}
 use Rattle.capi.proofs.jobs.tomkhadi_head_step.Goals as goal
-use Rattle.capi.proofs.jobs.tomkhadi_head_step.Goals.{After-go_on, Start}
-
--- the way back
-abbrev start_of : After-go_on → Start
-start_of c = c.before.before.before.before.before.before.before.before.before.before.before
+use Rattle.capi.proofs.jobs.tomkhadi_head_step.Goals.{Start}
 
 -- what is lent of the search
 abbrev lent : Start → Synthesis
@@ -25,18 +21,14 @@ lent c =
 
 pub returns-then-go_on : goal.returns-then-go_on
 returns-then-go_on c =
-    let gone = c.before.before in
-    let start = start_of gone in
-    let a = start.args in
-    gone_on a.head (lent start) gone.go_on.ensures c.if-go_on.true a.sums.now a.taps.now a.held.now c.unfinished_of.ensures
+    let a = c.args in
+    gone_on a.head (lent (goal.at.returns-then-go_on c).Start) c.go_on.ensures c.if-go_on.true a.sums.now a.taps.now a.held.now c.unfinished_of.ensures
 
 pub returns : goal.returns
 returns c =
-    let gone = c.before.before in
-    let start = start_of gone in
-    let a = start.args in
+    let a = c.args in
     let held : Synthesis → Arrays = arrays_of a.sums.now a.taps.now a.held.now in
     let done = c.next.ensures
     ∙ ap₂ (λ (h : Head) (x : Synthesis). step (beside h (held x)) next) c.head_of.ensures
-    (as_lent a.head (lent start) gone.go_on.ensures c.if-go_on.false) in
-    record { answers = c.answered_of.ensures (held (lent start)) [] ∙ ap answered_of done; arrays = ap (λ (o : Outcome). o.job.arrays) done }
+    (as_lent a.head (lent (goal.at.returns c).Start) c.go_on.ensures c.if-go_on.false) in
+    record { answers = c.answered_of.ensures (held (lent (goal.at.returns c).Start)) [] ∙ ap answered_of done; arrays = ap (λ (o : Outcome). o.job.arrays) done }

@@ -20,16 +20,14 @@ lent c sums taps held x last =
 pub returns-then-k-ge8 : goal.returns-then-k-ge8
 returns-then-k-ge8 c =
     λ sums taps held x last.
-    let start = c.before.before in
-    outside (lent start sums taps held x last) start.args.k (encode start.args.frame.now) c.if-k-ge8.true refl
+    outside (lent (goal.at.returns-then-k-ge8 c).Start sums taps held x last) c.args.k (encode c.args.frame.now) c.if-k-ge8.true refl
 
 pub returns : goal.returns
 returns c =
     λ sums taps held x last.
-    let start = c.before.before.before.before.before in
-    let a = start.args in
+    let a = c.args in
     let k = a.k in
-    let p = lent start sums taps held x last in
+    let p = lent (goal.at.returns c).Start sums taps held x last in
     let done = c.encode.ensures (arrays_at p k)
     ∙ ap (λ (h : Head). step (beside h (arrays_at p k)) (encode a.frame.now)) c.head_at.ensures in
     inside p k (encode a.frame.now) c.if-k-ge8.false (record { tells = ap told_by done; leaves = refl })

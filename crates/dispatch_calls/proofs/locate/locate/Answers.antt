@@ -22,15 +22,13 @@ call c = locate c.args.declared.now c.args.frame.now
 pub returns-then-k-ge8 : goal.returns-then-k-ge8
 returns-then-k-ge8 c =
     λ x last.
-    let start = c.before.before.before in
-    outside (lent start x last) start.args.k (call start) c.if-k-ge8.true (c.no_job.ensures _)
+    outside (lent (goal.at.returns-then-k-ge8 c).Start x last) c.args.k (call (goal.at.returns-then-k-ge8 c).Start) c.if-k-ge8.true (c.no_job.ensures _)
 
 pub returns : goal.returns
 returns c =
     λ x last.
-    let start = c.before.before.before.before.before.before.before in
-    let k = start.args.k in
-    let p = lent start x last in
-    let done = c.locate-r.ensures (arrays_at p k) ∙ ap (λ (h : Head). step (beside h (arrays_at p k)) (call start)) c.head_at.ensures in
-    inside p k (call start) c.if1.false
-    (made p k (call start) done refl (c.said.ensures (arrays_at p k) _) (found-put k p c.locate-r.result.head c.put_head.ensures _ _ _))
+    let k = c.args.k in
+    let p = lent (goal.at.returns c).Start x last in
+    let done = c.locate-r.ensures (arrays_at p k) ∙ ap (λ (h : Head). step (beside h (arrays_at p k)) (call (goal.at.returns c).Start)) c.head_at.ensures in
+    inside p k (call (goal.at.returns c).Start) c.if-k-ge8.false
+    (made p k (call (goal.at.returns c).Start) done refl (c.said.ensures (arrays_at p k) _) (found-put k p c.locate-r.result.head c.put_head.ensures _ _ _))

@@ -20,16 +20,14 @@ lent c taps x last =
 pub returns-then-k-ge8 : goal.returns-then-k-ge8
 returns-then-k-ge8 c =
     λ taps x last.
-    let start = c.before.before.before in
-    outside (lent start taps x last) start.args.k (repair start.args.frame.now) c.if-k-ge8.true (c.no_job.ensures _)
+    outside (lent (goal.at.returns-then-k-ge8 c).Start taps x last) c.args.k (repair c.args.frame.now) c.if-k-ge8.true (c.no_job.ensures _)
 
 pub returns : goal.returns
 returns c =
     λ taps x last.
-    let start = c.before.before.before.before.before.before.before in
-    let k = start.args.k in
-    let f = start.args.frame.now in
-    let p = lent start taps x last in
+    let k = c.args.k in
+    let f = c.args.frame.now in
+    let p = lent (goal.at.returns c).Start taps x last in
     let done = c.repair-r.ensures (arrays_at p k) ∙ ap (λ (h : Head). step (beside h (arrays_at p k)) (repair f)) c.head_at.ensures in
-    inside p k (repair f) c.if1.false
+    inside p k (repair f) c.if-k-ge8.false
     (made p k (repair f) done refl (c.said.ensures (arrays_at p k) _) (head-put k p c.repair-r.result.head c.put_head.ensures))

@@ -23,15 +23,13 @@ call c = let a = c.args in shape a.columns a.given.now a.exponent
 pub returns-then-k-ge8 : goal.returns-then-k-ge8
 returns-then-k-ge8 c =
     λ sums taps held x last.
-    let start = c.before.before in
-    outside (lent start sums taps held x last) start.args.k (call start) c.if-k-ge8.true refl
+    outside (lent (goal.at.returns-then-k-ge8 c).Start sums taps held x last) c.args.k (call (goal.at.returns-then-k-ge8 c).Start) c.if-k-ge8.true refl
 
 pub returns : goal.returns
 returns c =
     λ sums taps held x last.
-    let start = c.before.before.before.before.before.before.before.before in
-    let k = start.args.k in
-    let p = lent start sums taps held x last in
-    let done = c.shape-made.ensures (arrays_at p k) ∙ ap (λ (h : Head). step (beside h (arrays_at p k)) (call start)) c.head_at.ensures in
-    inside p k (call start) c.if1.false
-    (made p k (call start) done refl refl (head-put k p c.shape-made.result.head c.put_head.ensures))
+    let k = c.args.k in
+    let p = lent (goal.at.returns c).Start sums taps held x last in
+    let done = c.shape-made.ensures (arrays_at p k) ∙ ap (λ (h : Head). step (beside h (arrays_at p k)) (call (goal.at.returns c).Start)) c.head_at.ensures in
+    inside p k (call (goal.at.returns c).Start) c.if-k-ge8.false
+    (made p k (call (goal.at.returns c).Start) done refl refl (head-put k p c.shape-made.result.head c.put_head.ensures))

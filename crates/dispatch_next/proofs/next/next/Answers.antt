@@ -7,7 +7,7 @@ use Rattle.job.specs.declared.Head.{Head}
 use Rattle.kept.specs.Kept.{heads, searches, Kept, kept, arrays_at}
 use Rattle.dispatch.proofs.Making.{made, step-put}
 use Rattle.dispatch_next.proofs.next.next.Goals as goal
-use Rattle.dispatch_next.proofs.next.next.Goals.{After-head_at, After-next-r, Start}
+use Rattle.dispatch_next.proofs.next.next.Goals.{Start}
 
 -- what is kept, whoever was served last
 abbrev lent : Start → ℕ → Kept
@@ -17,20 +17,13 @@ lent c last =
     (searches a.counts.now a.lengths.now a.symbols.now a.places.now a.sizes.now a.discs.now a.quotients.now
     a.register.now a.saved.now) last
 
--- the way back
-abbrev headed : After-next-r → After-head_at
-headed c = c.before.before.before.before.before.before.before.before.before.before.before.before.before
-
 pub put_head-requires : goal.put_head-requires
-put_head-requires c = (headed c.before.before.before.before).requires
+put_head-requires c = c.requires
 
 pub returns : goal.returns
 returns c =
     λ last.
-    let called = c.before.before.before.before.before in
-    let head = headed called in
-    let start = head.before.before.before.before.before in
-    let k = start.args.k in
-    let p = lent start last in
-    let done = called.next-r.ensures ∙ ap (λ (h : Head). step (beside h (arrays_at p k)) next) head.head_at.ensures in
-    made p k next done refl (c.said.ensures (arrays_at p k) _) (step-put k p called.next-r.result.head c.put_head.ensures _ _ _ _ _ _ _ _)
+    let k = c.args.k in
+    let p = lent (goal.at.returns c).Start last in
+    let done = c.next-r.ensures ∙ ap (λ (h : Head). step (beside h (arrays_at p k)) next) c.head_at.ensures in
+    made p k next done refl (c.said.ensures (arrays_at p k) _) (step-put k p c.next-r.result.head c.put_head.ensures _ _ _ _ _ _ _ _)

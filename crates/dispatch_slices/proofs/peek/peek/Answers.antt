@@ -21,12 +21,12 @@ lent c taps last =
     a.register.now a.saved.now) last
 
 pub returns-then-k-ge8 : goal.returns-then-k-ge8
-returns-then-k-ge8 c = λ taps last. outside (lent c.before taps last) c.args.k peek c.if-k-ge8.true refl
+returns-then-k-ge8 c = λ taps last. outside (lent (goal.at.returns-then-k-ge8 c).Start taps last) c.args.k peek c.if-k-ge8.true refl
 
 pub returns : goal.returns
 returns c =
     λ taps last.
     let k = c.args.k in
-    let p = lent c.before.before taps last in
+    let p = lent (goal.at.returns c).Start taps last in
     let done = c.peek.ensures (get_or taps k []) ∙ ap (λ (h : Head). step (beside h (arrays_at p k)) peek) c.head_at.ensures in
-    inside p k peek c.if1.false (record { tells = ap told_by done; leaves = refl })
+    inside p k peek c.if-k-ge8.false (record { tells = ap told_by done; leaves = refl })

@@ -8,7 +8,7 @@ use Rattle.kept.specs.Kept.{heads, searches, Kept, kept, arrays_at}
 use Rattle.dispatch.proofs.Making.{made, start-put}
 use Rattle.dispatch.proofs.Telling.{outside, inside}
 use Rattle.dispatch_slices.proofs.start.start.Goals as goal
-use Rattle.dispatch_slices.proofs.start.start.Goals.{After-head_at, After-start-r, Start}
+use Rattle.dispatch_slices.proofs.start.start.Goals.{Start}
 
 -- what is kept, whoever was served last
 abbrev lent : Start → ℕ → Kept
@@ -24,24 +24,16 @@ call c = start c.args.declared.now c.args.frame.now
 pub returns-then-k-ge8 : goal.returns-then-k-ge8
 returns-then-k-ge8 c =
     λ last.
-    let begin = c.before.before.before in
-    outside (lent begin last) begin.args.k (call begin) c.if-k-ge8.true (c.no_job.ensures _)
-
--- the way back
-abbrev headed : After-start-r → After-head_at
-headed c = c.before.before.before.before.before.before.before.before.before.before.before.before.before
+    outside (lent (goal.at.returns-then-k-ge8 c).Start last) c.args.k (call (goal.at.returns-then-k-ge8 c).Start) c.if-k-ge8.true (c.no_job.ensures _)
 
 pub put_head-requires : goal.put_head-requires
-put_head-requires c = (headed c.before.before.before.before).if1.false
+put_head-requires c = c.if-k-ge8.false
 
 pub returns : goal.returns
 returns c =
     λ last.
-    let called = c.before.before.before.before.before in
-    let head = headed called in
-    let begin = head.before.before.before.before.before.before.before in
-    let k = begin.args.k in
-    let p = lent begin last in
-    let done = called.start-r.ensures ∙ ap (λ (h : Head). step (beside h (arrays_at p k)) (call begin)) head.head_at.ensures in
-    inside p k (call begin) head.if1.left
-    (made p k (call begin) done refl (c.said.ensures (arrays_at p k) _) (start-put k p called.start-r.result.head c.put_head.ensures _ _ _ _))
+    let k = c.args.k in
+    let p = lent (goal.at.returns c).Start last in
+    let done = c.start-r.ensures ∙ ap (λ (h : Head). step (beside h (arrays_at p k)) (call (goal.at.returns c).Start)) c.head_at.ensures in
+    inside p k (call (goal.at.returns c).Start) c.if-k-ge8.false
+    (made p k (call (goal.at.returns c).Start) done refl (c.said.ensures (arrays_at p k) _) (start-put k p c.start-r.result.head c.put_head.ensures _ _ _ _))

@@ -17,11 +17,9 @@ lent c last =
 pub returns-then-k-ge8 : goal.returns-then-k-ge8
 returns-then-k-ge8 c =
     λ last.
-    let start = c.before.before in
-    outside (lent start last) start.args.k next c.if-k-ge8.true (c.no_job.ensures _)
+    outside (lent (goal.at.returns-then-k-ge8 c).Start last) c.args.k next c.if-k-ge8.true (c.no_job.ensures _)
 
 pub returns : goal.returns
 returns c =
     λ last.
-    let one = c.before.before.before.before.before.before.before.before.before.before.before.before.before in
-    inside (lent one.before last) one.args.k next one.if-k-ge8.false (c.make_step.ensures last)
+    inside (lent (goal.at.returns c).Start last) c.args.k next c.if-k-ge8.false (c.make_step.ensures last)

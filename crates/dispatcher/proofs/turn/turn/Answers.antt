@@ -16,7 +16,7 @@ lent c =
     a.register.now a.saved.now) a.last.now
 
 -- who is found
-found_of : (c : After-next_unfinished-k) → c.next_unfinished-k.result ≡ number_of (served jobs (jobs_of (lent c.before.before.before)))
+found_of : (c : After-next_unfinished-k) → c.next_unfinished-k.result ≡ number_of (served jobs (jobs_of (lent (TODO_Start c))))
 unfolding served
 found_of c =
     let a = c.args in
@@ -24,11 +24,8 @@ found_of c =
 
 pub returns-then-k-ge8 : goal.returns-then-k-ge8
 returns-then-k-ge8 c =
-    let found = c.before.before in
-    idle (lent found.before.before.before) _ (found_of found) c.if-k-ge8.true (c.no_job-said.ensures _)
+    idle (lent (goal.at.returns-then-k-ge8 c).Start) _ (found_of (goal.at.returns-then-k-ge8 c).After-next_unfinished-k) c.if-k-ge8.true (c.no_job-said.ensures _)
 
 pub returns : goal.returns
 returns c =
-    let one = c.before.before.before.before.before.before.before.before.before.before.before.before.before in
-    let start = one.before.before.before.before in
-    serving (lent start) _ (found_of one.before) one.if-k-ge8.false (c.make_step-said.ensures start.args.last.now)
+    serving (lent (goal.at.returns c).Start) _ (found_of (goal.at.returns c).After-next_unfinished-k) c.if-k-ge8.false (c.make_step-said.ensures c.args.last.now)

@@ -16,17 +16,16 @@ numbers-here c extents checks marks =
 pub returns-then-states-k-eq3 : goal.returns-then-states-k-eq3
 returns-then-states-k-eq3 c =
     λ extents checks marks.
-    let inside = c.before.before in
-    let here = three_unfinished (numbers-here inside extents checks marks) c.if-states-k-eq3.true in
-    sym (ap number_of (looks_here _ _ (inside.loop-i.invariant.1 extents checks marks) (let less = inside.loop-i-test.true in omega arith) here))
+    let here = three_unfinished (numbers-here (goal.at.returns-then-states-k-eq3 c).In-loop-i extents checks marks) c.if-states-k-eq3.true in
+    sym (ap number_of (looks_here _ _ (c.loop-i.invariant.1 extents checks marks) (let less = c.loop-i-test.true in omega arith) here))
 
 pub loop-i-preserved : goal.loop-i-preserved
 loop-i-preserved c =
-    let inside = c.before.before in (
+    (
       omega arith,
       λ extents checks marks.
-          let here = others-not (numbers-here inside extents checks marks) c.if-states-k-eq3.false in
-          looks_on _ _ (inside.loop-i.invariant.1 extents checks marks) (let less = inside.loop-i-test.true in omega arith) here,
+          let here = others-not (numbers-here (goal.at.loop-i-preserved c).In-loop-i extents checks marks) c.if-states-k-eq3.false in
+          looks_on _ _ (c.loop-i.invariant.1 extents checks marks) (let less = c.loop-i-test.true in omega arith) here,
     )
 
 pub loop-i-init : goal.loop-i-init

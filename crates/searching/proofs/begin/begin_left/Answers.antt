@@ -9,32 +9,25 @@ use Rattle.locating.proofs.Lending.{Lent, left-lent, left-counted}
 use borrow.Author.Rules.{rules}
 use Rattle.searching.proofs.Beginning.{lent_beginnable, lent-begun}
 use Rattle.searching.proofs.begin.begin_left.Goals as goal
-use Rattle.searching.proofs.begin.begin_left.Goals.{After-all_remaining-left, After-begin_lent-arg-9-1, After-told-2-1}
+use Rattle.searching.proofs.begin.begin_left.Goals.{After-all_remaining-left, After-told-2-1}
 
 -- ---- the ways back
-
-abbrev taken : After-told-2-1 → After-all_remaining-left
-taken c = c.before.before.before
-
-abbrev told-before : After-begin_lent-arg-9-1 → After-told-2-1
-told-before c = c.before.before.before.before.before.before.before.before.before
 
 eight : (c : After-all_remaining-left) → length c.all_remaining-left.result.lengths ≡ 8
 eight c = search rules
 
-sized : (c : After-told-2-1) → length (taken c).all_remaining-left.result.symbols ≡ 512
+sized : (c : After-told-2-1) → length c.all_remaining-left.result.symbols ≡ 512
 sized c = search rules
 
 lent : (c : After-told-2-1) →
-    let args = (taken c).args in
-    let left = (taken c).all_remaining-left.result in
+    let args = c.args in
+    let left = c.all_remaining-left.result in
     Lent args.s.rows left.lengths left.symbols
     (all_remaining args.s (declared_by args.declared.now) (held_sequences args.s args.sums.now))
 lent c =
-    let left = taken c in
-    let args = left.args in
-    left-lent args.s left.requires.shape (declared_by args.declared.now) args.sums.now left.all_remaining-left.result
-    left.all_remaining-left.ensures (eight left) (sized c)
+    let args = c.args in
+    left-lent args.s c.requires.shape (declared_by args.declared.now) args.sums.now c.all_remaining-left.result
+    c.all_remaining-left.ensures (eight (TODO_After-all_remaining-left c)) (sized c)
 
 counted : (c : After-all_remaining-left) →
     let left = c.all_remaining-left.result in
@@ -42,9 +35,9 @@ counted : (c : After-all_remaining-left) →
 counted c = left-counted c.args.s c.requires.shape _ _ c.all_remaining-left.result c.all_remaining-left.ensures
 
 pub begin_lent-requires : goal.begin_lent-requires
-begin_lent-requires c = let told = told-before c in lent_beginnable (lent told) _ (counted (taken told))
+begin_lent-requires c =
+    lent_beginnable (lent (goal.at.begin_lent-requires c).After-told-2-1) _ (counted (goal.at.begin_lent-requires c).After-all_remaining-left)
 
 pub returns : goal.returns
 returns c =
-    let told = told-before c.before in
-    lent-begun (lent told) _ (counted (taken told)) refl _ c.begin_lent.ensures
+    lent-begun (lent (goal.at.returns c).After-told-2-1) _ (counted (goal.at.returns c).After-all_remaining-left) refl _ c.begin_lent.ensures

@@ -1,7 +1,6 @@
 -- `searching::sound::is_step_sound` meets its contract.
 use mathlib.Core.Path.{◌≡◌, sym, ap, ◌∙◌}
 use mathlib.Core.Bool.{true, not}
-use borrow.Author.Tests.{not-true, not-false}
 use Rattle.frame.proofs.Shapes.{shape-ranges}
 use Rattle.job.specs.Job.{end_sound, step_sound}
 use Rattle.slices.specs.Synthesis.{Synthesis, synthesis, synthesis_sound}
@@ -17,32 +16,29 @@ held c =
     synthesis a.counts.now a.lengths.now a.symbols.now a.places.now a.sizes.now a.discs.now a.quotients.now a.register.now
     a.saved.now
 
-abbrev start_of : Else-not-is_sound → Start
-start_of c = c.before.before
-
 pub is_sound-requires : goal.is_sound-requires
 is_sound-requires c = (shape-ranges _ c.requires).rows-most
 
 pub returns-then-not-is_sound : goal.returns-then-not-is_sound
 unfolding step_sound
-returns-then-not-is_sound c = λ taps. fails _ _ (sym c.is_sound.ensures ∙ not-true _ c.if-not-is_sound.true)
+returns-then-not-is_sound c = λ taps. fails _ _ (sym c.is_sound.ensures ∙ c.if-not-is_sound.true)
 
-sound : (c : Else-not-is_sound) → synthesis_sound (start_of c).args.s.rows (held (start_of c)) ≡ true
-sound c = sym c.is_sound.ensures ∙ not-false _ c.if-not-is_sound.false
+sound : (c : Else-not-is_sound) → synthesis_sound c.args.s.rows (held (TODO_Start c)) ≡ true
+sound c = sym c.is_sound.ensures ∙ c.if-not-is_sound.false
 
 pub is_last-requires : goal.is_last-requires
 is_last-requires c =
-    let few = (shape-ranges _ (start_of c).requires).rows-most in
-    record { counts_bound = steps-left _ (held (start_of c)) few (sound c); counts_bound_2 = rounds-left _ (held (start_of c)) few (sound c) }
+    let few = (shape-ranges _ c.requires).rows-most in
+    record { counts_bound = steps-left _ (held (goal.at.is_last-requires c).Start) few (sound c); counts_bound_2 = rounds-left _ (held (goal.at.is_last-requires c).Start) few (sound c) }
 
 pub returns-then-not-is_last : goal.returns-then-not-is_last
 unfolding step_sound
 returns-then-not-is_last c =
-    λ taps. passes _ _ (sound c.before.before)
-    (suffices _ _ (ap not (sym c.is_last.ensures ∙ not-true _ c.if-not-is_last.true)))
+    λ taps. passes _ _ (sound (goal.at.returns-then-not-is_last c).Else-not-is_sound)
+    (suffices _ _ (ap not (sym c.is_last.ensures ∙ c.if-not-is_last.true)))
 
 pub returns : goal.returns
 unfolding step_sound end_sound
 returns c =
-    λ taps. passes _ _ (sound c.before.before)
-    (remains _ _ (ap not (sym c.is_last.ensures ∙ not-false _ c.if-not-is_last.false)) c.is_end_sound.ensures)
+    λ taps. passes _ _ (sound (goal.at.returns c).Else-not-is_sound)
+    (remains _ _ (ap not (sym c.is_last.ensures ∙ c.if-not-is_last.false)) c.is_end_sound.ensures)

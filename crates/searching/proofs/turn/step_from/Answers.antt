@@ -7,34 +7,23 @@ use Rattle.slices.specs.Synthesis.{Synthesis}
 use Rattle.searching.specs.Arriving.{all_arrays, arriving}
 use Rattle.searching.proofs.Turning.{Ends, step-sound, step-ends}
 use Rattle.searching.proofs.turn.step_from.Goals as goal
-use Rattle.searching.proofs.turn.step_from.Goals.{After-advance, After-advance-arg-7-1, Start}
 
 -- ---- the ways back
 
-abbrev advanced-before : tie.After-arrive-arg5 → After-advance
-advanced-before c = c.before.before.before.before.before
-
-abbrev start_of : After-advance-arg-7-1 → Start
-start_of c = c.before.before.before.before.before.before.before.before.before
-
 pub advance-requires : goal.advance-requires
 advance-requires c =
-    let start = start_of c in
-    record { count_bound = (shape-ranges _ start.requires.shape).rows-most; saved_value = step-sound _ _ _ _ _ start.requires }
+    record { count_bound = (shape-ranges _ c.requires.shape).rows-most; saved_value = step-sound _ _ _ _ _ c.requires }
 
 width : (c : tie.After-arrive-arg5) → length (start_of (advanced-before c).before).args.sums.now ≡ 512
 width c = search rules
 
 pub arrive-requires : goal.arrive-requires
 arrive-requires c =
-    let made = advanced-before c in
-    let start = start_of made.before in
-    let args = start.args in
-    subst⁻¹ (Ends args.s args.declared.now args.sums.now) made.advance.ensures (step-ends _ _ _ _ _ start.requires (width c))
+    let args = c.args in
+    subst⁻¹ (Ends args.s args.declared.now args.sums.now) c.advance.ensures (step-ends _ _ _ _ _ c.requires (width c))
 
 pub returns : goal.returns
 returns c =
-    let made = advanced-before c.before in
-    let args = (start_of made.before).args in
+    let args = c.args in
     λ f. c.arrive.ensures _ _ _ _ f
-    ∙ ap (λ (y : Synthesis). arriving args.s (all_arrays args.sums.now args.taps.now args.declared.now y) f) made.advance.ensures
+    ∙ ap (λ (y : Synthesis). arriving args.s (all_arrays args.sums.now args.taps.now args.declared.now y) f) c.advance.ensures

@@ -13,18 +13,9 @@ use Rattle.refusal.specs.Outcome.{outcome, outcome_of, passed}
 use Rattle.locating.proofs.Steps.{refusal-outcome, passed-read}
 use Rattle.searching.proofs.Calling.{start-refused, start-goes-on}
 use Rattle.slicing.proofs.start.start_read.Goals as goal
-use Rattle.slicing.proofs.start.start_read.Goals.{After-check_read-checked, After-start_left-arg-11-1, After-sums_read, In_default, Start}
+use Rattle.slicing.proofs.start.start_read.Goals.{In_default, Start}
 
 -- ---- the ways back
-
-abbrev start_of : After-check_read-checked → Start
-start_of c = c.before.before
-
-abbrev tested : In_default → After-check_read-checked
-tested c = c.before.before
-
-abbrev summed : After-start_left-arg-11-1 → After-sums_read
-summed c = c.before.before.before.before.before.before.before.before.before.before.before.before
 
 -- ---- the tests
 
@@ -32,38 +23,35 @@ shape : (c : Start) → is_shape c.args.j.shape ≡ true
 shape c = has-shape _ c.requires.full
 
 pub check_read-checked-requires : goal.check_read-checked-requires
-check_read-checked-requires c = shape c.before
+check_read-checked-requires c = shape (goal.at.check_read-checked-requires c).Start
 
 pub returns-in-Refuse : goal.returns-in-Refuse
 returns-in-Refuse c =
     refusal-outcome _ _ _ c.refuse.ensures refl
-    ∙ start-refused _ _ _ (start_of c.before.before).requires.full _
+    ∙ start-refused _ _ _ c.requires.full _
     (sym c.check_read-checked.ensures ∙ ap outcome_of c.checked-1.given.1)
 
 -- the frame is well-formed
 passes : (c : In_default) →
-    let args = (start_of (tested c)).args in
+    let args = c.args in
     outcome (read_tests args.j.shape (declared_by args.declared.now) args.frame.now) ≡ passed
-passes c = sym (tested c).check_read-checked.ensures ∙ ap outcome_of c.enum_told-1.given.1
+passes c = sym c.check_read-checked.ensures ∙ ap outcome_of c.enum_told-1.given.1
 
 -- ---- the search from its sums
 
 pub sums_read-requires : goal.sums_read-requires
-sums_read-requires c = (shape (start_of (tested c)), passed-read _ _ _ (passes c))
+sums_read-requires c =
+    (shape (goal.at.sums_read-requires c).Start, passed-read _ _ _ (passes (goal.at.sums_read-requires c).In_default))
 
 pub start_left-requires : goal.start_left-requires
 start_left-requires c =
-    let given = summed c in
-    let told = given.before in
-    let start = start_of (tested told) in
     record {
-      shape = shape start;
-      declared = well_formed_declarable _ _ _ (passed-read _ _ _ (passes told));
-      sums-small = λ k. subst⁻¹ (λ (l : List _). get_or l k 0 < 257) given.sums_read.ensures (held_below _ _ k);
+      shape = shape (goal.at.start_left-requires c).Start;
+      declared = well_formed_declarable _ _ _ (passed-read _ _ _ (passes (goal.at.start_left-requires c).In_default));
+      sums-small = λ k. subst⁻¹ (λ (l : List _). get_or l k 0 < 257) c.sums_read.ensures (held_below _ _ k);
     }
 
 pub returns : goal.returns
 returns c =
-    let given = summed c.before in
     c.start_left.ensures _
-    ∙ start-goes-on _ _ _ _ _ _ _ (start_of (tested given.before)).requires.full (passes given.before) given.sums_read.ensures
+    ∙ start-goes-on _ _ _ _ _ _ _ c.requires.full (passes (goal.at.returns c).In_default) c.sums_read.ensures
