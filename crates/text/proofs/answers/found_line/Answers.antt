@@ -6,29 +6,24 @@ use lib.ListN.{length, length-take}
 use Rattle.text.proofs.Answered.{refusal-found, register-found, count-found}
 use Rattle.text.proofs.Writing.{line_as}
 use Rattle.text.proofs.answers.found_line.Goals as goal
-use Rattle.text.proofs.answers.found_line.Goals.{In-Register, Start}
+use Rattle.text.proofs.answers.found_line.Goals.{In-Register}
 
--- from a register that was found back to the start, where the buffer holds all its taps
-abbrev start_of : In-Register → Start
-start_of c = c.before.before.before.before.before
-
-taps-held : (c : In-Register) → c.found-in-Register-1.given.0.0 + 1 ≤ length (start_of c).args.taps.now
-taps-held c = count-found (start_of c).args.found _ _ c.found-in-Register-1.given.1 _ (start_of c).requires.held
+taps-held : (c : In-Register) → c.found-in-Register-1.given.0.0 + 1 ≤ length c.args.taps.now
+taps-held c = count-found c.args.found _ _ c.found-in-Register-1.given.1 _ c.requires.held
 
 pub overflow_add-end : goal.overflow_add-end
 overflow_add-end c = omega (arith, taps-held c)
 
 pub slice_bounds-taps_line-end : goal.slice_bounds-taps_line-end
-slice_bounds-taps_line-end c = omega (arith, taps-held c.before)
+slice_bounds-taps_line-end c = omega (arith, taps-held (goal.at.slice_bounds-taps_line-end c).In-Register)
 
 pub taps_line-requires : goal.taps_line-requires
 taps_line-requires c =
-    let known = c.before.before in
-    let fits = taps-held known in
+    let fits = taps-held (goal.at.taps_line-requires c).In-Register in
     record {
       room = search rules;
       short = omega arith;
-      few = omega (arith, length-take (known.found-in-Register-1.given.0.0 + 1 - 0) (start_of known).args.taps.now);
+      few = omega (arith, length-take (c.found-in-Register-1.given.0.0 + 1 - 0) c.args.taps.now);
     }
 
 pub returns-in-Refused : goal.returns-in-Refused
