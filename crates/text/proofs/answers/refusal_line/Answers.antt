@@ -17,5 +17,8 @@ unfolding refusal_line
 returns c =
     let head = c.put_head-end.ensures in
     let byte = c.put_byte.ensures in
-    record { written = written_as _ _ _ _ _ _ (ap (λ (k : ℕ). line 69 (k ∷ [])) c.number_of.ensures)
-          (line-end _ _ _ _ _ _ (omega arith) head.written _ _ byte); upper_bound = omega (arith, byte.place, head.upper_bound) }
+    record {
+      written = written_as _ _ _ _ _ _ (ap (λ (k : ℕ). line 69 (k ∷ [])) c.number_of.ensures)
+          (line-end _ _ _ _ _ _ (omega arith) head.written _ _ byte);
+      upper_bound = omega (arith, byte.place, head.upper_bound);
+    }

@@ -17,6 +17,9 @@ returns c =
     let taps = c.put_numbers-end.ensures in
     let byte = c.put_byte.ensures in
     let given = c.args in
-    record { written = written_as _ _ _ _ _ _ (ap (λ (k : ℕ). line 82 (given.size ∷ k ∷ given.taps.now)) c.mark_of.ensures)
+    record {
+      written = written_as _ _ _ _ _ _ (ap (λ (k : ℕ). line 82 (given.size ∷ k ∷ given.taps.now)) c.mark_of.ensures)
           (line-end _ _ _ _ _ _ (omega arith)
-          (line-more _ _ _ _ _ _ (omega arith) (line-more _ _ _ _ _ _ (omega arith) head.written _ _ _ mark.written) _ _ _ taps.written) _ _ byte); upper_bound = omega (arith, byte.place) }
+          (line-more _ _ _ _ _ _ (omega arith) (line-more _ _ _ _ _ _ (omega arith) head.written _ _ _ mark.written) _ _ _ taps.written) _ _ byte);
+      upper_bound = omega (arith, byte.place);
+    }

@@ -1,4 +1,3 @@
-use Prim.Native.Nat.{◌-◌}
 use native.Mathlib.Omega.{arith}
 use Rattle.columns.proofs.Walk.{walk_start, walk-next, walk-rises, walk-member, walk_end}
 use Rattle.text.proofs.Spacing as Spacing

@@ -1,5 +1,4 @@
 use mathlib.Core.Path.{refl}
-use Prim.Native.Nat.{◌-◌}
 use native.Mathlib.Omega.{arith}
 use Rattle.text.proofs.Spacing as Spacing
 use Rattle.text.proofs.Spacing.{spaced-none, spaced-room, spaced-next, spaced-all}
@@ -14,7 +13,7 @@ put_number-end-requires c = spaced-room _ _ _ c.requires _ _ _ c.loop-i.invarian
 pub loop-i-preserved : goal.loop-i-preserved
 loop-i-preserved c =
     spaced-next _ _ _ c.requires _ _ _ c.loop-i.invariant _ _ _ (omega arith) refl
-    (omega (arith, c.shared_slice_known-in-loop-i-1.given c.loop-i.i)) c.put_number-end.ensures.written
+    (omega arith) c.put_number-end.ensures.written
 
 pub shape_of-out : goal.shape_of-out
 shape_of-out c = Spacing.same_length _ _ _ c.requires _ _ _ c.loop-i.invariant
