@@ -1,5 +1,5 @@
-// The 16-bit fields of a record's bytes, little-endian, handed out one after another. The borrow checker covers no function over a
-// struct that holds a slice, so those are few and thin: the work stands in `field_at` below them, and callers use `nth` above them.
+// The 16-bit fields of a record's bytes, little-endian, handed out one after another: `field_at` looks at the bytes, the functions over a
+// `Reader` are thin, and callers use `nth` above them.
 #![tactic(auto)]
 
 ghost use Rattle.std.specs.Prelude.{◌≡◌, ◌+◌, ◌*◌, ◌/◌, ◌^◌, ◌<◌, min, length};
@@ -63,7 +63,7 @@ pub fn advanced<'a>(r: Reader<'a>, k: usize) -> Reader<'a>
     }
 }
 
-// Field number k, counted from 0. The parameters are plain, so whoever calls this one needs no walk by hand.
+// Field number k, counted from 0.
 pub fn nth(s: &[u8], k: usize) -> Field
     requires { 2 * k < 2 ^ 64 }
     ensures { result ≡ field_at s.now (2 * k) }

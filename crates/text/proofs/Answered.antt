@@ -8,12 +8,10 @@ use lib.ListN.{take}
 use Rattle.columns.specs.declared.Columns.{Columns}
 use Rattle.finder.specs.Finder.{register}
 use Rattle.finder.specs.declared.Found.{Found}
-use Rattle.finder.specs.declared.Found.TheVariants as Found
 use Rattle.finder.specs.declared.Found.TheVariants.{Register}
 use Rattle.job.specs.Answers.{reply_answer}
 use Rattle.job.specs.Calls as Calls
 use Rattle.job.specs.declared.Reply.{Reply}
-use Rattle.job.specs.declared.Reply.TheVariants as Reply
 use Rattle.job.specs.declared.Reply.TheVariants.{Count, Unfinished}
 use Rattle.refusal.specs.Number.{number}
 use Rattle.refusal.specs.declared.Refusal.{Refusal}

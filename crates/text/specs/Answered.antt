@@ -6,7 +6,6 @@ use Rattle.finder.specs.Finder.{register}
 use Rattle.finder.specs.declared.Found.{Found}
 use Rattle.finder.specs.declared.Found.TheVariants.{Register, Refused}
 use Rattle.job.specs.declared.Reply.{Reply}
-use Rattle.job.specs.declared.Reply.TheVariants as Reply
 use Rattle.job.specs.declared.Reply.TheVariants.{Count, Unfinished}
 use Rattle.refusal.specs.Number.{number}
 use Rattle.text.specs.Line.{refusal_line, register_line}

@@ -1,4 +1,4 @@
-use Prim.Native.Nat.{◌-◌, ◌≤◌}
+use Prim.Native.Nat.{◌≤◌}
 use native.Mathlib.Nat.{mul-le-mul}
 use native.Mathlib.Omega.{arith}
 use Rattle.frame.proofs.Shapes.{Ranges, shape-ranges}
@@ -20,19 +20,19 @@ count : (c : After-checks-1) → Fits w16 (get_or c.args.s.checks c.loop-h.h 0)
 count c = search rules
 
 pub overflow_add-checks : goal.overflow_add-checks
-overflow_add-checks c = record { fits = omega (arith, (count c).ranges) }
+overflow_add-checks c = record { fits = omega (arith, (count c).fits) }
 
 pub loop-h-preserved : goal.loop-h-preserved
-loop-h-preserved c = (omega arith, omega (arith, (count c).ranges))
+loop-h-preserved c = (omega arith, omega (arith, (count c).fits))
 
 pub overflow_mul-result : goal.overflow_mul-result
 overflow_mul-result c =
-    let r = ranges c.before.before in
+    let r = ranges (goal.at.overflow_mul-result c).Start in
     let most = mul-le-mul (let l : c.loop-h.checks ≤ 524280 = omega arith in l) r.columns-most in
     omega arith
 
 pub overflow_add-result : goal.overflow_add-result
-overflow_add-result c = let rows = (ranges c.before.before).rows-most in omega arith
+overflow_add-result c = let rows = (ranges (goal.at.overflow_add-result c).Start).rows-most in omega arith
 
 pub overflow_mul-result-2 : goal.overflow_mul-result-2
-overflow_mul-result-2 c = let rows = (ranges c.before.before).rows-most in omega arith
+overflow_mul-result-2 c = let rows = (ranges (goal.at.overflow_mul-result-2 c).Start).rows-most in omega arith

@@ -8,16 +8,11 @@ use Rattle.frame.proofs.RowPlace.{RowPlace, row-place}
 use Rattle.frame.proofs.Shapes.{shape-ranges}
 use Rattle.frame.proofs.Symbols.{symbols-below}
 use Rattle.codec.proofs.sums.sum_rows.Goals as goal
-use Rattle.codec.proofs.sums.sum_rows.Goals.{In-loop-h, Start}
+use Rattle.codec.proofs.sums.sum_rows.Goals.{In-loop-h}
 
--- the way back
-abbrev start_of : In-loop-h → Start
-start_of c = c.before.before.before.before.before.before
-
-place : (c : In-loop-h) → RowPlace (start_of c).args.s (length (start_of c).args.frame.now) c.loop-h.h
+place : (c : In-loop-h) → RowPlace c.args.s (length c.args.frame.now) c.loop-h.h
 place c =
-    let start = start_of c in
-    row-place start.args.s (length start.args.frame.now) c.loop-h.h start.requires.0 start.requires.1.size c.loop-h-test.true
+    row-place c.args.s (length c.args.frame.now) c.loop-h.h c.requires.0 c.requires.1.size c.loop-h-test.true
 
 pub loop-h-init : goal.loop-h-init
 loop-h-init c = rw c.requires.3 (held_none _ _)
@@ -35,54 +30,51 @@ pub bounds-s-h : goal.bounds-s-h
 bounds-s-h c = let p = place c in omega arith
 
 pub overflow_cast-to : goal.overflow_cast-to
-overflow_cast-to c = let p = place c.before in omega arith
+overflow_cast-to c = let p = place (goal.at.overflow_cast-to c).In-loop-h in omega arith
 
 pub overflow_add-to : goal.overflow_add-to
-overflow_add-to c = let p = place c.before in omega arith
+overflow_add-to c = let p = place (goal.at.overflow_add-to c).In-loop-h in omega arith
 
 pub offset_bounds-frame-a : goal.offset_bounds-frame-a
-offset_bounds-frame-a c = let p = place c.before.before in omega arith
+offset_bounds-frame-a c = let p = place (goal.at.offset_bounds-frame-a c).In-loop-h in omega arith
 
 pub slice_bounds-row_sums-start : goal.slice_bounds-row_sums-start
-slice_bounds-row_sums-start c = let p = place c.before.before in omega arith
+slice_bounds-row_sums-start c = let p = place (goal.at.slice_bounds-row_sums-start c).In-loop-h in omega arith
 
 pub slice_bounds-row_sums-end : goal.slice_bounds-row_sums-end
-slice_bounds-row_sums-end c = let p = place c.before.before in omega arith
+slice_bounds-row_sums-end c = let p = place (goal.at.slice_bounds-row_sums-end c).In-loop-h in omega arith
 
 pub offset_bounds-sums-at : goal.offset_bounds-sums-at
-offset_bounds-sums-at c = let p = place c.before.before.before in omega arith
+offset_bounds-sums-at c = let p = place (goal.at.offset_bounds-sums-at c).In-loop-h in omega arith
 
 pub slice_bounds-row_sums-count-in-loop-h : goal.slice_bounds-row_sums-count-in-loop-h
-slice_bounds-row_sums-count-in-loop-h c = let p = place c.before.before.before in omega arith
+slice_bounds-row_sums-count-in-loop-h c = let p = place (goal.at.slice_bounds-row_sums-count-in-loop-h c).In-loop-h in omega arith
 
 pub slice_bounds-row_sums-start-in-loop-h : goal.slice_bounds-row_sums-start-in-loop-h
-slice_bounds-row_sums-start-in-loop-h c = let p = place c.before.before.before in omega arith
+slice_bounds-row_sums-start-in-loop-h c = let p = place (goal.at.slice_bounds-row_sums-start-in-loop-h c).In-loop-h in omega arith
 
 pub slice_bounds-row_sums-end-in-loop-h : goal.slice_bounds-row_sums-end-in-loop-h
-slice_bounds-row_sums-end-in-loop-h c = let p = place c.before.before.before in omega arith
+slice_bounds-row_sums-end-in-loop-h c = let p = place (goal.at.slice_bounds-row_sums-end-in-loop-h c).In-loop-h in omega arith
 
 pub row_sums-requires : goal.row_sums-requires
 row_sums-requires c =
-    let at = c.before.before.before.before in
-    let start = start_of at in
-    let p = place at in
-    let s = start.args.s in
-    let f = start.args.frame.now in
-    let h = at.loop-h.h in (
+    let p = place (goal.at.row_sums-requires c).In-loop-h in
+    let s = c.args.s in
+    let f = c.args.frame.now in
+    let h = c.loop-h.h in (
       record {
-        powers_known = at.powers-powers.ensures;
-        exponent = omega (arith, (shape-ranges start.args.s start.requires.0).exponent-most);
-        narrow = omega (arith, length-row _ _ _ _ _ at.loop-h.invariant p);
-        symbols = part-below f (symbols-below s f start.requires.1) (h * s.columns) (h * s.columns + s.columns - h * s.columns);
+        powers_known = c.powers-powers.ensures;
+        exponent = omega (arith, (shape-ranges c.args.s c.requires.0).exponent-most);
+        narrow = omega (arith, length-row _ _ _ _ _ c.loop-h.invariant p);
+        symbols = part-below f (symbols-below s f c.requires.1) (h * s.columns) (h * s.columns + s.columns - h * s.columns);
         few = simp length-take (omega arith);
       },
-      start.requires.2,
+      c.requires.2,
     )
 
 pub loop-h-preserved : goal.loop-h-preserved
 loop-h-preserved c =
-    let at = c.before.before.before.before.before.before.before in
-    held_more _ _ _ _ _ at.loop-h.invariant (place at) _ at.loop-h-test.true c.row_sums.ensures
+    held_more _ _ _ _ _ c.loop-h.invariant (place (goal.at.loop-h-preserved c).In-loop-h) _ c.loop-h-test.true c.row_sums.ensures
 
 pub shape_of-sums : goal.shape_of-sums
 shape_of-sums c = c.loop-h.invariant.size ∙ sym (ap length c.requires.3)

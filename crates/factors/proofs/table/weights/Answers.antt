@@ -1,4 +1,4 @@
-use Prim.Native.Nat.{◌-◌, ◌≤◌}
+use Prim.Native.Nat.{◌≤◌}
 use native.Mathlib.Nat.{mul-le-mul}
 use native.Mathlib.Omega.{arith}
 use Rattle.lists.proofs.Filling.{filled_none, filled_more}
@@ -14,12 +14,11 @@ overflow_mul-b c =
     omega arith
 
 pub loop-i-preserved : goal.loop-i-preserved
-loop-i-preserved c =
-    (
-      omega arith,
-      filled_more _ _ c.loop-i.i _ c.loop-i.t c.loop-i.invariant.1 (let s = c.loop-i.invariant.1.size in omega (arith, length-factors))
-          (c.entry.ensures.power c.powers-powers.ensures),
-    )
+loop-i-preserved c = (
+  omega arith,
+  filled_more _ _ c.loop-i.i _ c.loop-i.t c.loop-i.invariant.1 (let s = c.loop-i.invariant.1.size in omega (arith, length-factors))
+      (c.entry.ensures.power c.powers-powers.ensures),
+)
 
 pub returns : goal.returns
 returns c = weights-all _ _ _ c.loop-i.invariant.1 (omega arith)

@@ -1,5 +1,5 @@
 use mathlib.Core.Path.{refl}
-use Prim.Native.Nat.{◌-◌, ◌*◌, ◌≤◌}
+use Prim.Native.Nat.{◌*◌, ◌≤◌}
 use native.Mathlib.Omega.{arith}
 use Rattle.field.proofs.Multiplication.{multiplied_none, multiplied_more, multiplied_all, product-fits}
 use Rattle.polynomials.proofs.factor.multiply.Goals as goal
@@ -10,8 +10,8 @@ loop-k-init c = multiplied_none _ _ _ _
 
 -- the two products
 below-fits : (c : After-wide-old) →
-    let at = c.before.before.before in at.args.a * at.loop-k.below ≤ 257 * 65535
-below-fits c = let at = c.before.before.before in product-fits _ _ at.requires.0 at.loop-k.invariant.fits
+    c.args.a * c.loop-k.below ≤ 257 * 65535
+below-fits c = product-fits _ _ c.requires.0 c.loop-k.invariant.fits
 
 own-fits : (c : After-wide-old) → c.args.b * c.wide-old.result ≤ 257 * 65535
 own-fits c = product-fits _ _ c.requires.1 (omega arith)

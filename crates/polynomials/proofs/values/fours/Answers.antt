@@ -1,5 +1,5 @@
 use mathlib.Core.Path.{◌≡◌, ap, subst, ◌∙◌}
-use Prim.Native.Nat.{ℕ, ◌+◌, ◌-◌, ◌*◌, ◌/◌, ◌%◌, ◌≤◌}
+use Prim.Native.Nat.{ℕ, ◌+◌, ◌*◌, ◌/◌, ◌%◌, ◌≤◌}
 use native.Mathlib.Nat.{mul-le-mul}
 use native.Mathlib.Omega.{arith}
 use lib.ListN.{length, get_or}
@@ -9,24 +9,11 @@ use Rattle.field257.specs.Powers.{power_of3}
 use Rattle.field257.proofs.Accumulation.{term}
 use Rattle.field257.proofs.Halves.{Beside, beside_none, beside-more, beside-fits, halves_joined}
 use Rattle.polynomials.proofs.values.fours.Goals as goal
-use Rattle.polynomials.proofs.values.fours.Goals.{After-long, After-long-2, After-long-y, At-loop-b, In-loop-b, Start}
-
--- the ways back
-abbrev start_of : After-long-y → Start
-start_of c = c.before.before.before
-
-abbrev in-loop : After-long → In-loop-b
-in-loop c = c.before.before.before
-
-abbrev looked-up-before : In-loop-b → After-long-y
-looked-up-before c = c.before.before
-
-abbrev begun : After-long → Start
-begun c = start_of (looked-up-before (in-loop c))
+use Rattle.polynomials.proofs.values.fours.Goals.{After-long, After-long-2, After-long-y}
 
 -- the point
-point : (c : After-long-y) → c.long-y.result ≡ power_of3 (start_of c).args.e
-point c = c.long-y.ensures ∙ c.entry.ensures.power (start_of c).requires.powers_known
+point : (c : After-long-y) → c.long-y.result ≡ power_of3 c.args.e
+point c = c.long-y.ensures ∙ c.entry.ensures.power c.requires.powers_known
 
 pub loop-b-init : goal.loop-b-init
 loop-b-init c = (omega arith, beside_none _ _ _)
@@ -37,72 +24,65 @@ linear-requires c =
     record {
       first = omega arith;
       second = omega arith;
-      below = (start_of (looked-up-before c)).requires.below;
-      point = omega (arith, point (looked-up-before c));
+      below = c.requires.below;
+      point = omega (arith, point (goal.at.linear-requires c).After-long-y);
     }
 
 -- one block more
 grown : (c : After-long) →
-    let loop = (in-loop c).loop-b in
-    let args = (begun c).args in
+    let loop = c.loop-b in
+    let args = c.args in
     let f = args.f.now in
     Beside (λ k. get_or f k 0) (λ k. get_or f (2 * (length f / 4) + k) 0) args.e (2 * (loop.b + 1)) (loop.exponent + 2 * args.e)
     (loop.total + c.linear.result * c.long.result)
 grown c =
-    let inside = in-loop c in
-    let made = looked-up-before inside in
-    let start = begun c in
-    let f = start.args.f.now in
-    let k : ℕ = 2 * inside.loop-b.b in
+    let f = c.args.f.now in
+    let k : ℕ = 2 * c.loop-b.b in
     let half : ℕ = 2 * (length f / 4) in
-    beside-more _ _ _ inside.loop-b.b _ _ c.long.result _ inside.loop-b.inv.1 (c.long.ensures ∙ c.entry-in-loop-b.ensures.power start.requires.powers_known)
-    (let t = inside.loop-b-test.taken in omega (arith, start.requires.few)) start.requires.below (λ i. start.requires.below (half + i))
+    beside-more _ _ _ c.loop-b.b _ _ c.long.result _ c.loop-b.invariant.1 (c.long.ensures ∙ c.entry-in-loop-b.ensures.power c.requires.powers_known)
+    (let t = c.loop-b-test.true in omega (arith, c.requires.few)) c.requires.below (λ i. c.requires.below (half + i))
     (c.linear.ensures
-    ∙ ap (λ (y : ℕ). linear_at f k y + 4294967296 * linear_at f (half + k) y) (point made)
-    ∙ ap (λ (n : ℕ). linear_at f k (power_of3 start.args.e) + 4294967296 * (get_or f (half + k) 0 + power_of3 start.args.e * get_or f n 0))
+    ∙ ap (λ (y : ℕ). linear_at f k y + 4294967296 * linear_at f (half + k) y) (c.long-y.ensures ∙ c.entry.ensures.power c.requires.powers_known)
+    ∙ ap (λ (n : ℕ). linear_at f k (power_of3 c.args.e) + 4294967296 * (get_or f (half + k) 0 + power_of3 c.args.e * get_or f n 0))
     (let e : half + k + 1 ≡ half + (k + 1) = omega arith in e))
 
 pub overflow_add-total : goal.overflow_add-total
-overflow_add-total c =
-    beside-fits _ _ _ _ _ _ (grown c) (let t = (in-loop c).loop-b-test.true in omega (arith, (begun c).requires.few))
+overflow_add-total c = beside-fits _ _ _ _ _ _ (grown c) (let t = c.loop-b-test.true in omega (arith, c.requires.few))
 
 -- the values of the block times the power looked up
 pub overflow_mul-total : goal.overflow_mul-total
-overflow_mul-total c = let g = add_total c in record { fits = omega arith }
+overflow_mul-total c = let g = overflow_add-total c in record { fits = omega arith }
 
 pub overflow_add-exponent : goal.overflow_add-exponent
 overflow_add-exponent c =
-    let t = (in-loop c).loop-b-test.true in
-    let start = begun c in
-    let most = mul-le-mul (let z : 2 * ((in-loop c).loop-b.b + 1) ≤ 128 = omega (arith, start.requires.few) in z)
-    (let z : start.args.e ≤ 16777215 = omega (arith, start.requires.exponent) in z) in
+    let t = c.loop-b-test.true in
+    let most = mul-le-mul (let z : 2 * (c.loop-b.b + 1) ≤ 128 = omega (arith, c.requires.few) in z)
+    (let z : c.args.e ≤ 16777215 = omega (arith, c.requires.exponent) in z) in
     omega (arith, (grown c).low.exponent)
 
 pub loop-b-preserved : goal.loop-b-preserved
-loop-b-preserved c = (let t = (in-loop c).loop-b-test.true in omega arith, grown c)
-
--- what the loop leaves, joined by the power looked up after it
-abbrev left : After-long-2 → At-loop-b
-left c = c.before.before.before
+loop-b-preserved c = (let t = c.loop-b-test.true in omega arith, grown c)
 
 joined : (c : After-long-2) →
-    let f = (start_of (left c).before).args.f.now in
-    let t = (left c).loop-b.total in
+    let f = c.args.f.now in
+    let t = c.loop-b.total in
     let r : ℕ = t % 4294967296 + t / 4294967296 * c.long-2.result in
-    (r % 257 ≡ total (4 * (length f / 4)) (term f (start_of (left c).before).args.e) % 257) × (r ≤ 4 * (length f / 4) * 562949953421312)
+    (r % 257 ≡ total (4 * (length f / 4)) (term f c.args.e) % 257) × (r ≤ 4 * (length f / 4) * 562949953421312)
 joined c =
-    let start = start_of (left c).before in
-    let f = start.args.f.now in
+    let f = c.args.f.now in
     let half : ℕ = 2 * (length f / 4) in
     let over = c.loop-b-test.false in
     rw (let e : 4 * (length f / 4) ≡ half + half = omega arith in e)
-    (halves_joined f start.args.e half _ _ c.long-2.result
-    (subst (λ (i : ℕ). Beside (λ k. get_or f k 0) (λ k. get_or f (half + k) 0) start.args.e i (left c).loop-b.exponent (left c).loop-b.total)
-    (let e : 2 * (left c).loop-b.b ≡ half = omega (arith, (left c).loop-b.invariant.0) in e) (left c).loop-b.invariant.1)
-    (c.long-2.ensures ∙ c.entry-2.ensures.power start.pre.powers_known))
+    (halves_joined f c.args.e half _ _ c.long-2.result
+    (subst (λ (i : ℕ). Beside (λ k. get_or f k 0) (λ k. get_or f (half + k) 0) c.args.e i c.loop-b.exponent c.loop-b.total)
+    (let e : 2 * c.loop-b.b ≡ half = omega (arith, c.loop-b.invariant.0) in e) c.loop-b.invariant.1)
+    (c.long-2.ensures ∙ c.entry-2.ensures.power c.requires.powers_known))
 
 pub overflow_mul-result : goal.overflow_mul-result
-overflow_mul-result c = record { fits = omega (arith, (joined c).1, (start_of (left c).before).pre.few) }
+overflow_mul-result c = record { fits = omega (arith, (joined c).1, c.requires.few) }
 
 pub overflow_add-result : goal.overflow_add-result
-overflow_add-result c = record { fits = omega (arith, (joined c).1, (start_of (left c).before).pre.few) }
+overflow_add-result c = record { fits = omega (arith, (joined c).1, c.requires.few) }
+
+pub returns : goal.returns
+returns c = let (same, fits) = joined (goal.at.returns c).After-long-2 in record { equals = same; bounded = fits }

@@ -1,7 +1,6 @@
 -- `polynomials::values::fours` meets its contract. The invariant: the terms of b blocks of two of each half are summed.
 use Prim.Native.Nat.{◌+◌, ◌-◌, ◌*◌, ◌≤◌}
 use lib.ListN.{get_or}
-use Rattle.lists.specs.Total.{total}
 use Rattle.field257.proofs.Halves.{Beside}
 use Rattle.polynomials.proofs.values.fours.Given as goal
 

@@ -1,6 +1,5 @@
 use mathlib.Core.Path.{◌≡◌, refl, sym, ap, ◌∙◌}
 use mathlib.Core.Bool.{true, false}
-use Prim.Native.Nat.{◌-◌}
 use Rattle.frame.specs.Shape.{checks_in_range}
 use Rattle.frame.proofs.ShapeTests.{count_test, no_check, many_checks, no_data, count-taken}
 use Rattle.lists.proofs.Testing.{tested-none, tested_out, tested-pass, tested-all}
@@ -18,13 +17,13 @@ refused c e =
     tested_out _ _ c.loop-h.h c.loop-h-test.true (ap (count_test _) (sym c.wide-count.ensures.equals) ∙ e)
 
 pub returns-then-count-lt1 : goal.returns-then-count-lt1
-returns-then-count-lt1 c = refused c.before (no_check _ _ c.if-count-lt1.true)
+returns-then-count-lt1 c = refused (goal.at.returns-then-count-lt1 c).After-wide-count (no_check _ _ c.if-count-lt1.true)
 
 pub returns-then-count-gt64 : goal.returns-then-count-gt64
-returns-then-count-gt64 c = refused c.before.before (many_checks _ _ c.if-count-gt64.true)
+returns-then-count-gt64 c = refused (goal.at.returns-then-count-gt64 c).After-wide-count (many_checks _ _ c.if-count-gt64.true)
 
 pub returns-then-count-columns : goal.returns-then-count-columns
-returns-then-count-columns c = refused c.before.before.before (no_data _ _ c.if-count-columns.true)
+returns-then-count-columns c = refused (goal.at.returns-then-count-columns c).After-wide-count (no_data _ _ c.if-count-columns.true)
 
 pub loop-h-preserved : goal.loop-h-preserved
 loop-h-preserved c =

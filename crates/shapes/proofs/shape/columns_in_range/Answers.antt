@@ -1,7 +1,7 @@
 -- `shapes::shape::columns_in_range` meets its contract.
 use mathlib.Core.Path.{sym}
 use Rattle.frame.specs.Shape.{columns_in_range}
-use Rattle.refusal.proofs.Ranges.{below_range, above_range, in_range}
+use Rattle.refusal.proofs.Ranges.{below_range, above_range, in_range_lem}
 use Rattle.shapes.proofs.shape.columns_in_range.Goals as goal
 
 pub returns-then-columns-lt2 : goal.returns-then-columns-lt2

@@ -1,7 +1,7 @@
 -- `shapes::shape::rows_in_range` meets its contract.
 use mathlib.Core.Path.{sym}
 use Rattle.frame.specs.Shape.{rows_in_range}
-use Rattle.refusal.proofs.Ranges.{below_range, above_range, in_range}
+use Rattle.refusal.proofs.Ranges.{below_range, above_range, in_range_lem}
 use Rattle.shapes.proofs.shape.rows_in_range.Goals as goal
 
 pub returns-then-rows-lt1 : goal.returns-then-rows-lt1

@@ -1,36 +1,12 @@
--- `text::answers::reply_line` meets its contract.
-use native.Mathlib.Omega.{arith}
 use borrow.Author.Rules.{rules}
-use Rattle.text.proofs.Answered.{refusal-replied, unfinished-replied, columns-replied, count-replied}
-use Rattle.text.proofs.Writing.{line_as, written-nothing}
+use Rattle.text.specs.Line.{columns_line}
+use Rattle.text.proofs.Writing.{written-nothing}
 use Rattle.text.proofs.answers.reply_line.Goals as goal
-use Rattle.text.proofs.answers.reply_line.Goals.{After-slice_known-in-Count-1, After-slice_known-in-Refused-1, In-Count-2, In-Refused-2}
 
--- from the line of a refusal, and from that of columns, back to what the reply was seen to be
-abbrev refused : After-slice_known-in-Refused-1 → In-Refused-2
-refused c = c.before.before.before.before.before
+pub returns-in-Refused-clause-written : goal.returns-in-Refused-clause-written
+unfolding columns_line
+returns-in-Refused-clause-written c = search rules
 
-abbrev counted : After-slice_known-in-Count-1 → In-Count-2
-counted c = c.before.before.before.before.before
-
-pub columns_line-requires : goal.columns_line-requires
-columns_line-requires c =
-    record {
-      room = search rules;
-      few = count-replied c.args.reply c.args.marks _ c.reply-in-Count-1.given.1 _ c.requires.few;
-      few-marks = c.requires.few-marks;
-    }
-
-pub returns-in-Refused : goal.returns-in-Refused
-returns-in-Refused c =
-    let start = (refused c).before.before.before in
-    let all = line_as _ _ _ _ _ _ (refusal-replied start.args.reply _ _ (refused c).reply-1.given.1) c.refusal_line.ensures in record { written = all.0; upper_bound = all.1 }
-
-pub returns-in-Count : goal.returns-in-Count
-returns-in-Count c =
-    let start = (counted c).before.before.before in
-    let all = line_as _ _ _ _ _ _ (columns-replied start.args.reply _ _ (counted c).reply-in-Count-1.given.1) c.columns_line.ensures in record { written = all.0; upper_bound = all.1 }
-
-pub returns-in-Unfinished : goal.returns-in-Unfinished
-returns-in-Unfinished c =
-    let all = line_as _ _ _ _ _ _ (unfinished-replied c.args.reply _ c.enum_told-1.given.1) (written-nothing _ _, omega arith) in record { written = all.0; upper_bound = all.1 }
+pub returns-in-Unfinished-clause-written : goal.returns-in-Unfinished-clause-written
+unfolding columns_line
+returns-in-Unfinished-clause-written c = search (rules, written-nothing)

@@ -2,7 +2,6 @@
 use Prim.Native.Nat.{ℕ, ◌-◌}
 use Rattle.columns.specs.Columns.{members}
 use Rattle.columns.proofs.Walk.{Walk}
-use Rattle.text.proofs.Spacing as Spacing
 use Rattle.text.proofs.Spacing.{Spaced}
 use Rattle.text.proofs.writers.put_columns.Given as goal
 

@@ -1,36 +1,24 @@
 use mathlib.Core.Path.{refl}
-use Prim.Native.Nat.{◌-◌}
 use native.Mathlib.Omega.{arith}
 use Rattle.text.proofs.Spacing as Spacing
 use Rattle.text.proofs.Spacing.{spaced-none, spaced-room, spaced-next, spaced-all}
 use Rattle.text.proofs.writers.put_numbers.Goals as goal
-use Rattle.text.proofs.writers.put_numbers.Goals.{After-slice_known-in-loop-i-1, At-loop-i, Start}
-
--- from the end of a turn back to where it began, and from there to the start
-abbrev began : After-slice_known-in-loop-i-1 → At-loop-i
-began c = c.before.before.before.before.before.before
-
-abbrev start_of : At-loop-i → Start
-start_of c = c.before.before.before
 
 pub loop-i-init : goal.loop-i-init
 loop-i-init c = spaced-none _ _ _
 
 pub put_number-end-requires : goal.put_number-end-requires
-put_number-end-requires c =
-    let at = c.before.before.before in
-    spaced-room _ _ _ (start_of at).requires _ _ _ at.loop-i.invariant (omega arith)
+put_number-end-requires c = spaced-room _ _ _ c.requires _ _ _ c.loop-i.invariant (omega arith)
 
 pub loop-i-preserved : goal.loop-i-preserved
 loop-i-preserved c =
-    let at = began c in
-    spaced-next _ _ _ (start_of at).requires _ _ _ at.loop-i.inv _ _ _ (omega arith) refl
-    (omega (arith, c.shared_slice_known-in-loop-i-1.given at.loop-i.i)) c.put_number-end.ensures.written
+    spaced-next _ _ _ c.requires _ _ _ c.loop-i.invariant _ _ _ (omega arith) refl
+    (omega arith) c.put_number-end.ensures.written
 
 pub shape_of-out : goal.shape_of-out
-shape_of-out c = Spacing.same_length _ _ _ (start_of c.before).requires _ _ _ c.loop-i.invariant
+shape_of-out c = Spacing.same_length _ _ _ c.requires _ _ _ c.loop-i.invariant
 
 pub returns : goal.returns
 returns c =
     let done = c.loop-i.invariant in
-    record { written = spaced-all _ _ _ (start_of c.before).requires _ _ _ done (omega (arith, done.within)); upper_bound = omega (arith, done.near, done.within) }
+    record { written = spaced-all _ _ _ c.requires _ _ _ done (omega (arith, done.within)); upper_bound = omega (arith, done.near, done.within) }

@@ -1,7 +1,6 @@
 -- `text::writers::put_numbers` meets its contract.
 use Prim.Native.Nat.{◌-◌}
 use lib.ListN.{length}
-use Rattle.text.proofs.Spacing as Spacing
 use Rattle.text.proofs.Spacing.{Spaced}
 use Rattle.text.proofs.writers.put_numbers.Given as goal
 

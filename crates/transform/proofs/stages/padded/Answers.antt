@@ -1,5 +1,4 @@
 use mathlib.Core.Path.{refl}
-use Prim.Native.Nat.{◌-◌}
 use native.Mathlib.Omega.{arith}
 use lib.ListN.{get_or-eq_default}
 use Rattle.lists.proofs.Filling.{filled_none, filled_more, filled-zeros}
@@ -17,4 +16,4 @@ pub returns : goal.returns
 returns c =
     let x = c.args.x.now in
     let filled = c.loop-i.invariant in
-    (filled-zeros _ 256 _ _ filled (λ k h. get_or-eq_default x 0 (omega arith)), filled.size)
+    record { entries = filled-zeros _ 256 _ _ filled (λ k h. get_or-eq_default x 0 (omega arith)); size = filled.size }

@@ -1,5 +1,4 @@
 use mathlib.Core.Path.{refl, ◌∙◌}
-use Prim.Native.Nat.{◌-◌}
 use native.Mathlib.Omega.{arith}
 use Rattle.lists.proofs.Filling.{filled_none, filled_more, filled-all}
 use Rattle.transform.specs.Stages.{weighed_sums}
@@ -11,7 +10,7 @@ pub butterflies-requires : goal.butterflies-requires
 butterflies-requires c = (first-factors _ c.requires.0, refl)
 
 pub butterflies-requires-2 : goal.butterflies-requires-2
-butterflies-requires-2 c = (later-factors _ c.requires.0 1 (omega arith) (omega arith), c.padded-y.ensures.1)
+butterflies-requires-2 c = (later-factors _ c.requires.0 1 (omega arith) (omega arith), c.padded-y.ensures.size)
 
 pub butterflies-requires-3 : goal.butterflies-requires-3
 butterflies-requires-3 c = (later-factors _ c.requires.0 2 (omega arith) (omega arith), c.butterflies.ensures.size)
@@ -30,7 +29,7 @@ loop-k-preserved c =
     (staged_sum k (omega arith) _ _ _ _ _ _ _ _ c.butterflies.ensures c.butterflies-2.ensures c.butterflies-3.ensures
     (later-part t c.requires.0 1 (omega arith) (omega arith)) (later-part t c.requires.0 2 (omega arith) (omega arith))
     (later-part t c.requires.0 3 (omega arith) (omega arith)) _ _ c.last-v.ensures c.reversed.ensures.equals c.reversed.ensures.below
-    ∙ weighed-same _ _ _ _ k (first_part t c.requires.0) c.padded-y.ensures.0)
+    ∙ weighed-same _ _ _ _ k (first_part t c.requires.0) c.padded-y.ensures.entries)
 
 pub returns : goal.returns
 unfolding weighed_sums

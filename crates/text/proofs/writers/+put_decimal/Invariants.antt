@@ -1,0 +1,5 @@
+-- Each call is for a tenth of the number.
+use Rattle.text.proofs.writers.+put_decimal.Given as goal
+
+abbrev pub decreases-put_decimal : goal.decreases-put_decimal
+decreases-put_decimal l = l.n
