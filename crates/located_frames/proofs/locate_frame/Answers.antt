@@ -31,8 +31,8 @@ returns-else-mends_uniform c =
 
 pub returns-in-Unfinished : goal.returns-in-Unfinished
 returns-in-Unfinished c =
-    λ a. not-counted _ _ _ _ _ _ _ _ _ c.locate_from-answer.ensures a _ c.enum_told-in-Unfinished-1.given.1 (λ m e. never_both e)
+    λ a. not-counted _ _ _ _ _ _ _ _ _ c.locate_from-answer.ensures a _ c.in-Unfinished.is (λ m e. never_both e)
 
 pub returns-in-Refused : goal.returns-in-Refused
 returns-in-Refused c =
-    λ a. not-counted _ _ _ _ _ _ _ _ _ c.locate_from-answer.ensures a _ c.enum_told-in-Refused-1.given.1 (λ m e. never-columns (sym e))
+    λ a. not-counted _ _ _ _ _ _ _ _ _ c.locate_from-answer.ensures a _ c.in-Refused.is (λ m e. never-columns (sym e))

@@ -29,7 +29,7 @@ pub returns-in-Refuse : goal.returns-in-Refuse
 returns-in-Refuse c =
     λ a. refusal-outcome _ _ _ c.refuse.ensures refl
     ∙ locate-refused _ _ _ c.requires.full _
-    (sym c.check_read-checked.ensures ∙ ap outcome_of c.checked-1.given.1)
+    (sym c.check_read-checked.ensures ∙ ap outcome_of c.in-Refuse.is)
 
 -- the frame is well-formed
 passes : (c : In_default) →

@@ -56,7 +56,7 @@ pub returns-in-Refuse : goal.returns-in-Refuse
 returns-in-Refuse c =
     λ a. refusal-outcome _ _ _ c.refuse-in-Refuse.ensures refl
     ∙ repair-refused _ _ c.requires.full (located (goal.at.returns-in-Refuse c).Else-not-cells_sound a) (sound-cells _ _ _ (cells (goal.at.returns-in-Refuse c).After-cells_sound ∙ c.if-not-cells_sound.false)).0 _
-    (sym c.check_read-checked.ensures ∙ ap outcome_of c.checked-1.given.1)
+    (sym c.check_read-checked.ensures ∙ ap outcome_of c.in-Refuse.is)
 
 -- the frame is well-formed
 passes : (c : In_default) →

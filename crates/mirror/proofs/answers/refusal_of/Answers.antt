@@ -6,4 +6,4 @@ use Rattle.mirror.specs.Mirror.{refusal_of}
 use Rattle.mirror.proofs.answers.refusal_of.Goals as goal
 
 pub returns-in-Refuse : goal.returns-in-Refuse
-returns-in-Refuse c = cc (ap (λ (v : Checked). refusal_of (checked_answer v)) c.v-1.given.1)
+returns-in-Refuse c = cc (ap (λ (v : Checked). refusal_of (checked_answer v)) c.in-Refuse.is)

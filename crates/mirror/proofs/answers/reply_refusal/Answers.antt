@@ -6,4 +6,4 @@ use Rattle.mirror.specs.Mirror.{refusal_of}
 use Rattle.mirror.proofs.answers.reply_refusal.Goals as goal
 
 pub returns-in-Refused : goal.returns-in-Refused
-returns-in-Refused c = cc (ap (λ (r : Reply). refusal_of (reply_answer r)) c.reply-1.given.1)
+returns-in-Refused c = cc (ap (λ (r : Reply). refusal_of (reply_answer r)) c.in-Refused.is)

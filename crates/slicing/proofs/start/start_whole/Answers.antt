@@ -30,7 +30,7 @@ returns-in-Refuse c =
     refusal-outcome _ _ _ c.refuse.ensures refl
     ∙ start-refused _ _ _ c.requires.full _
     (sym (whole-tests _ (shape (goal.at.returns-in-Refuse c).Start) _ c.requires.nothing _)
-    ∙ sym c.check_frame-checked.ensures ∙ ap outcome_of c.checked-1.given.1)
+    ∙ sym c.check_frame-checked.ensures ∙ ap outcome_of c.in-Refuse.is)
 
 -- the frame is well-formed
 passes : (c : In_default) →
