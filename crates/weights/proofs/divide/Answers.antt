@@ -1,4 +1,3 @@
-use Prim.Native.Nat.{◌-◌}
 use native.Mathlib.Omega.{arith}
 use Rattle.lists.proofs.Filling.{filled-all}
 use Rattle.weights.proofs.Division.{divided_none, divided_more, carry-fits}

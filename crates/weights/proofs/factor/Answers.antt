@@ -9,37 +9,33 @@ use Rattle.field257.specs.Powers.{power_of3}
 use Rattle.weights.proofs.ReadOff.{factor-is}
 use borrow.Author.Rules.{rules}
 use Rattle.weights.proofs.factor.Goals as goal
-use Rattle.weights.proofs.factor.Goals.{After-entry-weight, After-value_at-there, Start}
-
--- the way back
-abbrev start_of : After-value_at-there → Start
-start_of c = c.before.before
+use Rattle.weights.proofs.factor.Goals.{After-entry-weight}
 
 pub overflow_mul-i : goal.overflow_mul-i
 overflow_mul-i c =
-    let start = start_of c in
-    let m = length start.args.others.now in
-    let less : start.args.i ≤ 255 = omega (arith, start.requires.0.column) in
-    let most : start.args.b + m - 1 ≤ 318 = omega (arith, start.requires.0.exponent, start.requires.0.few) in
+    let m = length c.args.others.now in
+    let less : c.args.i ≤ 255 = omega (arith, c.requires.0.column) in
+    let most : c.args.b + m - 1 ≤ 318 = omega (arith, c.requires.0.exponent, c.requires.0.few) in
     omega (arith, mul-le-mul less most)
 
 -- the weight in the last check sum
 weight : (c : After-entry-weight) →
-    let args = (start_of c.before).args in
+    let args = c.args in
     c.entry-weight.result ≡ power_of3 (args.i * (args.b + length args.others.now - 1))
-weight c = c.entry-weight.ensures.power (start_of c.before).requires.0.powers_known
+weight c = c.entry-weight.ensures.power c.requires.0.powers_known
 
 pub product-part-requires : goal.product-part-requires
 product-part-requires c =
-    let w = weight c.before.before in
+    let w = weight (goal.at.product-part-requires c).After-entry-weight in
     search rules
 
 pub returns : goal.returns
 returns c =
-    let powered = c.before.before.before in
-    let there = powered.value_at-there in
-    let start = start_of powered.before in
-    record { equals = factor-is start.args.b (length start.args.others.now) start.args.i _ there.result powered.entry-weight.result c.product-part.result
-          c.inverse.result c.difference.result (omega (arith, start.requires.0.column)) there.ensures.equals (weight powered)
+    let there = c.value_at-there in
+    record {
+      equals = factor-is c.args.b (length c.args.others.now) c.args.i _ there.result c.entry-weight.result c.product-part.result
+          c.inverse.result c.difference.result (omega (arith, c.requires.0.column)) there.ensures.equals (weight (goal.at.returns c).After-entry-weight)
           (c.product-part.ensures.equals ∙ ap₂ (times 257) c.wide.ensures.equals c.wide-2.ensures.equals)
-          c.inverse.ensures.equals c.difference.ensures.equals; below = c.difference.ensures.below }
+          c.inverse.ensures.equals c.difference.ensures.equals;
+      below = c.difference.ensures.below;
+    }
