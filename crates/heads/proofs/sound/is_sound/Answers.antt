@@ -1,30 +1,29 @@
 -- `heads::sound::is_sound` meets its contract.
 use mathlib.Core.Path.{◌≡◌, sym, ◌∙◌}
 use mathlib.Core.Bool.{true}
-use borrow.Author.Tests.{not-true, not-false}
 use Rattle.frame.specs.Shape.{is_shape}
 use Rattle.job.proofs.Emptiness.{empty-sound, shaped-sound, unfinished-sound, located_shapeless, located-sound}
 use Rattle.heads.proofs.sound.is_sound.Goals as goal
 use Rattle.heads.proofs.sound.is_sound.Goals.{Else-not-is_shape}
 
 pub returns-then-not-is_shape : goal.returns-then-not-is_shape
-returns-then-not-is_shape c =
-    sym (located_shapeless _ _ _ c.phase-1.given.1 (sym c.is_shape-in-Located.ensures ∙ not-true _ c.if-not-is_shape.true))
+returns-then-not-is_shape c = sym (located_shapeless _ _ _ c.in-Located.is (sym c.is_shape-in-Located.ensures ∙ c.if-not-is_shape.true))
 
 has-shape : (c : Else-not-is_shape) → is_shape c.args.j.shape ≡ true
-has-shape c = sym c.is_shape-in-Located.ensures ∙ not-false _ c.if-not-is_shape.false
+has-shape c = sym c.is_shape-in-Located.ensures ∙ c.if-not-is_shape.false
 
 pub is_findings-requires : goal.is_findings-requires
-is_findings-requires c = has-shape c
+is_findings-requires c = has-shape (goal.at.is_findings-requires c).Else-not-is_shape
 
 pub returns-in-Empty : goal.returns-in-Empty
-returns-in-Empty c = sym (empty-sound _ c.enum_told-1.given.1)
+returns-in-Empty c = sym (empty-sound _ c.in-Empty.is)
 
 pub returns-in-Shaped : goal.returns-in-Shaped
-returns-in-Shaped c = c.is_shape.ensures ∙ sym (shaped-sound _ c.enum_told-in-Shaped-1.given.1)
+returns-in-Shaped c = c.is_shape.ensures ∙ sym (shaped-sound _ c.in-Shaped.is)
 
 pub returns-in-Unfinished : goal.returns-in-Unfinished
-returns-in-Unfinished c = c.is_shape-in-Unfinished.ensures ∙ sym (unfinished-sound _ c.enum_told-in-Unfinished-1.given.1)
+returns-in-Unfinished c = c.is_shape-in-Unfinished.ensures ∙ sym (unfinished-sound _ c.in-Unfinished.is)
 
 pub returns-else-not-is_shape : goal.returns-else-not-is_shape
-returns-else-not-is_shape c = c.is_findings.ensures ∙ sym (located-sound _ _ _ c.phase-1.given.1 (has-shape c.before))
+returns-else-not-is_shape c =
+    c.is_findings.ensures ∙ sym (located-sound _ _ _ c.in-Located.is (has-shape (goal.at.returns-else-not-is_shape c).Else-not-is_shape))
