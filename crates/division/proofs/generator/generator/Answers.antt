@@ -1,5 +1,5 @@
 use mathlib.Core.Path.{subst, ◌∙◌, ap}
-use Prim.Native.Nat.{ℕ, ◌-◌}
+use Prim.Native.Nat.{ℕ}
 use native.Mathlib.Omega.{arith}
 use Rattle.field257.specs.Powers.{power_of3}
 use Rattle.division.specs.GeneratorPolynomial.{GeneratorPolynomial}

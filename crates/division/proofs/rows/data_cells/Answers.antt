@@ -1,5 +1,4 @@
 use mathlib.Core.Path.{◌∙◌}
-use Prim.Native.Nat.{◌-◌}
 use native.Mathlib.Omega.{arith}
 use Rattle.lists.proofs.DataCells.{data_cell_lem, data_none, data_all}
 use Rattle.lists.proofs.Filling.{filled_more}

@@ -10,13 +10,9 @@ use Rattle.division.proofs.rows.encode_row.Goals.{After-cells-3-1}
 
 -- the cells after the division
 refilled : (c : After-cells-3-1) →
-    let divided = c.before.before.before in
-    let made = divided.before.before in
-    length (put_mid 0 (length made.args.row.now - 0) made.data_cells-cells.result divided.divide.new.0) ≡ 256
+    length (put_mid 0 (length c.args.row.now - 0) c.data_cells-cells.result c.divide.new.cells) ≡ 256
 refilled c =
-    let divided = c.before.before.before in
-    let made = divided.before.before in
-    omega (arith, same_len_mid 0 (length made.args.row.now - 0) made.data_cells-cells.result divided.divide.new.0 divided.divide.auto.0)
+    omega (arith, same_len_mid 0 (length c.args.row.now - 0) c.data_cells-cells.result c.divide.new.cells c.divide.auto.cells)
 
 pub divide-requires : goal.divide-requires
 divide-requires c =
@@ -29,7 +25,7 @@ divide-requires c =
       divisor = c.requires.divisor;
       reach = omega (arith, size);
       narrow = omega (arith, size);
-      small = part_small m row cells c.requires.reach c.requires.narrow room c.data_cells-cells.ensures c.slice-known.given;
+      small = part_small m row cells c.requires.reach c.requires.narrow room c.data_cells-cells.ensures c.slice_known-1.given;
     }
 
 pub slice_bounds-put_negatives-end : goal.slice_bounds-put_negatives-end
@@ -42,5 +38,5 @@ pub returns : goal.returns
 returns c =
     λ b of.
     completed-by_remainder c.args.m c.args.row.now c.data_cells-cells.result c.requires.reach c.requires.narrow (omega arith)
-    c.data_cells-cells.ensures b c.divide.new.0 _ c.divide.auto.0
+    c.data_cells-cells.ensures b c.divide.new.cells _ c.divide.auto.cells
     c.put_negatives.ensures c.requires.small (c.divide.ensures b of)

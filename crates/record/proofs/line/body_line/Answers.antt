@@ -5,25 +5,25 @@ use borrow.Author.Rules.{rules}
 use Rattle.record.specs.Line.{output_of}
 use Rattle.record.specs.Record.{body_of}
 use Rattle.record.proofs.Parsing.{bad-line, body-short, body-unknown, body-sequences, body-frame}
-use Rattle.text.proofs.Writing.{line_as}
+use Rattle.text.proofs.Writing.{written_as}
 use Rattle.record.proofs.line.body_line.Goals as goal
 
-pub returns-then-xs-lt3 : goal.returns-then-xs-lt3
-returns-then-xs-lt3 c =
+pub returns-then-xs-lt3-clause-written : goal.returns-then-xs-lt3-clause-written
+returns-then-xs-lt3-clause-written c =
     let xs = c.args.xs.now in
-    let all = line_as _ _ _ _ _ _ (bad-line (body_of xs) (body-short xs (omega arith))) c.refusal_line.ensures in record { written = all.0; upper_bound = all.1 }
+    written_as _ _ _ _ _ _ (bad-line (body_of xs) (body-short xs (omega arith))) c.refusal_line.ensures.written
 
-pub returns-then-xs-eq1 : goal.returns-then-xs-eq1
-returns-then-xs-eq1 c =
+pub returns-then-xs-eq1-clause-written : goal.returns-then-xs-eq1-clause-written
+returns-then-xs-eq1-clause-written c =
     let xs = c.args.xs.now in
-    let all = line_as _ _ _ _ _ _ (ap output_of (body-sequences xs (search rules))) c.counted_line.ensures in record { written = all.0; upper_bound = all.1 }
+    written_as _ _ _ _ _ _ (ap output_of (body-sequences xs (search rules))) c.counted_line.ensures.written
 
-pub returns-then-xs-eq2 : goal.returns-then-xs-eq2
-returns-then-xs-eq2 c =
+pub returns-then-xs-eq2-clause-written : goal.returns-then-xs-eq2-clause-written
+returns-then-xs-eq2-clause-written c =
     let xs = c.args.xs.now in
-    let all = line_as _ _ _ _ _ _ (ap output_of (body-frame xs (search rules))) c.counted_line-then-xs-eq2.ensures in record { written = all.0; upper_bound = all.1 }
+    written_as _ _ _ _ _ _ (ap output_of (body-frame xs (search rules))) c.counted_line-then-xs-eq2.ensures.written
 
-pub returns : goal.returns
-returns c =
+pub returns-clause-written : goal.returns-clause-written
+returns-clause-written c =
     let xs = c.args.xs.now in
-    let all = line_as _ _ _ _ _ _ (bad-line (body_of xs) (body-unknown xs (search rules) (search rules))) c.refusal_line-2.ensures in record { written = all.0; upper_bound = all.1 }
+    written_as _ _ _ _ _ _ (bad-line (body_of xs) (body-unknown xs (search rules) (search rules))) c.refusal_line-2.ensures.written
