@@ -29,7 +29,7 @@ loop-i-preserved c =
     )
 
 pub loop-i-init : goal.loop-i-init
-loop-i-init c. = looks_first _ _)
+loop-i-init c = (omega arith, λ extents checks marks. looks_first _ _)
 
 pub returns : goal.returns
-returns c = sym (ap number_of (looks_through _ _ (c.loop-i.invariant.1 extents checks marks) c.loop-i-test.false))
+returns c extents checks marks = sym (ap number_of (looks_through _ _ (c.loop-i.invariant.1 extents checks marks) c.loop-i-test.false))
