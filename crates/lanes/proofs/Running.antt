@@ -1,11 +1,10 @@
 -- The lanes together, from step to step.
 use mathlib.Core.Path.{◌≡◌, refl}
 use mathlib.Core.List.{List}
-use Prim.Native.Nat.{ℕ, ◌+◌, ◌-◌, ◌*◌, ◌≤◌, ◌<◌}
+use Prim.Native.Nat.{ℕ, ◌+◌, ◌-◌, ◌<◌}
 use native.Mathlib.Omega.{arith}
 use lib.ListN.{length, get_or, length-replicate}
 use Rattle.lanes.specs.Lanes.{Whole, Steppable, Stepped, Runnable, Ran}
-use Rattle.lanes.specs.declared.run.Lanes.{Lanes}
 use Rattle.lists.proofs.Zeros.{zeros, zeros-entry}
 use Rattle.weights.proofs.Lane.{Lane, lane-none, lane-more}
 

@@ -5,28 +5,18 @@ use borrow.Rule.Slice.PartMut.{mid_len}
 use Rattle.completion.proofs.ColumnMending.{RowLent, row-lent, mended-none, mended-more, mended-all}
 use Rattle.frame.proofs.HeldParts.{part-below}
 use Rattle.completion.proofs.mend.mend_column.Goals as goal
-use Rattle.completion.proofs.mend.mend_column.Goals.{After-slice_known-in-loop-h-1, After-wide, In-loop-h, Start}
-
--- the ways back
-abbrev start_of : In-loop-h → Start
-start_of c = c.before.before.before.before.before
-
-abbrev in-loop : After-wide → In-loop-h
-in-loop c = c.before.before
-
-abbrev read-before : After-slice_known-in-loop-h-1 → After-wide
-read-before c = c.before.before.before.before.before
+use Rattle.completion.proofs.mend.mend_column.Goals.{After-wide, In-loop-h}
 
 place : (c : In-loop-h) →
-    let args = (start_of c).args in
-    RowLent args.t1 args.sums.now args.frame.now c.loop-h.h
-place c = row-lent _ _ _ _ (start_of c).requires.lent c.loop-h-test.true
+    let args = c.args in
+    RowLent args.s args.sums.now args.frame.now c.loop-h.h
+place c = row-lent _ _ _ _ c.requires.lent c.loop-h-test.true
 
 -- the sums of the row end within those that are lent
-ends : (c : After-wide) → (in-loop c).loop-h.at + c.wide.result ≤ length (start_of (in-loop c)).args.sums.now
+ends : (c : After-wide) → c.loop-h.at + c.wide.result ≤ length c.args.sums.now
 ends c =
-    let room = (place (in-loop c)).sums-room in
-    let begins = (in-loop c).loop-h.invariant.place in
+    let room = (row-lent _ _ _ _ c.requires.lent c.loop-h-test.true).sums-room in
+    let begins = c.loop-h.invariant.place in
     let count = c.wide.ensures.equals in
     omega arith
 
@@ -43,63 +33,59 @@ pub overflow_add-to : goal.overflow_add-to
 overflow_add-to c = omega (arith, ends c)
 
 pub overflow_mul-a : goal.overflow_mul-a
-overflow_mul-a c = let p = place (in-loop c) in omega arith
+overflow_mul-a c = let p = place (goal.at.overflow_mul-a c).In-loop-h in omega arith
 
 pub overflow_add-e : goal.overflow_add-e
-overflow_add-e c = let p = place (in-loop c) in omega arith
+overflow_add-e c = let p = place (goal.at.overflow_add-e c).In-loop-h in omega arith
 
 pub offset_bounds-frame-a : goal.offset_bounds-frame-a
-offset_bounds-frame-a c = let p = place (in-loop c) in omega arith
+offset_bounds-frame-a c = let p = place (goal.at.offset_bounds-frame-a c).In-loop-h in omega arith
 
 pub slice_bounds-mend_cell-start : goal.slice_bounds-mend_cell-start
-slice_bounds-mend_cell-start c = let p = place (in-loop c) in omega arith
+slice_bounds-mend_cell-start c = let p = place (goal.at.slice_bounds-mend_cell-start c).In-loop-h in omega arith
 
 pub slice_bounds-mend_cell-end : goal.slice_bounds-mend_cell-end
-slice_bounds-mend_cell-end c = let p = place (in-loop c) in let s = (in-loop c).loop-h.invariant.rows.size in omega arith
+slice_bounds-mend_cell-end c =
+    let p = place (goal.at.slice_bounds-mend_cell-end c).In-loop-h in let s = c.loop-h.invariant.rows.size in omega arith
 
 pub offset_bounds-sums-at : goal.offset_bounds-sums-at
-offset_bounds-sums-at c = omega (arith, ends c.before)
+offset_bounds-sums-at c = omega (arith, ends (goal.at.offset_bounds-sums-at c).After-wide)
 
 pub slice_bounds-mend_cell-start-in-loop-h : goal.slice_bounds-mend_cell-start-in-loop-h
-slice_bounds-mend_cell-start-in-loop-h c = omega (arith, ends c.before)
+slice_bounds-mend_cell-start-in-loop-h c = omega (arith, ends (goal.at.slice_bounds-mend_cell-start-in-loop-h c).After-wide)
 
 pub slice_bounds-mend_cell-end-in-loop-h : goal.slice_bounds-mend_cell-end-in-loop-h
-slice_bounds-mend_cell-end-in-loop-h c = omega (arith, ends c.before)
+slice_bounds-mend_cell-end-in-loop-h c = omega (arith, ends (goal.at.slice_bounds-mend_cell-end-in-loop-h c).After-wide)
 
 pub mend_cell-requires : goal.mend_cell-requires
 mend_cell-requires c =
-    let read = c.before.before in
-    let inside = in-loop read in
-    side in
-    let n = start_of.args.s.columns in
-    let p = place inside in
-    let s = inside.loop-h.inv.rows.size in
-    let i = start_of.requires.inside in
-    let enough = start_of.requires.reach inside.loop-h.h inside.loop-h-test.taken in
-    let count = read.wide.ensures.equals in
-    let e = ends read in
-    let size = mid_len (inside.loop-h.h * n) (inside.loop-h.h * n + n) inside.loop-h.frame (let w = p.inside in omega arith) in
-    let end : ℕ = inside.loop-h.at + read.wide.result in
-    let sums = mid_len inside.loop-h.at end start_of.args.sums.now (omega arith) in
+    let n = c.args.s.columns in
+    let p = place (goal.at.mend_cell-requires c).In-loop-h in
+    let s = c.loop-h.invariant.rows.size in
+    let i = c.requires.inside in
+    let enough = c.requires.reach c.loop-h.h c.loop-h-test.true in
+    let count = c.wide.ensures.equals in
+    let e = ends (goal.at.mend_cell-requires c).After-wide in
+    let size = mid_len (c.loop-h.h * n) (c.loop-h.h * n + n) c.loop-h.frame (let w = p.inside in omega arith) in
+    let end : ℕ = c.loop-h.at + c.wide.result in
+    let sums = mid_len c.loop-h.at end c.args.sums.now (omega arith) in
     record {
       inside = omega arith;
       few = omega arith;
       reach = omega arith;
-      sums-small = part-below start_of.args.sums.now start_of.requires.lent.sums-small inside.loop-h.at (end - inside.loop-h.at);
+      sums-small = part-below c.args.sums.now c.requires.lent.sums-small c.loop-h.at (end - c.loop-h.at);
     }
 
 pub overflow_add-h : goal.overflow_add-h
-overflow_add-h c = let p = place (in-loop (read-before c)) in omega arith
+overflow_add-h c = let p = place (goal.at.overflow_add-h c).In-loop-h in omega arith
 
 pub loop-h-smaller : goal.loop-h-smaller
-loop-h-smaller c = let t = (in-loop (read-before c)).loop-h-test.taken in omega arith
+loop-h-smaller c = let t = c.loop-h-test.true in omega arith
 
 pub loop-h-preserved : goal.loop-h-preserved
 loop-h-preserved c =
-    let read = read-before c in
-    let inside = in-loop read in
-    mended-more _ _ _ _ _ inside.loop-h.h inside.loop-h.at inside.loop-h.frame inside.loop-h.inv (place inside).inside read.wide.result _
-    inside.loop-h-test.taken read.wide.ensures.equals c.mend_cell.ensures
+    mended-more _ _ _ _ _ c.loop-h.h c.loop-h.at c.loop-h.frame c.loop-h.invariant (place (goal.at.loop-h-preserved c).In-loop-h).inside c.wide.result _
+    c.loop-h-test.true c.wide.ensures.equals c.mend_cell.ensures
 
 pub shape_of-frame : goal.shape_of-frame
 shape_of-frame c = c.loop-h.invariant.rows.size

@@ -1,10 +1,10 @@
-use Prim.Native.Nat.{◌-◌, ◌<◌}
+use Prim.Native.Nat.{◌<◌}
 use native.Mathlib.Omega.{arith}
 use lib.ListN.{length}
 use Rattle.columns.proofs.Walk.{walk-rises}
 use Rattle.completion.proofs.SymbolsAdded.{readable-set, adding_none, adding_more, adding_all, has-symbol, in_row, same_size}
 use Rattle.completion.proofs.row.mend_row.Goals as goal
-use Rattle.completion.proofs.row.mend_row.Goals.{At-loop-i, In-loop-i, Start}
+use Rattle.completion.proofs.row.mend_row.Goals.{In-loop-i}
 
 pub symbols-symbols-requires : goal.symbols-symbols-requires
 symbols-symbols-requires c = (c.requires.0, readable-set _ _ _ _ c.requires.1)
@@ -12,37 +12,33 @@ symbols-symbols-requires c = (c.requires.0, readable-set _ _ _ _ c.requires.1)
 pub loop-i-init : goal.loop-i-init
 loop-i-init c = adding_none _ _ _ _ _ c.next-i.ensures
 
--- the ways back
-abbrev start_of : At-loop-i → Start
-start_of c = c.before.before.before.before.before
-
 -- the cell stands in the row
 cell : (c : In-loop-i) → c.loop-i.i < length c.loop-i.row
-cell c = in_row _ _ _ _ _ _ _ c.loop-i.invariant (start_of c.before).requires.1 c.loop-i-test.true
+cell c = in_row _ _ _ _ _ _ _ c.loop-i.invariant c.requires.1 c.loop-i-test.true
 
 symbol : (c : In-loop-i) → c.loop-i.k < 64
-symbol c = has-symbol _ _ _ _ _ _ _ c.loop-i.invariant (start_of c.before).requires.1 c.loop-i-test.true
+symbol c = has-symbol _ _ _ _ _ _ _ c.loop-i.invariant c.requires.1 c.loop-i-test.true
 
 pub offset_bounds-row-i : goal.offset_bounds-row-i
 offset_bounds-row-i c = let t = c.loop-i-test.true in omega arith
 
 pub bounds-row-i : goal.bounds-row-i
-bounds-row-i c = cell c.before
+bounds-row-i c = cell (goal.at.bounds-row-i c).In-loop-i
 
 pub offset_bounds-symbols-k : goal.offset_bounds-symbols-k
-offset_bounds-symbols-k c = omega (arith, symbol c.before)
+offset_bounds-symbols-k c = omega (arith, symbol (goal.at.offset_bounds-symbols-k c).In-loop-i)
 
 pub bounds-symbols-k : goal.bounds-symbols-k
-bounds-symbols-k c = symbol c.before
+bounds-symbols-k c = symbol (goal.at.bounds-symbols-k c).In-loop-i
 
 pub offset_bounds-row-i-in-loop-i : goal.offset_bounds-row-i-in-loop-i
 offset_bounds-row-i-in-loop-i c = let t = c.loop-i-test.true in omega arith
 
 pub bounds-row-i-in-loop-i : goal.bounds-row-i-in-loop-i
-bounds-row-i-in-loop-i c = cell c.before.before
+bounds-row-i-in-loop-i c = cell (goal.at.bounds-row-i-in-loop-i c).In-loop-i
 
 pub overflow_add-k : goal.overflow_add-k
-overflow_add-k c = omega (arith, symbol c.before.before)
+overflow_add-k c = omega (arith, symbol (goal.at.overflow_add-k c).In-loop-i)
 
 pub loop-i-smaller : goal.loop-i-smaller
 loop-i-smaller c =
@@ -52,14 +48,12 @@ loop-i-smaller c =
 
 pub loop-i-preserved : goal.loop-i-preserved
 loop-i-preserved c =
-    let inside = c.before.before.before in
-    let at = inside.before in
-    adding_more _ _ _ _ _ _ _ at.loop-i.invariant (start_of at).requires.1 inside.loop-i-test.true at.symbols-symbols.result
-    at.symbols-symbols.ensures _ _ c.plus.ensures
+    adding_more _ _ _ _ _ _ _ c.loop-i.invariant c.requires.1 c.loop-i-test.true c.symbols-symbols.result
+    c.symbols-symbols.ensures _ _ c.plus.ensures
     c.next-i-in-loop-i.ensures
 
 pub shape_of-row : goal.shape_of-row
 shape_of-row c = same_size _ _ _ _ _ _ _ c.loop-i.invariant
 
 pub returns : goal.returns
-returns c = adding_all _ _ _ _ _ _ _ c.loop-i.invariant (start_of c.before).requires.1 c.loop-i-test.false
+returns c = adding_all _ _ _ _ _ _ _ c.loop-i.invariant c.requires.1 c.loop-i-test.false

@@ -1,5 +1,4 @@
 use mathlib.Core.Path.{sym, ◌∙◌}
-use Prim.Native.Nat.{◌-◌}
 use native.Mathlib.Omega.{arith}
 use Rattle.lanes.proofs.SymbolsRead.{lane-at, lane_past}
 use Rattle.lists.proofs.Filling.{filled_none, filled_more, filled-zeros}

@@ -1,5 +1,5 @@
 use mathlib.Core.Path.{◌≡◌, sym}
-use Prim.Native.Nat.{◌-◌, ◌<◌}
+use Prim.Native.Nat.{◌<◌}
 use native.Mathlib.Omega.{arith}
 use lib.ListN.{get_or, get_or-eq_default}
 use Rattle.columns.specs.Columns.{members}
@@ -41,10 +41,9 @@ loop-i-smaller c =
 
 pub loop-i-preserved : goal.loop-i-preserved
 loop-i-preserved c =
-    let inside = c.before in
-    let at = inside.loop-i in
-    let (few, here) = stands inside in (
-      walk-next _ _ _ at.invariant.0 _ inside.loop-i-test.true c.next-i-in-loop-i.ensures,
+    let at = c.loop-i in
+    let (few, here) = stands (goal.at.loop-i-preserved c).In-loop-i in (
+      walk-next _ _ _ at.invariant.0 _ c.loop-i-test.true c.next-i-in-loop-i.ensures,
       filled_more _ (zeros 64) at.k _ _ at.invariant.1 (let s = at.invariant.1.size in omega arith) (sym here),
     )
 
