@@ -8,7 +8,7 @@ use Rattle.algebra.specs.Ring.{CRing}
 use Rattle.algebra.specs.Sum.{sum}
 use Rattle.algebra.specs.Polynomial.{Degree, conv, shift}
 use Rattle.algebra.proofs.Sums.{sum_ext, sum_zeros, sum-add, sum-mul, sum-neg, sum-front, sum_back}
-use Rattle.algebra.proofs.RingLaws.{zero-mul, add-mul, neg-mul, mul_left_comm}
+use Rattle.algebra.proofs.RingLaws.{zero-mul, add-mul, neg-mul}
 
 module _ (R : CRing) where
   open R use {car, zero as 𝟘, add as ◌⊕◌, mul as ◌⊗◌, neg, mul_assoc, mul-add}

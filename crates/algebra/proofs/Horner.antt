@@ -2,7 +2,7 @@
 -- a − b, or c + x·p with x the first variable, c a polynomial in the other variables and p one in all. Sum, negative and
 -- product compute, and their values in a ring are the sum, negative and product of the values. A polynomial all of whose
 -- constants are 0 has the value 0.
-use mathlib.Core.Path.{◌≡◌, refl, sym, ap, ap₂, ◌∙◌}
+use mathlib.Core.Path.{◌≡◌, sym, ap, ap₂, ◌∙◌}
 use mathlib.Core.Bool.{Bool, true, false, ◌&&◌}
 use Prim.Native.Nat.{ℕ, zero, suc, ◌+◌, ◌*◌}
 use native.Mathlib.Nat.{add-zero as n-add-zero, add-suc, mul-zero as n-mul-zero, mul-suc}

@@ -13,7 +13,6 @@ use Rattle.algebra.specs.Locator.{Distinct, Nonzero, unit, factor, locator}
 use Rattle.algebra.proofs.RingLaws.{mul-zero}
 use Rattle.algebra.proofs.EvalLaws.{factor-suc, eval-constant, eval-factor}
 use Rattle.algebra.proofs.FieldLaws.{no-zero_divisors, difference_nonzero, inv_injective}
-use Rattle.algebra.proofs.Roots.{roots_unique}
 use Rattle.algebra.proofs.Solver.{:0, :1, ◌:-◌, ◌:·◌, :neg, ◌:=◌, ◌:×◌:≡◌:⇒◌, solve}
 
 module _ (R : CRing) where

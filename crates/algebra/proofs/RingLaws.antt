@@ -1,5 +1,5 @@
 -- The small laws of a commutative ring that follow from its record at once.
-use mathlib.Core.Path.{◌≡◌, refl, sym, ap, ap₂, ◌∙◌}
+use mathlib.Core.Path.{◌≡◌, sym, ap, ap₂, ◌∙◌}
 use Rattle.algebra.specs.Ring.{CRing}
 
 module _ (R : CRing) where

@@ -2,7 +2,7 @@
 -- power p − 2 for every element, 0 too.
 use mathlib.Core.Path.{◌≡◌, sym, ap, ◌∙◌}
 use mathlib.Core.HLevel.{hedberg}
-use Prim.Native.Nat.{ℕ, zero, ◌+◌, ◌-◌, ◌*◌, ◌%◌, ◌^◌, ◌<◌, Fin}
+use Prim.Native.Nat.{ℕ, ◌+◌, ◌-◌, ◌*◌, ◌%◌, ◌^◌, ◌<◌, Fin}
 use native.Mathlib.Nat.{
   add_assoc,
   add_comm,

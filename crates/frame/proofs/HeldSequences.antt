@@ -1,11 +1,10 @@
 -- The sequences that held sums hold, whatever these are: one for each row of the shape, none longer than the row has checks, and with no other symbols.
-use mathlib.Core.Path.{◌≡◌, ap, subst⁻¹, ◌∙◌}
+use mathlib.Core.Path.{◌≡◌, ap, ◌∙◌}
 use mathlib.Core.List.{List, []}
-use Prim.Native.Nat.{ℕ, min, ◌+◌, ◌≤◌, ◌<◌}
+use Prim.Native.Nat.{ℕ, min, ◌≤◌, ◌<◌}
 use native.Mathlib.Nat.{min-le_left}
 use native.Mathlib.Omega.{arith}
 use lib.ListN.{length, get_or, take, drop, length-take}
-use lib.Seq.{get_or-take, get_or-drop}
 use Rattle.lists.proofs.Tabulated.{length-tabulate, get_d_tabulate}
 use Rattle.frame.specs.Frame.{sums_before, held_sequences}
 use Rattle.frame.specs.Shape.{checks_of}

@@ -1,4 +1,3 @@
-use Prim.Native.Nat.{◌-◌}
 use native.Mathlib.Omega.{arith}
 use Rattle.butterflies.proofs.ButterflyLaws.{written_none, written-four, written_all, butterfly-four, butterfly-back}
 use Rattle.butterflies.proofs.stage.butterflies.Goals as goal

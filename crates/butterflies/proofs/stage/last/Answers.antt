@@ -1,4 +1,3 @@
-use Prim.Native.Nat.{◌-◌}
 use native.Mathlib.Omega.{arith}
 use Rattle.lists.proofs.Filling.{filled_none, filled_more, filled-all}
 use Rattle.butterflies.proofs.ButterflyLaws.{butterfly-four}

@@ -1,4 +1,4 @@
-use Prim.Native.Nat.{◌-◌, ◌≤◌}
+use Prim.Native.Nat.{◌≤◌}
 use native.Mathlib.Omega.{arith}
 use Rattle.lists.proofs.Summing.{summed-none, summed-more}
 use Rattle.discrepancy.proofs.Products.{narrow-all}

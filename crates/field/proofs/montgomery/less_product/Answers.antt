@@ -35,5 +35,8 @@ returns c =
     let rest = second.before.before in
     let first = rest.before in
     let companion : (first.args.v * first.args.p) % 65536 ≡ first.args.u % 65536 = omega (arith, first.requires.2) in
-    record { equals = less-product-is first.args.y first.args.u first.args.v first.args.p second.bottom.ensures companion first.args.x first.top.ensures
-          second.top-2.ensures (first-within first) (second-within second) rest.difference-rest.ensures.equals c.difference.ensures.equals; below = c.difference.ensures.below }
+    record {
+      equals = less-product-is first.args.y first.args.u first.args.v first.args.p second.bottom.ensures companion first.args.x first.top.ensures
+          second.top-2.ensures (first-within first) (second-within second) rest.difference-rest.ensures.equals c.difference.ensures.equals;
+      below = c.difference.ensures.below;
+    }

@@ -1,6 +1,4 @@
-use Prim.Native.Nat.{◌-◌}
 use native.Mathlib.Omega.{arith}
-use Rattle.field257.specs.Montgomery.{companion}
 use Rattle.lists.proofs.Filling.{filled_none, filled_more, filled-all}
 use Rattle.lists.proofs.Zeros.{zeros}
 use Rattle.field257.proofs.montgomery.companions.Goals as goal

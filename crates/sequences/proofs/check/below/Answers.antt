@@ -1,4 +1,3 @@
-use Prim.Native.Nat.{◌-◌}
 use native.Mathlib.Omega.{arith}
 use borrow.Author.Tests.{lt-ltb, le-ltb}
 use Rattle.lists.proofs.Testing.{tested-none, tested-pass, tested_fail, tested-all}
@@ -15,7 +14,7 @@ pub loop-i-preserved : goal.loop-i-preserved
 loop-i-preserved c =
     let at = c.loop-i in
     elim c.if-symbols-i.branch [
-      then-symbols-i w ↦ tested_fail _ _ at.i at.all at.invariant c.loop-i-test.true _ w.all-is (le-ltb _ _ w.if-symbols-i.true)
+      | then-symbols-i w ↦ tested_fail _ _ at.i at.all at.invariant c.loop-i-test.true _ w.all-is (le-ltb _ _ w.if-symbols-i.true)
       | else-symbols-i w ↦ tested-pass _ _ at.i at.all at.invariant c.loop-i-test.true _ w.all-is (lt-ltb _ _ w.if-symbols-i.false)
     ]
 

@@ -1,4 +1,3 @@
-use Prim.Native.Nat.{◌-◌}
 use borrow.Author.Tests.{eq-eqb, ne_eqb}
 use Rattle.lists.proofs.Testing.{tested-none, tested-pass, tested_fail, tested-all}
 use Rattle.sequences.proofs.zeros.all_zero.Goals as goal
@@ -11,7 +10,7 @@ pub loop-i-preserved : goal.loop-i-preserved
 loop-i-preserved c =
     let at = c.loop-i in
     elim c.if-symbols-i-ne0.branch [
-      then-symbols-i-ne0 w ↦ tested_fail _ _ at.i at.all at.invariant c.loop-i-test.true _ w.all-is (ne_eqb _ _ w.if-symbols-i-ne0.true)
+      | then-symbols-i-ne0 w ↦ tested_fail _ _ at.i at.all at.invariant c.loop-i-test.true _ w.all-is (ne_eqb _ _ w.if-symbols-i-ne0.true)
       | else-symbols-i-ne0 w ↦ tested-pass _ _ at.i at.all at.invariant c.loop-i-test.true _ w.all-is (eq-eqb _ _ w.if-symbols-i-ne0.false)
     ]
 
