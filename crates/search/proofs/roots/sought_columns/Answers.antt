@@ -1,5 +1,5 @@
 use mathlib.Core.Path.{refl, ◌∙◌}
-use Prim.Native.Nat.{◌-◌, ◌<◌}
+use Prim.Native.Nat.{◌<◌}
 use native.Mathlib.Omega.{arith}
 use Rattle.decoding.proofs.Searching.{trying-all}
 use Rattle.search.specs.Block.{Searching}
@@ -30,7 +30,7 @@ returns-then-left-eq0 c = let tried = c.try_block-trial.ensures in ended _ _ _ t
 goes_on : (c : Else-left-eq0) →
     let tried = c.try_block-trial in
     (c.loop-tried.tried < tried.result.tried)
-    × Searching c.args.taps.now c.args.columns tried.result.tried tried.result.left tried.new.1.1.1.1.1.0
+    × Searching c.args.taps.now c.args.columns tried.result.tried tried.result.left tried.new.words
 goes_on c = c.try_block-trial.ensures.goes_on (let some = c.if-left-eq0.false in omega arith)
 
 pub loop-tried-smaller : goal.loop-tried-smaller

@@ -1,7 +1,5 @@
-use Prim.Native.Nat.{◌-◌}
 use Rattle.search.proofs.Valuing.{valued_none, valued_more, valued_all}
 use Rattle.search.proofs.values.values.Goals as goal
-use Rattle.search.proofs.values.values.Goals.{At-loop-k, Start}
 
 pub companions-z-requires : goal.companions-z-requires
 companions-z-requires c = c.requires.size
@@ -9,18 +7,13 @@ companions-z-requires c = c.requires.size
 pub loop-k-init : goal.loop-k-init
 loop-k-init c = valued_none _ _
 
--- the way back
-abbrev start_of : At-loop-k → Start
-start_of c = c.before.before.before.before
-
 pub step-requires : goal.step-requires
 step-requires c =
-    let at = c.before.before.before.before.before in
     record {
       light = c.light.ensures.bounded;
-      factors = (start_of at).requires;
-      companions = at.companions-z.ensures;
-      size = at.loop-k.invariant.size;
+      factors = c.requires;
+      companions = c.companions-z.ensures;
+      size = c.loop-k.invariant.size;
     }
 
 pub loop-k-preserved : goal.loop-k-preserved
