@@ -1,3 +1,4 @@
+use Prim.Native.Nat.{◌-◌}
 use Rattle.search.proofs.Valuing.{valued_none, valued_more, valued_all}
 use Rattle.search.proofs.values.values.Goals as goal
 

@@ -16,4 +16,4 @@ slice_bounds-copy-end c = let whole = c.held-1.given in omega (arith, c.requires
 pub returns : goal.returns
 returns c =
     let args = c.args in
-    let all = copies args.l (args.l + 1 - 0) args.register.now (omega arith) c.requires c.held-1.given.0 c.copy.ensures in record { value = all.0; register_len = all.1 }
+    let all = copies args.l (args.l + 1 - 0) args.register.now (omega arith) c.requires c.held-1.given c.copy.ensures in record { value = all.0; register_len = all.1 }
