@@ -11,7 +11,7 @@ pub slice_bounds-taps-end : goal.slice_bounds-taps-end
 slice_bounds-taps-end c = omega (arith, c.requires)
 
 pub slice_bounds-copy-end : goal.slice_bounds-copy-end
-slice_bounds-copy-end c = let whole = c.held-1.given in omega (arith, c.requires, whole.0)
+slice_bounds-copy-end c = let whole = c.held-1.given in omega (arith, c.requires, whole)
 
 pub returns : goal.returns
 returns c =
