@@ -1,4 +1,4 @@
-use Prim.Native.Nat.{◌-◌, ◌<◌}
+use Prim.Native.Nat.{◌<◌}
 use native.Mathlib.Omega.{arith}
 use Rattle.columns.proofs.Walk.{walk-rises}
 use Rattle.frame.proofs.Clearing.{clearing_none, clearing_more, clearing_all}
