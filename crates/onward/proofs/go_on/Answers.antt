@@ -12,24 +12,19 @@ use Rattle.onward.proofs.go_on.Goals.{Else-not-in_range, Else-not-is_sound, Else
 
 -- ---- what is lent
 
-abbrev shape_of : Start → Shape
-shape_of c = let a = c.args in record { rows = a.rows; columns = a.columns; checks = a.checks.now; exponent = a.exponent }
-
 abbrev held : Start → Synthesis
 held c =
     let a = c.args in
     synthesis a.counts.now a.lengths.now a.symbols.now a.places.now a.sizes.now a.discs.now a.quotients.now a.register.now
     a.saved.now
 
--- ---- the ways back
-
 -- ---- what the tests have told
 
-shape : (c : Else-not-in_range) → is_shape (shape_of (TODO_Start c)) ≡ true
+shape : (c : Else-not-in_range) → is_shape (let a = c.args in record { rows = a.rows; columns = a.columns; checks = a.checks.now; exponent = a.exponent }) ≡ true
 shape c = sym c.in_range.ensures ∙ c.if-not-in_range.false
 
 sound : (c : Else-not-is_sound) →
-    synthesis_sound c.args.rows (held (TODO_Start c)) ≡ true
+    synthesis_sound c.args.rows (let a = c.args in synthesis a.counts.now a.lengths.now a.symbols.now a.places.now a.sizes.now a.discs.now a.quotients.now a.register.now a.saved.now) ≡ true
 sound c = sym c.is_sound.ensures ∙ c.if-not-is_sound.false
 
 -- ---- the answers

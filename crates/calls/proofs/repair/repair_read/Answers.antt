@@ -62,7 +62,7 @@ returns-in-Refuse c =
 passes : (c : In_default) →
     let args = c.args in
     outcome (read_tests args.j.shape (declared_by args.held.now) args.frame.now) ≡ passed
-passes c = sym c.check_read-checked.ensures ∙ ap outcome_of c.enum_told-1.given.1
+passes c = sym c.check_read-checked.ensures ∙ ap outcome_of c.in_default.is
 
 pub sums_read-summed-requires : goal.sums_read-summed-requires
 sums_read-summed-requires c =

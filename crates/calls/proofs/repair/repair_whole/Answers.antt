@@ -51,10 +51,10 @@ passes : (c : In_default) →
     let args = c.args in
     outcome (read_tests args.j.shape (declared_by args.held.now) args.frame.now) ≡ passed
 passes c =
-    sym (whole-tests _ (shape (TODO_Start c)) _ c.requires.nothing _) ∙ sym c.check_frame-checked.ensures ∙ ap outcome_of c.enum_told-1.given.1
+    sym (whole-tests _ (shape (TODO_Start c)) _ c.requires.nothing _) ∙ sym c.check_frame-checked.ensures ∙ ap outcome_of c.in_default.is
 
 well_formed : (c : In_default) → let args = c.args in WellFormed args.j.shape args.frame.now
-well_formed c = passed-frame _ _ (sym c.check_frame-checked.ensures ∙ ap outcome_of c.enum_told-1.given.1)
+well_formed c = passed-frame _ _ (sym c.check_frame-checked.ensures ∙ ap outcome_of c.in_default.is)
 
 pub frame_sums-summed-requires : goal.frame_sums-summed-requires
 frame_sums-summed-requires c =
