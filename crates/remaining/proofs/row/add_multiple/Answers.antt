@@ -1,4 +1,3 @@
-use Prim.Native.Nat.{◌-◌}
 use native.Mathlib.Omega.{arith}
 use Rattle.remaining.proofs.Multiples.{adding_none, next_fits, adding_more, adding_all}
 use Rattle.remaining.proofs.row.add_multiple.Goals as goal

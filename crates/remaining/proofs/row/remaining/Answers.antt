@@ -1,5 +1,4 @@
 use mathlib.Core.Path.{refl, ◌∙◌}
-use Prim.Native.Nat.{◌-◌}
 use native.Mathlib.Omega.{arith}
 use Rattle.remaining.proofs.RowLeft.{multiplied_none, multiplied_more, addable, multiplied_all}
 use Rattle.remaining.proofs.row.remaining.Goals as goal
