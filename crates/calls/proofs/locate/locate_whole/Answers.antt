@@ -38,7 +38,7 @@ passes : (c : In_default) →
     let args = c.args in
     outcome (read_tests args.j.shape (declared_by args.declared.now) args.frame.now) ≡ passed
 passes c =
-    sym (whole-tests _ (shape (TODO_Start c)) _ c.requires.nothing _) ∙ sym c.check_frame-checked.ensures ∙ ap outcome_of c.in_default.is
+    sym (whole-tests _ (has-shape _ c.requires.full) _ c.requires.nothing _) ∙ sym c.check_frame-checked.ensures ∙ ap outcome_of c.in_default.is
 
 -- ---- locating from its sums
 
