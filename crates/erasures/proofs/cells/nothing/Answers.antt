@@ -1,4 +1,3 @@
-use Prim.Native.Nat.{◌-◌}
 use borrow.Author.Tests.{eq-eqb, ne_eqb}
 use Rattle.frame.specs.DeclaredCells.{nothing_declared}
 use Rattle.lists.proofs.Testing.{tested-none, tested-pass, tested_fail, tested-all}
