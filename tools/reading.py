@@ -19,7 +19,8 @@ def read_tree(commit=None):
 
 
 def is_read(path):
-    return path == "crates.txt" or path.startswith("crates/") and path.endswith((".antt", ".rt"))
+    parts = path.split("/")
+    return path == "crates.txt" or parts[0] == "crates" and len(parts) > 3 and parts[2] in ("src", "specs", "proofs") and path.endswith((".antt", ".rt"))
 
 
 def tree_on_disk():
@@ -329,7 +330,7 @@ ENTRY_POINTS = [
 ]
 
 # What the program does with the bytes that it is given. Its callers meet what these ask for.
-PROGRAM = ["record::line::line", "tomkhadi::input::filled", "tomkhadi::output::put_lines", "tomkhadi::turn", "tomkhadi::run"]
+PROGRAM = ["record::line::line", "window::input::filled", "window::output::put_lines", "tomkhadi::turn", "tomkhadi::run"]
 
 
 # Spec files that state a demand, or a part of one, and that the rule below does not find.
