@@ -1,7 +1,6 @@
 use mathlib.Core.Path.{◌≡◌, refl, ◌∙◌}
 use mathlib.Core.Bool.{true}
 use native.Mathlib.Omega.{arith}
-use lib.ListN.{length}
 use Rattle.decoding.specs.Remaining.{meeting_completable}
 use Rattle.frame.specs.DeclaredCells.{declared_by}
 use Rattle.lists.proofs.Testing.{tested_out, tested-pass, tested-all}
