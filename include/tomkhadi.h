@@ -1,6 +1,6 @@
 /* Tomkhadi: register synthesis and column repair for frames over the field of 257.
  *
- * Link with target/staticlib/libcapi.a, which 'rt staticlib capi' builds. Every call is total: it answers for every argument, and a refusal is the number
+ * Link with crates/capi/out/libcapi.a, which 'rt lib' in crates/capi builds. Every call is total: it answers for every argument, and a refusal is the number
  * that the documentation gives it; 0 means that nothing is refused. Nothing here allocates, blocks or keeps state: what a call knows stands in the job
  * and in what is lent. A pointer must be valid for the count of 16-bit numbers that follows it, `declared` for 32 64-bit numbers, and what is written must
  * not overlap the job or anything else lent. Lend no null pointer, not even with the count 0. The job itself is written: do not lend the `declared` of a job

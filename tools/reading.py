@@ -19,7 +19,8 @@ def read_tree(commit=None):
 
 
 def is_read(path):
-    return path == "crates.txt" or path.startswith("crates/") and path.endswith((".antt", ".rt"))
+    parts = path.split("/")
+    return path == "crates.txt" or parts[0] == "crates" and len(parts) > 3 and parts[2] in ("src", "specs", "proofs") and path.endswith((".antt", ".rt"))
 
 
 def tree_on_disk():
@@ -52,8 +53,9 @@ def layers(files):
     for line in files["crates.txt"].splitlines():
         line = line.split("#")[0]
         if ":" in line:
+            # the name may have 'staticlib' after it
             name, named = line.split(":", 1)
-            below[name.strip()] = named.split()
+            below[name.split()[0]] = named.split()
     known = {}
 
     def layer(name):
@@ -77,7 +79,7 @@ class Item(NamedTuple):
     public: bool
 
 
-DIRECTIVE = re.compile(r"(pub )?(use|mod|open|infix[lr]?|ruleset)\b")
+DIRECTIVE = re.compile(r"(pub )?(use|mod|open|infix[lr]?|ruleset|syntax)\b")
 MODIFIER = re.compile(r"(pub|abbrev|unfoldable|opaque|record|data)\s+")
 
 
@@ -176,10 +178,22 @@ def inner(path, block, header):
     return section(path, rest, indent, folded(header + " " + without_comments("\n".join(block[:end + 1]))))
 
 
+# ---- function proofs
+
+# What stands in proofs/F/ of the function F; every other file of proofs/ holds laws.
+FUNCTION_PROOFS = ("Invariants.antt", "Answers.antt", "Proof.antt")
+
+
+def is_function_proof(path):
+    parts = path.split("/")
+    return parts[2] == "proofs" and len(parts) > 4 and parts[-1] in FUNCTION_PROOFS
+
+
 # ---- rt
 
 class Function(NamedTuple):
-    """A function: its name with its modules, its text from `fn` to the body (signature, requires, ensures), and what it is marked with."""
+    """A function: its name with its modules, its text from `fn` to the body (signature, requires, ensures), and what it is marked with. `public` are those
+    that another crate can call: marked `pub`, or of a trait."""
     path: str
     name: str
     text: str
@@ -190,7 +204,7 @@ class Function(NamedTuple):
 
 
 class Declared(NamedTuple):
-    """A struct, an enum or a constant."""
+    """A struct, an enum, a constant or another item that is no function."""
     path: str
     name: str
     text: str
@@ -203,6 +217,15 @@ def module_of(path):
     return "::".join([parts[1]] + [p for p in inside if p not in ("lib", "main")])
 
 
+HIDDEN = re.compile(r"""//[^\n]*|/\*.*?\*/|\b(?:b|c)?r(\#*)".*?"\1|\b[bc]?"(?:\\.|[^"\\])*"|"(?:\\.|[^"\\])*"|\bb?'(?:\\[^\n']+|[^'\\\n])'|'(?:\\[^\n']+|[^'\\\n])'""",
+                    re.S)
+
+
+def blanked(text):
+    """The text, as long as it was, with blanks for comments, strings and characters, so that the brackets left in it are code and clauses."""
+    return HIDDEN.sub(lambda m: re.sub(r"[^\n]", " ", m.group()), text)
+
+
 def closing(text, at):
     """The place after the bracket that closes the one at `at`."""
     depth = 0
@@ -213,41 +236,71 @@ def closing(text, at):
     return len(text)
 
 
-FN = re.compile(r'^([ \t]*)(pub |pub\(\w+\) )?(extern "C" )?fn (\w+)', re.M)
-RETURNS = re.compile(r"(?:\s*->\s*(?:\[[^\]]*\]|[^\[\s{]+))?")
-CLAUSE = re.compile(r"\s*(?://[^\n]*\n\s*)*(requires|ensures)\b[^{]*")
-IMPL = re.compile(r"^impl(?:<[^>]*>)? (\w+)[^{]*\{", re.M)
+FN = re.compile(r'^[ \t]*(pub(?:\([^)\n]*\))? )?((?:const |unsafe |extern "C" )*)fn (\w+)', re.M)
+CLAUSE = re.compile(r"(requires|ensures|ghost)\b[^{;]*\{")
+OWNER = re.compile(r"^[ \t]*(pub(?:\([^)\n]*\))? )?(?:unsafe )?(impl|trait)\b([^{;]*)\{", re.M)
+
+
+def header(plain, at):
+    """From behind a function's name: the kinds of its clauses, and the place of its body or of the ';' that stands for one."""
+    clauses, angles = set(), 0
+    while at < len(plain):
+        c = plain[at]
+        clause = CLAUSE.match(plain, at) if not re.match(r"\w", plain[at - 1]) else None
+        if clause:
+            clauses.add(clause.group(1))
+            at = closing(plain, clause.end() - 1)
+        elif c in "([" or c == "{" and angles > 0:
+            at = closing(plain, at)
+        elif c in "{;":
+            return clauses, at
+        else:
+            angles += (c == "<") - (c == ">" and plain[at - 1] not in "-=")
+            at += 1
+    return clauses, at
+
+
+def without_generics(head):
+    """The words of an impl's head without its parameters in angle brackets."""
+    while re.search(r"<[^<>]*>", head):
+        head = re.sub(r"<[^<>]*>", "", head)
+    return head.split(" where ")[0].split()
+
+
+def owners(plain):
+    """Each impl and trait: where it begins and ends, the name of its type, or of the trait, and whether it gives what callers reach by a trait."""
+    for m in OWNER.finditer(plain):
+        words = without_generics(m.group(3))
+        name = words[-1] if m.group(2) == "impl" else words[0].rstrip(":")
+        of_trait = "for" in words if m.group(2) == "impl" else m.group(1) == "pub "
+        yield m.start(), closing(plain, m.end() - 1), name, of_trait
 
 
 def functions(path, text):
-    impls = [(m.start(), closing(text, m.end() - 1), m.group(1)) for m in IMPL.finditer(text)]
+    plain = blanked(text)
+    owned = list(owners(plain))
     found = []
     for m in FN.finditer(text):
-        end = closing(text, text.index("(", m.end()))
-        end = RETURNS.match(text, end).end()
-        clauses = set()
-        while True:
-            c = CLAUSE.match(text, end)
-            if not c:
-                break
-            clauses.add(c.group(1))
-            end = closing(text, c.end())
-        owner = next(("::" + name for a, b, name in impls if a < m.start() < b), "")
-        found.append(Function(path, module_of(path) + owner + "::" + m.group(4), text[m.start():end].strip(), m.group(2) == "pub ", bool(m.group(3)),
+        if plain[m.start(3)] != text[m.start(3)]:
+            continue
+        clauses, end = header(plain, m.end())
+        owner, of_trait = next((("::" + name, by) for a, b, name, by in reversed(owned) if a < m.start() < b), ("", False))
+        attributes = re.search(r"(?:^[ \t]*#\[[^\n]*\n)*\Z", text[:m.start()], re.M).group()
+        exported = "extern" in m.group(2) or "no_mangle" in attributes or "export_name" in attributes
+        found.append(Function(path, module_of(path) + owner + "::" + m.group(3), text[m.start():end].strip(), m.group(1) == "pub " or of_trait, exported,
                               "requires" in clauses, "ensures" in clauses))
     return found
 
 
 def declared(path, text):
+    plain = blanked(text)
     found = []
-    for m in re.finditer(r"^(?:pub )?(struct|enum|const) (\w+)[^;{]*", text, re.M):
+    for m in re.finditer(r"^(?:pub(?:\([^)\n]*\))? )?(struct|enum|const|static|trait|type) (\w+)", plain, re.M):
         end = m.end()
-        if text[end:end + 1] == "{":
-            end = closing(text, end)
-        else:
-            end = text.find(";", end) + 1
-        bare = re.sub(r"//[^\n]*", "", text[m.start():end])
-        found.append(Declared(path, module_of(path) + "::" + m.group(2), text[m.start():end], folded(bare)))
+        while end < len(plain) and plain[end] not in ";{":
+            end = closing(plain, end) if plain[end] in "([" else end + 1
+        end = closing(plain, end) if plain[end:end + 1] == "{" and m.group(1) not in ("const", "static") else plain.find(";", end) + 1
+        found.append(Declared(path, module_of(path) + "::" + m.group(2), text[m.start():end], folded(re.sub(r"//[^\n]*", "", text[m.start():end]))))
     return found
 
 
@@ -277,7 +330,7 @@ ENTRY_POINTS = [
 ]
 
 # What the program does with the bytes that it is given. Its callers meet what these ask for.
-PROGRAM = ["record::line::line", "tomkhadi::input::filled", "tomkhadi::output::put_lines", "tomkhadi::turn", "tomkhadi::run"]
+PROGRAM = ["record::line::line", "window::input::filled", "window::output::put_lines", "tomkhadi::turn", "tomkhadi::run"]
 
 
 # Spec files that state a demand, or a part of one, and that the rule below does not find.
@@ -285,7 +338,9 @@ MORE_DEMANDS = ["crates/examples/specs/Examples.antt", "crates/job/specs/Left.an
 
 
 def all_items(files, folder):
-    return [i for path in sorted(files) if path.endswith(".antt") and path.split("/")[2] == folder and not path.endswith("/Lib.antt") for i in items(path, files[path])]
+    """What the antt files of specs/ define, or the laws of proofs/; the proofs of functions are no laws."""
+    paths = [p for p in sorted(files) if p.endswith(".antt") and p.split("/")[2] == folder and not p.endswith("/Lib.antt") and not is_function_proof(p)]
+    return [i for path in paths for i in items(path, files[path])]
 
 
 def all_functions(files):
@@ -312,23 +367,52 @@ def demand_paths(files, definitions, laws):
 
 # ---- what a text names
 
-IMPORT = re.compile(r"^\s*(?:pub )?(?:ghost )?use ([^\s{;]+?)\.\{([^}]*)\}", re.M)
-MODULE = re.compile(r"^\s*(?:ghost )?use (\S+) as (\w+)", re.M)
-WORD = re.compile(r"[^\s(){}\[\],;.⌜⌝]+")
+USE = re.compile(r"^[ \t]*(?:pub )?(ghost )?use\s+([^\s;{}]+(?:\{(?:[^{}]|\{[^{}]*\})*\})?)(?:\s+as\s+([^\s;]+))?", re.M)
+WORD = re.compile(r"[^\s(){}\[\],;.⌜⌝«»]+")
 
 
-def imported(text):
-    """Each name that the text brings in from a module: the module, the name there, the name here."""
-    for m in IMPORT.finditer(text):
-        for part in m.group(2).split(","):
-            words = part.split()
-            if words:
-                yield m.group(1), words[0], words[-1]
+def uses(path, text):
+    """What each `use` of the file brings in of antt: the path before the braces, and what stands in them, or no braces and the name that the module gets."""
+    text = "\n".join(re.sub(r"(^|\s)--.*", "", line) for line in text.split("\n")) if path.endswith(".antt") else blanked(text)
+    for m in USE.finditer(text):
+        if path.endswith(".antt") or m.group(1):
+            module, _, names = m.group(2).partition("{")
+            yield module.rstrip("."), names.removesuffix("}") if names else None, m.group(3)
+
+
+def listed(module, names):
+    """The names that stand in braces: the module of each, the name there and the name here. Braces may hold braces."""
+    for part in re.findall(r"(?:[^,{}]|\{[^{}]*\})+", names):
+        inner = re.match(r"\s*(\S+)\.\{([^{}]*)\}", part)
+        words = part.replace("«", "").replace("»", "").split()
+        if inner:
+            yield from listed(f"{module}.{inner.group(1)}", inner.group(2))
+        elif words:
+            above, _, name = words[0].rpartition(".")
+            yield f"{module}.{above}" if above else module, name or words[0], words[-1] if len(words) > 1 else name or words[0]
+
+
+def imported(path, text):
+    """Each name that the file brings in from a module: the module, the name there, the name here."""
+    for module, names, known_as in uses(path, text):
+        if names is not None:
+            yield from listed(module, names)
+        elif path.endswith(".rt"):
+            # in code a path without braces names one thing
+            above, _, name = module.rpartition(".")
+            yield above, name, known_as or name
+
+
+def modules(path, text):
+    """Each module that the file brings in whole: its path, and the name that it gets here."""
+    for module, names, known_as in uses(path, text):
+        if names is None:
+            yield module, known_as or module.rpartition(".")[2]
 
 
 def spec_path(module):
-    """The file of a module such as Rattle·frame.specs.Frame, of this repository; of a type declared in code the crate."""
-    m = re.match(r"Rattle·(\w+)(?:·specs)?\.specs\.(.+)$", module)
+    """The file of a module such as Rattle.frame.specs.Frame, of this repository; of a type declared in code the crate."""
+    m = re.match(r"Rattle\.(\w+)\.specs\.(.+)$", module)
     if not m:
         return None
     parts = m.group(2).split(".")
@@ -355,16 +439,16 @@ class Names:
         if path not in self.scopes:
             names = {}
             text = self.files[path]
-            for module, name, here in imported(text):
+            for module, name, here in imported(path, text):
                 names[here] = self.find(spec_path(module), module, name)
             for where, name in self.definitions:
                 if where == path:
                     names[name] = self.definitions[where, name]
-            for m in MODULE.finditer(text):
-                where = spec_path(m.group(1))
+            for module, here in modules(path, text):
+                where = spec_path(module)
                 for there, name in self.definitions:
                     if where and there == where:
-                        names[m.group(2) + "." + name] = self.definitions[there, name]
+                        names[here + "." + name] = self.definitions[there, name]
             self.scopes[path] = {k: v for k, v in names.items() if v}
         return self.scopes[path]
 
@@ -373,8 +457,13 @@ class Names:
             return None
         if where.endswith("/src"):
             kind = module.split("declared.", 1)[1].split(".")
-            owner = next((k for k in reversed(kind) if k != "the-variants"), name)
+            owner = next((k for k in reversed(kind) if k != "TheVariants"), name)
             return self.definitions.get((where, name)) or self.definitions.get((where, owner))
+        if (where, name) not in self.definitions and where in self.files:
+            # passed on by a `pub use`
+            for module, there, here in imported(where, self.files[where]):
+                if here == name and spec_path(module) not in (None, where):
+                    return self.find(spec_path(module), module, there)
         return self.definitions.get((where, name))
 
     def named(self, path, text):

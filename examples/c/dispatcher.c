@@ -2,8 +2,8 @@
  *
  * From the repository's root:
  *
- *   rt staticlib capi
- *   gcc -std=c11 -Wall -Wextra -O2 -Iinclude examples/c/dispatcher.c target/staticlib/libcapi.a -o target/dispatcher
+ *   (cd crates/capi && rt lib)
+ *   mkdir -p target && gcc -std=c11 -Wall -Wextra -O2 -Iinclude examples/c/dispatcher.c crates/capi/out/libcapi.a -o target/dispatcher
  *   target/dispatcher
  *
  * What it prints stands in dispatcher.stdout.

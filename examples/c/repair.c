@@ -2,8 +2,8 @@
  *
  * From the repository's root:
  *
- *   rt staticlib capi
- *   gcc -std=c11 -Wall -Wextra -O2 -Iinclude examples/c/repair.c target/staticlib/libcapi.a -o target/repair
+ *   (cd crates/capi && rt lib)
+ *   mkdir -p target && gcc -std=c11 -Wall -Wextra -O2 -Iinclude examples/c/repair.c crates/capi/out/libcapi.a -o target/repair
  *   target/repair
  *
  * What it prints stands in repair.stdout.

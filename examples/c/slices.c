@@ -2,8 +2,8 @@
  *
  * From the repository's root:
  *
- *   rt staticlib capi
- *   gcc -std=c11 -Wall -Wextra -O2 -Iinclude examples/c/slices.c target/staticlib/libcapi.a -o target/slices
+ *   (cd crates/capi && rt lib)
+ *   mkdir -p target && gcc -std=c11 -Wall -Wextra -O2 -Iinclude examples/c/slices.c crates/capi/out/libcapi.a -o target/slices
  *   target/slices
  *
  * What it prints stands in slices.stdout.

@@ -13,13 +13,50 @@ quietly() {
   fi
 }
 
-# Proves the library and has the programs link its archive.
+# rt_in CRATE WORD..: a command of rt, which works in a crate's folder
+rt_in() (
+  cd "crates/$1" || exit
+  shift
+  rt "$@"
+)
+
+# Writes the archive over the libraries that 'rt ci' has just left in a clean checkout, in the time of one check: 'rt lib' takes none
+# that 'rt ci' built, and would prove all below capi once more. This is its last step, in words of 'rattle build --help'.
+archive_over_proved() (
+  cd crates/capi || exit
+  kit=$(dirname "$(rt doc)")
+  read -ra named < <(sed -nE 's/^capi +staticlib *:([^#]*).*/\1/p' ../../crates.txt)
+  words=(--crate-name capi src/lib.rt --crate-type staticlib --extern "std=$kit/rlibs/std.rlib" -L "dependency=$kit/rlibs" --links capi=)
+  for name in "${named[@]}"; do
+    words+=(--extern "$name=../$name/out/rlib/$name.rlib")
+  done
+  for folder in ../*/out/rlib; do
+    words+=(-L "dependency=$folder")
+  done
+  words+=(--antt-project "$kit/rattle/logic/antt-project.json" --logic-built "$kit/logic_built" --toolchain "$kit/toolchain" --backend llvm)
+  mkdir -p out
+  "$kit/bin/rattle" build "${words[@]}" --jobs "$(nproc)" -o out/libcapi.a
+)
+
+# Proves the library, writes its archive and has the programs link it.
+archive=crates/capi/out/libcapi.a
 with_library() {
   echo "proving the library and writing its archive .."
-  quietly rt staticlib capi
+  rm -f "$archive"
+  if [ -z "${proved-}" ] || ! archive_over_proved >"$out/archive.log" 2>&1; then
+    quietly rt_in capi lib
+  fi
   flags+=(--cfg library)
   compile_c tests/common/header.c
-  linked+=(-C link-arg=target/staticlib/libcapi.a)
+  linked+=(-C "link-arg=$archive")
+}
+
+# Proves and builds the program, which is then crates/tomkhadi/out/tomkhadi: 'rt run' leaves it there, as 'rt ci' does.
+with_program() {
+  echo "proving and building the program .."
+  if [ -z "${proved-}" ] || [ ! -x crates/tomkhadi/out/tomkhadi ]; then
+    quietly rt_in tomkhadi run </dev/null
+  fi
 }
 
 # compile_program NAME SOURCE: the program, over what tests and benchmarks share, with all that is in 'linked'
@@ -40,5 +77,5 @@ compile_c() {
 
 # program_c SOURCE: a program over the library
 program_c() {
-  gcc -std=c11 -Wall -Wextra -Werror -pedantic -O2 -Iinclude "$1" target/staticlib/libcapi.a -o "$out/$(basename "$1" .c)"
+  gcc -std=c11 -Wall -Wextra -Werror -pedantic -O2 -Iinclude "$1" "$archive" -o "$out/$(basename "$1" .c)"
 }

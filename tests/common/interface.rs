@@ -335,7 +335,7 @@ pub trait EightJobs {
     fn turn(&self, d: &mut Dispatcher) -> Turned;
 }
 
-/// The proved library, in the archive that `rt staticlib capi` writes.
+/// The proved library, in the archive that `rt lib` writes in `crates/capi`.
 #[cfg(library)]
 pub struct Library;
 

@@ -1,7 +1,7 @@
 -- The marked examples (SPECIFICATION.md, "Examples") as one table, with everything that is said of them. An entry holds what is given and what comes of
 -- it; `computed` makes anew what comes of it, by the definitions of the finder and of the calls. The theorem, in proofs/Examples.antt, is that the table stays
 -- as it is.
-use Rattle.std.specs.Prelude.{◌≡◌, Bool, true, false, List, [], ◌∷◌, ◌++◌, map, ℕ, suc, ◌+◌, length, replicate, take}
+use Rattle.std.specs.Prelude.{◌≡◌, Bool, true, false, List, [], ◌∷◌, ◌++◌, map, ℕ, suc, length, replicate, take}
 use Rattle.columns.specs.Columns.{members}
 use Rattle.decoding.specs.Locating.{size_of, taps_of, alone_of}
 use Rattle.decoding.specs.Remaining.{sums_read, read_sequences}

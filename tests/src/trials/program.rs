@@ -21,7 +21,7 @@ use crate::trials::{damaged, malformed, some_codeword, some_shape};
 /// The program, which is stopped after ten minutes.
 fn started(input: Stdio) -> Child {
     Command::new("timeout")
-        .args(["600", "target/bin/tomkhadi"])
+        .args(["600", "crates/tomkhadi/out/tomkhadi"])
         .stdin(input)
         .stdout(Stdio::piped())
         .spawn()

@@ -13,9 +13,6 @@ use Rattle.from_register.proofs.locate_by.Goals.{Else-not-alone, Else-not-reache
 
 -- ---- the ways back, and what the tests passed tell
 
-is-alone : (c : Else-not-alone) → c.args.alone ≡ true
-is-alone c = c.if-not-alone.false
-
 reach : (c : Else-not-reaches) → left_reach c.args.s (declared_by c.args.declared.now) c.args.length ≡ true
 reach c = sym c.reaches.ensures ∙ c.if-not-reaches.false
 
@@ -35,13 +32,13 @@ reaches-requires c = let r = c.requires.locatable in record { shape = r.shape; f
 pub returns-then-not-reaches : goal.returns-then-not-reaches
 returns-then-not-reaches c =
     λ a f. refusal-left a _ _ _ f _ c.refuse-then-not-reaches.ensures c.shaped-then-not-reaches.ensures
-    ∙ gives_25 c.requires _ f (is-alone (goal.at.returns-then-not-reaches c).Else-not-alone) (sym c.reaches.ensures ∙ c.if-not-reaches.true)
+    ∙ gives_25 c.requires _ f c.if-not-alone.false (sym c.reaches.ensures ∙ c.if-not-reaches.true)
 
 pub overflow_add-end : goal.overflow_add-end
 overflow_add-end c = record { fits = omega (arith, c.requires.short) }
 
 pub slice_bounds-sought_columns-end : goal.slice_bounds-sought_columns-end
-slice_bounds-sought_columns-end c = let whole = c.held-1.given in omega (arith, c.requires.short, whole.0)
+slice_bounds-sought_columns-end c = let whole = c.held-1.given in omega (arith, c.requires.short, whole)
 
 pub sought_columns-sought-requires : goal.sought_columns-sought-requires
 sought_columns-sought-requires c = few-columns c.requires
@@ -49,20 +46,20 @@ sought_columns-sought-requires c = few-columns c.requires
 pub returns-then-size-length : goal.returns-then-size-length
 returns-then-size-length c =
     λ a f. refusal-left a _ _ _ f _ c.refuse-then-size-length.ensures c.shaped-then-size-length.ensures
-    ∙ gives_26 c.requires (is-alone (goal.at.returns-then-size-length c).Else-not-alone) (reach (goal.at.returns-then-size-length c).Else-not-reaches) c.sought_columns-sought.ensures _ f
+    ∙ gives_26 c.requires c.if-not-alone.false (reach (goal.at.returns-then-size-length c).Else-not-reaches) c.sought_columns-sought.ensures _ f
     (omega (arith, c.size.ensures, c.if-size-length.true))
 
 pub completes-requires : goal.completes-requires
 completes-requires c =
-    completable-asked c.requires (is-alone (goal.at.completes-requires c).Else-not-alone) (reach (goal.at.completes-requires c).Else-not-reaches) c.sought_columns-sought.ensures (enough c)
+    completable-asked c.requires c.if-not-alone.false (reach (goal.at.completes-requires c).Else-not-reaches) c.sought_columns-sought.ensures (enough c)
 
 pub returns-then-not-completes : goal.returns-then-not-completes
 returns-then-not-completes c =
     λ a f. refusal-left a _ _ _ f _ c.refuse-then-not-completes.ensures c.shaped-then-not-completes.ensures
-    ∙ gives_unfit c.requires (is-alone (goal.at.returns-then-not-completes c).Else-not-alone) (reach (goal.at.returns-then-not-completes c).Else-not-reaches) c.sought_columns-sought.ensures (enough (goal.at.returns-then-not-completes c).Else-size-length) _ f
+    ∙ gives_unfit c.requires c.if-not-alone.false (reach (goal.at.returns-then-not-completes c).Else-not-reaches) c.sought_columns-sought.ensures (enough (goal.at.returns-then-not-completes c).Else-size-length) _ f
     (sym c.completes.ensures ∙ c.if-not-completes.true)
 
 pub returns : goal.returns
 returns c =
-    λ a f. gives-columns c.requires (is-alone (goal.at.returns c).Else-not-alone) (reach (goal.at.returns c).Else-not-reaches) c.sought_columns-sought.ensures (enough (goal.at.returns c).Else-size-length) _ f
+    λ a f. gives-columns c.requires c.if-not-alone.false (reach (goal.at.returns c).Else-not-reaches) c.sought_columns-sought.ensures (enough (goal.at.returns c).Else-size-length) _ f
     (sym c.completes.ensures ∙ c.if-not-completes.false) c.located.ensures

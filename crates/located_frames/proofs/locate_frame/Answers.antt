@@ -16,17 +16,17 @@ pub locate_from-answer-requires : goal.locate_from-answer-requires
 locate_from-answer-requires c = c.requires.locatable
 
 pub mends_uniform-requires : goal.mends_uniform-requires
-mends_uniform-requires c = counted_mendable _ _ _ _ [] _ _ [] _ c.locate_from-answer.ensures _ c.enum_told-1.given.1 no_arrays c.requires
+mends_uniform-requires c = counted_mendable _ _ _ _ [] _ _ [] _ c.locate_from-answer.ensures _ c.in-Count.is no_arrays c.requires
 
 pub returns-then-mends_uniform : goal.returns-then-mends_uniform
 returns-then-mends_uniform c =
     λ a. refusal-outcome _ _ _ c.refuse.ensures c.shaped.ensures
-    ∙ counted-uniform _ _ _ _ _ _ _ _ _ c.locate_from-answer.ensures _ c.enum_told-1.given.1 a _ c.mends_uniform.ensures
+    ∙ counted-uniform _ _ _ _ _ _ _ _ _ c.locate_from-answer.ensures _ c.in-Count.is a _ c.mends_uniform.ensures
     c.if-mends_uniform.true
 
 pub returns-else-mends_uniform : goal.returns-else-mends_uniform
 returns-else-mends_uniform c =
-    λ a. counted_mixed _ _ _ _ _ _ _ _ _ c.locate_from-answer.ensures _ c.enum_told-1.given.1 a _ c.mends_uniform.ensures
+    λ a. counted_mixed _ _ _ _ _ _ _ _ _ c.locate_from-answer.ensures _ c.in-Count.is a _ c.mends_uniform.ensures
     c.if-mends_uniform.false
 
 pub returns-in-Unfinished : goal.returns-in-Unfinished

@@ -12,27 +12,19 @@ use Rattle.onward.proofs.go_on.Goals.{Else-not-in_range, Else-not-is_sound, Else
 
 -- ---- what is lent
 
-abbrev shape_of : Start → Shape
-shape_of c = let a = c.args in record { rows = a.rows; columns = a.columns; checks = a.checks.now; exponent = a.exponent }
-
 abbrev held : Start → Synthesis
 held c =
     let a = c.args in
     synthesis a.counts.now a.lengths.now a.symbols.now a.places.now a.sizes.now a.discs.now a.quotients.now a.register.now
     a.saved.now
 
--- ---- the ways back
-
 -- ---- what the tests have told
 
-unfinished : (c : Else-not-unfinished) → c.args.unfinished ≡ true
-unfinished c = c.if-not-unfinished.false
-
-shape : (c : Else-not-in_range) → is_shape (shape_of (TODO_Start c)) ≡ true
+shape : (c : Else-not-in_range) → is_shape (let a = c.args in record { rows = a.rows; columns = a.columns; checks = a.checks.now; exponent = a.exponent }) ≡ true
 shape c = sym c.in_range.ensures ∙ c.if-not-in_range.false
 
 sound : (c : Else-not-is_sound) →
-    synthesis_sound c.args.rows (held (TODO_Start c)) ≡ true
+    synthesis_sound c.args.rows (let a = c.args in synthesis a.counts.now a.lengths.now a.symbols.now a.places.now a.sizes.now a.discs.now a.quotients.now a.register.now a.saved.now) ≡ true
 sound c = sym c.is_sound.ensures ∙ c.if-not-is_sound.false
 
 -- ---- the answers
@@ -42,14 +34,14 @@ returns-then-not-unfinished c = other-phase _ _ _ (c.if-not-unfinished.true)
 
 pub returns-then-not-in_range : goal.returns-then-not-in_range
 returns-then-not-in_range c =
-    no-shape _ _ _ (unfinished (goal.at.returns-then-not-in_range c).Else-not-unfinished) (sym c.in_range.ensures ∙ c.if-not-in_range.true)
+    no-shape _ _ _ c.if-not-unfinished.false (sym c.in_range.ensures ∙ c.if-not-in_range.true)
 
 pub is_sound-requires : goal.is_sound-requires
 is_sound-requires c = (shape-ranges _ (shape c)).rows-most
 
 pub returns-then-not-is_sound : goal.returns-then-not-is_sound
 returns-then-not-is_sound c =
-    no_step _ _ _ (unfinished (goal.at.returns-then-not-is_sound c).Else-not-unfinished) (shape (goal.at.returns-then-not-is_sound c).Else-not-in_range) (sym c.is_sound.ensures ∙ c.if-not-is_sound.true)
+    no_step _ _ _ c.if-not-unfinished.false (shape (goal.at.returns-then-not-is_sound c).Else-not-in_range) (sym c.is_sound.ensures ∙ c.if-not-is_sound.true)
 
 pub is_last-requires : goal.is_last-requires
 is_last-requires c =
@@ -59,7 +51,7 @@ is_last-requires c =
 
 pub returns-then-is_last : goal.returns-then-is_last
 returns-then-is_last c =
-    last_one _ _ _ (unfinished (goal.at.returns-then-is_last c).Else-not-unfinished) (shape (goal.at.returns-then-is_last c).Else-not-in_range) (sound (goal.at.returns-then-is_last c).Else-not-is_sound) (sym c.is_last.ensures ∙ c.if-is_last.true)
+    last_one _ _ _ c.if-not-unfinished.false (shape (goal.at.returns-then-is_last c).Else-not-in_range) (sound (goal.at.returns-then-is_last c).Else-not-is_sound) (sym c.is_last.ensures ∙ c.if-is_last.true)
 
 pub advance-requires : goal.advance-requires
 advance-requires c =
@@ -67,4 +59,4 @@ advance-requires c =
 
 pub returns : goal.returns
 returns c =
-    made _ _ _ (unfinished (goal.at.returns c).Else-not-unfinished) (shape (goal.at.returns c).Else-not-in_range) (sound (goal.at.returns c).Else-not-is_sound) (sym c.is_last.ensures ∙ c.if-is_last.false) c.advance.ensures
+    made _ _ _ c.if-not-unfinished.false (shape (goal.at.returns c).Else-not-in_range) (sound (goal.at.returns c).Else-not-is_sound) (sym c.is_last.ensures ∙ c.if-is_last.false) c.advance.ensures

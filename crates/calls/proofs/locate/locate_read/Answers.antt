@@ -35,7 +35,7 @@ returns-in-Refuse c =
 passes : (c : In_default) →
     let args = c.args in
     outcome (read_tests args.j.shape (declared_by args.declared.now) args.frame.now) ≡ passed
-passes c = sym c.check_read-checked.ensures ∙ ap outcome_of c.enum_told-1.given.1
+passes c = sym c.check_read-checked.ensures ∙ ap outcome_of c.in_default.is
 
 -- ---- locating from its sums
 

@@ -38,13 +38,13 @@ passes : (c : In_default) →
     let args = c.args in
     outcome (read_tests args.j.shape (declared_by args.declared.now) args.frame.now) ≡ passed
 passes c =
-    sym (whole-tests _ (shape (TODO_Start c)) _ c.requires.nothing _) ∙ sym c.check_frame-checked.ensures ∙ ap outcome_of c.enum_told-1.given.1
+    sym (whole-tests _ (has-shape _ c.requires.full) _ c.requires.nothing _) ∙ sym c.check_frame-checked.ensures ∙ ap outcome_of c.in_default.is
 
 -- ---- locating from its sums
 
 pub frame_sums-summed-requires : goal.frame_sums-summed-requires
 frame_sums-summed-requires c =
-    (shape (goal.at.frame_sums-summed-requires c).Start, passed-frame _ _ (sym c.check_frame-checked.ensures ∙ ap outcome_of c.enum_told-1.given.1))
+    (shape (goal.at.frame_sums-summed-requires c).Start, passed-frame _ _ (sym c.check_frame-checked.ensures ∙ ap outcome_of c.in_default.is))
 
 pub locate_frame-requires : goal.locate_frame-requires
 locate_frame-requires c =

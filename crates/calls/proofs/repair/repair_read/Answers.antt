@@ -40,7 +40,7 @@ cells c =
     ap (declared_sound args.j.shape (declared_by args.held.now)) (sym c.length_of-c.ensures) ∙ sym c.cells_sound.ensures
 
 located : (c : Else-not-cells_sound) (a : Arrays) → is_located (beside c.args.j (with_read a c.args.sums.now c.args.held.now)) ≡ true
-located c a = ap₂ ◌&&◌ c.requires.located (cells (TODO_After-cells_sound c) ∙ c.if-not-cells_sound.false)
+located c a = ap₂ ◌&&◌ c.requires.located ((let args = c.args in ap (declared_sound args.j.shape (declared_by args.held.now)) (sym c.length_of-c.ensures) ∙ sym c.cells_sound.ensures) ∙ c.if-not-cells_sound.false)
 
 pub returns-then-not-cells_sound : goal.returns-then-not-cells_sound
 returns-then-not-cells_sound c =
@@ -62,7 +62,7 @@ returns-in-Refuse c =
 passes : (c : In_default) →
     let args = c.args in
     outcome (read_tests args.j.shape (declared_by args.held.now) args.frame.now) ≡ passed
-passes c = sym c.check_read-checked.ensures ∙ ap outcome_of c.enum_told-1.given.1
+passes c = sym c.check_read-checked.ensures ∙ ap outcome_of c.in_default.is
 
 pub sums_read-summed-requires : goal.sums_read-summed-requires
 sums_read-summed-requires c =
@@ -91,12 +91,12 @@ words c = sound _ (search rules) (λ w. search rules)
 mendable : (c : In_default) →
     let args = c.args in Mendable args.j.shape args.held.now args.j.columns args.frame.now
 mendable c =
-    let kept = sound-cells _ _ _ (cells (TODO_After-cells_sound c) ∙ c.if-not-cells_sound.false) in
+    let kept = sound-cells _ _ _ ((let args = c.args in ap (declared_sound args.j.shape (declared_by args.held.now)) (sym c.length_of-c.ensures) ∙ sym c.cells_sound.ensures) ∙ c.if-not-cells_sound.false) in
     record {
-      shape = shape (TODO_Start c);
+      shape = has-shape _ c.requires.full;
       whole = (passed-read _ _ _ (passes c)).size;
       small = passed-undeclared _ _ _ (passes c);
-      below = (located-marked _ c.requires.full c.requires.located (words (TODO_Start c))).inside;
+      below = (located-marked _ c.requires.full c.requires.located (sound _ (search rules) (λ w. search rules))).inside;
       declarable = kept.0;
       reach = subst (λ (n : ℕ). left_reach c.args.j.shape (declared_by c.args.held.now) n ≡ true)
           (sym (located-size _ c.requires.full c.requires.located)) kept.1;

@@ -51,10 +51,10 @@ passes : (c : In_default) →
     let args = c.args in
     outcome (read_tests args.j.shape (declared_by args.held.now) args.frame.now) ≡ passed
 passes c =
-    sym (whole-tests _ (shape (TODO_Start c)) _ c.requires.nothing _) ∙ sym c.check_frame-checked.ensures ∙ ap outcome_of c.enum_told-1.given.1
+    sym (whole-tests _ (has-shape _ c.requires.repairable.full) _ c.requires.nothing _) ∙ sym c.check_frame-checked.ensures ∙ ap outcome_of c.in_default.is
 
 well_formed : (c : In_default) → let args = c.args in WellFormed args.j.shape args.frame.now
-well_formed c = passed-frame _ _ (sym c.check_frame-checked.ensures ∙ ap outcome_of c.enum_told-1.given.1)
+well_formed c = passed-frame _ _ (sym c.check_frame-checked.ensures ∙ ap outcome_of c.in_default.is)
 
 pub frame_sums-summed-requires : goal.frame_sums-summed-requires
 frame_sums-summed-requires c =
@@ -67,7 +67,7 @@ compared : (c : After-same_sums) →
 compared c =
     sym (c.same_sums.ensures
     ∙ ap (λ (l : List ℕ). same_sums l c.args.sums.now) (c.frame_sums-summed.ensures
-    ∙ whole-sums _ (shape (TODO_Start c)) _ c.requires.nothing _ (well_formed (TODO_In_default c)).size))
+    ∙ whole-sums _ (has-shape _ c.requires.repairable.full) _ c.requires.nothing _ (passed-frame _ _ (sym c.check_frame-checked.ensures ∙ ap outcome_of c.in_default.is)).size))
 
 pub returns-then-not-same_sums : goal.returns-then-not-same_sums
 returns-then-not-same_sums c =

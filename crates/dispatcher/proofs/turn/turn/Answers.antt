@@ -16,7 +16,7 @@ lent c =
     a.register.now a.saved.now) a.last.now
 
 -- who is found
-found_of : (c : After-next_unfinished-k) → c.next_unfinished-k.result ≡ number_of (served jobs (jobs_of (lent (TODO_Start c))))
+found_of : (c : After-next_unfinished-k) → c.next_unfinished-k.result ≡ number_of (served jobs (jobs_of (let a = c.args in kept (heads a.states.now a.extents.now a.checks.now a.marks.now) a.sums.now a.taps.now a.held.now (searches a.counts.now a.lengths.now a.symbols.now a.places.now a.sizes.now a.discs.now a.quotients.now a.register.now a.saved.now) a.last.now)))
 unfolding served
 found_of c =
     let a = c.args in

@@ -1,5 +1,4 @@
 use mathlib.Core.Path.{ap}
-use Prim.Native.Nat.{◌-◌}
 use native.Mathlib.Omega.{arith}
 use lib.ListN.{length}
 use Rattle.frame.proofs.RowPlace.{RowPlace, row-place}
@@ -12,24 +11,13 @@ use Rattle.frame.specs.Completion.{completed}
 use Rattle.frame.proofs.CompletionLaws.{length-completed}
 use Rattle.frame.proofs.RowsAtSets.{more-at_sets}
 use Rattle.encoder.proofs.encode.fill_checks.Goals as goal
-use Rattle.encoder.proofs.encode.fill_checks.Goals.{After-generator_for-held, After-slice_known-in-loop-h-1, In-loop-h, Start}
-
--- the ways back
-abbrev start_of : In-loop-h → Start
-start_of c = c.before.before.before.before.before.before
-
-abbrev in-loop : After-generator_for-held → In-loop-h
-in-loop c = c.before.before.before
-
-abbrev with-generator : After-slice_known-in-loop-h-1 → After-generator_for-held
-with-generator c = c.before.before.before.before.before
+use Rattle.encoder.proofs.encode.fill_checks.Goals.{In-loop-h}
 
 place : (c : In-loop-h) →
-    let args = (start_of c).args in
-    RowPlace args.t1 (length args.frame.now) c.loop-h.h
+    let args = c.args in
+    RowPlace args.s (length args.frame.now) c.loop-h.h
 place c =
-    let start = start_of c in
-    row-place start.args.s (length start.args.frame.now) c.loop-h.h start.requires.shape start.requires.whole c.loop-h-test.true
+    row-place c.args.s (length c.args.frame.now) c.loop-h.h c.requires.shape c.requires.whole c.loop-h-test.true
 
 pub generator-held-requires : goal.generator-held-requires
 generator-held-requires c =
@@ -47,55 +35,50 @@ bounds-s-h c = let p = place c in omega arith
 
 pub generator_for-held-requires : goal.generator_for-held-requires
 generator_for-held-requires c =
-    let inside = c.before.before in
-    let p = place inside in
-    (inside.loop-h.invariant.1, omega (arith, c.wide-checks.ensures.equals))
+    let p = place (goal.at.generator_for-held-requires c).In-loop-h in
+    (c.loop-h.invariant.1, omega (arith, c.wide-checks.ensures.equals))
 
 pub overflow_mul-a : goal.overflow_mul-a
-overflow_mul-a c = let p = place (in-loop c) in omega arith
+overflow_mul-a c = let p = place (goal.at.overflow_mul-a c).In-loop-h in omega arith
 
 pub overflow_add-e : goal.overflow_add-e
-overflow_add-e c = let p = place (in-loop c) in omega arith
+overflow_add-e c = let p = place (goal.at.overflow_add-e c).In-loop-h in omega arith
 
 pub offset_bounds-frame-a : goal.offset_bounds-frame-a
-offset_bounds-frame-a c = let p = place (in-loop c.before) in omega arith
+offset_bounds-frame-a c = let p = place (goal.at.offset_bounds-frame-a c).In-loop-h in omega arith
 
 pub slice_bounds-encode_row-start : goal.slice_bounds-encode_row-start
-slice_bounds-encode_row-start c = let p = place (in-loop c.before) in omega arith
+slice_bounds-encode_row-start c = let p = place (goal.at.slice_bounds-encode_row-start c).In-loop-h in omega arith
 
 pub slice_bounds-encode_row-end-in-loop-h : goal.slice_bounds-encode_row-end-in-loop-h
-slice_bounds-encode_row-end-in-loop-h c = let inside = in-loop c.before in let p = place inside in let q = inside.loop-h.inv.0.size in omega arith
+slice_bounds-encode_row-end-in-loop-h c =
+    let p = place (goal.at.slice_bounds-encode_row-end-in-loop-h c).In-loop-h in let q = c.loop-h.invariant.0.size in omega arith
 
 pub encode_row-requires : goal.encode_row-requires
 encode_row-requires c =
-    let inside = in-loop c.before.before in
-    side in
-    let p = place inside in
-    let size = length_part _ _ _ _ _ _ inside.loop-h.inv.0 p.inside in
+    let p = place (goal.at.encode_row-requires c).In-loop-h in
+    let size = length_part _ _ _ _ _ _ c.loop-h.invariant.0 p.inside in
     let count = c.wide-checks.ensures.equals in
     record {
       divisor = c.generator_for-held.ensures.divisor;
       reach = omega (arith, size, count);
       narrow = omega (arith, size);
-      small = λ i le l. row_small start_of.args.s _ start_of.requires.small _ inside.loop-h-test.taken _ _ inside.loop-h.inv.0 p.inside i
+      small = λ i le l. row_small c.args.s _ c.requires.small _ c.loop-h-test.true _ _ c.loop-h.invariant.0 p.inside i
           (omega (arith, count)) (omega (arith, size));
     }
 
 pub overflow_add-h : goal.overflow_add-h
-overflow_add-h c = let p = place (in-loop (with-generator c)) in omega arith
+overflow_add-h c = let p = place (goal.at.overflow_add-h c).In-loop-h in omega arith
 
 pub loop-h-smaller : goal.loop-h-smaller
-loop-h-smaller c = let t = (in-loop (with-generator c)).loop-h-test.taken in omega arith
+loop-h-smaller c = let t = c.loop-h-test.true in omega arith
 
 pub loop-h-preserved : goal.loop-h-preserved
-loop-h-preserved c =
-    let made = with-generator c in
-    let inside = in-loop made in
-    (
-      more-at_sets (completed _) (length-completed _) _ _ _ _ _ _ inside.loop-h.inv.0 (place inside).inside _ _ inside.loop-h-test.taken
-          (ap first_columns made.wide-checks.ensures.equals) (c.encode_row.ensures _ made.generator_for-held.ensures),
-      made.generator_for-held.ensures,
-    )
+loop-h-preserved c = (
+  more-at_sets (completed _) (length-completed _) _ _ _ _ _ _ c.loop-h.invariant.0 (place (goal.at.loop-h-preserved c).In-loop-h).inside _ _ c.loop-h-test.true
+      (ap first_columns c.wide-checks.ensures.equals) (c.encode_row.ensures _ c.generator_for-held.ensures),
+  c.generator_for-held.ensures,
+)
 
 pub shape_of-frame : goal.shape_of-frame
 shape_of-frame c = c.loop-h.invariant.0.size

@@ -1,7 +1,5 @@
 use mathlib.Core.Path.{◌≡◌, refl, sym, ap, ◌∙◌}
 use mathlib.Core.Bool.{true}
-use Prim.Native.Nat.{◌-◌}
-use borrow.Author.Tests.{not-true, not-false}
 use Rattle.columns.specs.declared.Columns.{Columns}
 use Rattle.frame.proofs.Shapes.{shape-ranges}
 use Rattle.lists.proofs.Testing.{tested-none, tested_out, tested-pass, tested-all}
@@ -13,25 +11,23 @@ use Rattle.erasures.proofs.cells.is_declarable.Goals.{After-row_declarable}
 
 -- what the test says of the row
 tested : (c : After-row_declarable) →
-    let at = c.before.before.before in
-    let args = at.args in
-    row args.s args.declared.now at.loop-h.h ≡ c.row_declarable.result
+    let args = c.args in
+    row args.s args.declared.now c.loop-h.h ≡ c.row_declarable.result
 tested c =
-    let at = c.before.before.before in
-    ap (λ (J : Columns). row_declarable at.args.s J at.loop-h.h) (sym c.cells_of.ensures) ∙ sym c.row_declarable.ensures
+    ap (λ (J : Columns). row_declarable c.args.s J c.loop-h.h) (sym c.cells_of.ensures) ∙ sym c.row_declarable.ensures
 
 pub loop-h-init : goal.loop-h-init
 loop-h-init c = tested-none _ _
 
 pub returns-then-not-row_declarable : goal.returns-then-not-row_declarable
 returns-then-not-row_declarable c =
-    tested_out _ _ c.loop-h.h c.loop-h-test.true (tested c.before ∙ not-true _ c.if-not-row_declarable.true)
+    tested_out _ _ c.loop-h.h c.loop-h-test.true (tested (goal.at.returns-then-not-row_declarable c).After-row_declarable ∙ c.if-not-row_declarable.true)
     ∙ all-rows _ _ (shape-ranges _ c.requires).rows-most
 
 pub loop-h-preserved : goal.loop-h-preserved
 loop-h-preserved c =
     let at = c.loop-h in
-    tested-pass _ _ at.h true at.invariant c.loop-h-test.true true refl (tested c.before ∙ not-false _ c.if-not-row_declarable.false)
+    tested-pass _ _ at.h true at.invariant c.loop-h-test.true true refl (tested (goal.at.loop-h-preserved c).After-row_declarable ∙ c.if-not-row_declarable.false)
 
 pub returns : goal.returns
 returns c = tested-all _ _ _ _ c.loop-h.invariant c.loop-h-test.false ∙ all-rows _ _ (shape-ranges _ c.requires).rows-most

@@ -13,20 +13,14 @@ use Rattle.frame.specs.Shape.{checks_of}
 use Rattle.frame.proofs.Shapes.{shape-ranges}
 use Rattle.lists.proofs.Testing.{tested-none, tested_out, tested-pass, tested-all}
 use Rattle.erasures.proofs.cells.left_reach.Goals as goal
-use Rattle.erasures.proofs.cells.left_reach.Goals.{After-checks_left, In-loop-h}
-
--- the ways back
-abbrev in-loop : After-checks_left → In-loop-h
-in-loop c = c.before.before.before
+use Rattle.erasures.proofs.cells.left_reach.Goals.{After-checks_left}
 
 -- what is left of the row's checks
 left : (c : After-checks_left) →
-    let at = (in-loop c).before in
-    let args = at.before.args in
-    c.checks_left.result ≡ checks_left args.t1 (declared_by args.declared.now) at.loop.h
+    let args = c.args in
+    c.checks_left.result ≡ checks_left args.s (declared_by args.declared.now) c.loop-h.h
 left c =
-    let at = (in-loop c).before in
-    c.checks_left.ensures ∙ ap (λ (J : Columns). checks_of at.before.args.t1 at.loop.h - length (members J)) c.cells_of.ensures
+    c.checks_left.ensures ∙ ap (λ (J : Columns). checks_of c.args.s c.loop-h.h - length (members J)) c.cells_of.ensures
 
 pub loop-h-init : goal.loop-h-init
 loop-h-init c = tested-none _ _
@@ -43,16 +37,14 @@ cells_of-requires c = let r = shape-ranges _ c.requires in omega arith
 pub returns-then-checks_left-c : goal.returns-then-checks_left-c
 unfolding left_reach
 returns-then-checks_left-c c =
-    let inside = in-loop c.before in
-    tested_out _ _ inside.loop-h.h inside.loop-h-test.taken
-    (ap (leb inside.args.c) (sym (left c.before)) ∙ lt-leb _ _ c.if-checks_left-c.true)
+    tested_out _ _ c.loop-h.h c.loop-h-test.true
+    (ap (leb c.args.c) (sym (left (goal.at.returns-then-checks_left-c c).After-checks_left)) ∙ lt-leb _ _ c.if-checks_left-c.true)
 
 pub loop-h-preserved : goal.loop-h-preserved
 loop-h-preserved c =
-    let inside = in-loop c.before in
-    let at = inside.loop-h in
-    tested-pass _ _ at.h true at.inv inside.loop-h-test.taken true refl
-    (ap (leb inside.args.c) (sym (left c.before)) ∙ le-leb _ _ c.if-checks_left-c.false)
+    let at = c.loop-h in
+    tested-pass _ _ at.h true at.invariant c.loop-h-test.true true refl
+    (ap (leb c.args.c) (sym (left (goal.at.loop-h-preserved c).After-checks_left)) ∙ le-leb _ _ c.if-checks_left-c.false)
 
 pub returns : goal.returns
 unfolding left_reach

@@ -11,44 +11,31 @@ use Rattle.frame.specs.Shape.{checks_of}
 use Rattle.frame.proofs.Shapes.{shape-ranges}
 use Rattle.erasures.proofs.RowsDeclarable.{past-rows, within-rows}
 use Rattle.erasures.proofs.cells.row_declarable.Goals as goal
-use Rattle.erasures.proofs.cells.row_declarable.Goals.{After-next-2, After-wide, Start}
-
--- the ways back
-abbrev start_of : After-next-2 → Start
-start_of c = c.before.before
-
-abbrev next_known : After-wide → After-next-2
-next_known c = c.before.before.before.before
 
 pub returns-then-h-s : goal.returns-then-h-s
 returns-then-h-s c = ap (λ (k : ℕ). eqb k 256) c.next.ensures ∙ past-rows c.args.s c.args.set c.args.h c.if-h-s.true
 
 pub returns-then-next-ne256 : goal.returns-then-next-ne256
 returns-then-next-ne256 c =
-    let start = start_of c.before in
-    let few = leb (length (members start.args.set)) (checks_of start.args.s start.args.h) in
+    let few = leb (length (members c.args.set)) (checks_of c.args.s c.args.h) in
     ap (λ (b : Bool). b && few) (sym (ne_eqb _ 256 c.if-next-ne256.true) ∙ ap (λ (k : ℕ). eqb k 256) c.next-2.ensures)
-    ∙ within-rows start.args.s start.args.set start.args.h c.if-h-s.false
+    ∙ within-rows c.args.s c.args.set c.args.h c.if-h-s.false
 
 pub offset_bounds-s-h : goal.offset_bounds-s-h
 offset_bounds-s-h c =
-    let start = start_of c.before.before in
-    let r = shape-ranges _ start.requires in
+    let r = shape-ranges _ c.requires in
     let l = c.if-h-s.false in
     omega arith
 
 pub bounds-s-h : goal.bounds-s-h
 bounds-s-h c =
-    let start = start_of c.before.before in
-    let r = shape-ranges _ start.requires in
+    let r = shape-ranges _ c.requires in
     let l = c.if-h-s.false in
     omega arith
 
 pub returns : goal.returns
 returns c =
-    let known = next_known c in
-    let start = start_of known in
     ap₂ leb c.size.ensures c.wide.ensures.equals
-    ∙ ap (λ (b : Bool). b && leb (length (members start.args.set)) (checks_of start.args.s start.args.h))
-    (sym (eq-eqb _ 256 c.if-next-ne256.false) ∙ ap (λ (k : ℕ). eqb k 256) known.next-2.ensures)
-    ∙ within-rows start.args.s start.args.set start.args.h known.if-h-s.left
+    ∙ ap (λ (b : Bool). b && leb (length (members c.args.set)) (checks_of c.args.s c.args.h))
+    (sym (eq-eqb _ 256 c.if-next-ne256.false) ∙ ap (λ (k : ℕ). eqb k 256) c.next-2.ensures)
+    ∙ within-rows c.args.s c.args.set c.args.h c.if-h-s.false

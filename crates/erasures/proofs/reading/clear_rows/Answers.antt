@@ -1,4 +1,3 @@
-use Prim.Native.Nat.{◌-◌}
 use native.Mathlib.Omega.{arith}
 use lib.ListN.{length}
 use Rattle.frame.specs.DeclaredCells.{as_read}
@@ -8,21 +7,13 @@ use Rattle.frame.specs.Completion.{cleared}
 use Rattle.frame.proofs.ReadFrames.{length-cleared}
 use Rattle.frame.proofs.RowsAtSets.{more-at_sets}
 use Rattle.erasures.proofs.reading.clear_rows.Goals as goal
-use Rattle.erasures.proofs.reading.clear_rows.Goals.{After-slice_known-in-loop-h-1, In-loop-h, Start}
-
--- the ways back
-abbrev start_of : In-loop-h → Start
-start_of c = c.before.before.before
-
-abbrev in-loop : After-slice_known-in-loop-h-1 → In-loop-h
-in-loop c = c.before.before.before.before.before
+use Rattle.erasures.proofs.reading.clear_rows.Goals.{In-loop-h}
 
 place : (c : In-loop-h) →
-    let args = (start_of c).args in
+    let args = c.args in
     RowPlace args.s (length args.frame.now) c.loop-h.h
 place c =
-    let start = start_of c in
-    row-place start.args.s (length start.args.frame.now) c.loop-h.h start.requires.shape start.requires.whole c.loop-h-test.true
+    row-place c.args.s (length c.args.frame.now) c.loop-h.h c.requires.shape c.requires.whole c.loop-h-test.true
 
 pub loop-h-init : goal.loop-h-init
 loop-h-init c = changed-none _ _ _ _
@@ -37,30 +28,28 @@ pub cells_of-requires : goal.cells_of-requires
 cells_of-requires c = let p = place c in omega arith
 
 pub offset_bounds-frame-a : goal.offset_bounds-frame-a
-offset_bounds-frame-a c = let p = place c.before in omega arith
+offset_bounds-frame-a c = let p = place (goal.at.offset_bounds-frame-a c).In-loop-h in omega arith
 
 pub slice_bounds-clear-start : goal.slice_bounds-clear-start
-slice_bounds-clear-start c = let p = place c.before in omega arith
+slice_bounds-clear-start c = let p = place (goal.at.slice_bounds-clear-start c).In-loop-h in omega arith
 
 pub slice_bounds-clear-end : goal.slice_bounds-clear-end
-slice_bounds-clear-end c = let p = place c.before in let q = c.loop-h.invariant.size in omega arith
+slice_bounds-clear-end c = let p = place (goal.at.slice_bounds-clear-end c).In-loop-h in let q = c.loop-h.invariant.size in omega arith
 
 pub clear-requires : goal.clear-requires
 clear-requires c =
-    let inside = c.before.before in
-    let p = place inside in
-    omega (arith, length_part _ _ _ _ _ _ inside.loop-h.invariant p.inside)
+    let p = place (goal.at.clear-requires c).In-loop-h in
+    omega (arith, length_part _ _ _ _ _ _ c.loop-h.invariant p.inside)
 
 pub overflow_add-h : goal.overflow_add-h
-overflow_add-h c = let p = place (in-loop c) in omega arith
+overflow_add-h c = let p = place (goal.at.overflow_add-h c).In-loop-h in omega arith
 
 pub loop-h-smaller : goal.loop-h-smaller
-loop-h-smaller c = let t = (in-loop c).loop-h-test.true in omega arith
+loop-h-smaller c = let t = c.loop-h-test.true in omega arith
 
 pub loop-h-preserved : goal.loop-h-preserved
 loop-h-preserved c =
-    let inside = in-loop c in
-    more-at_sets cleared length-cleared _ _ _ _ inside.loop-h.h _ inside.loop-h.inv (place inside).inside _ _ inside.loop-h-test.taken
+    more-at_sets cleared length-cleared _ _ _ _ c.loop-h.h _ c.loop-h.invariant (place (goal.at.loop-h-preserved c).In-loop-h).inside _ _ c.loop-h-test.true
     c.cells_of.ensures
     c.clear.ensures
 

@@ -1,5 +1,4 @@
 use mathlib.Core.Path.{refl}
-use Prim.Native.Nat.{◌-◌}
 use native.Mathlib.Omega.{arith}
 use Rattle.lists.proofs.Copying.{copied_whole}
 use Rattle.lists.proofs.Filling.{filled_none, filled_more}

@@ -1,19 +1,10 @@
 -- `heads::sound::is_sound` meets its contract.
-use mathlib.Core.Path.{◌≡◌, sym, ◌∙◌}
-use mathlib.Core.Bool.{true}
-use Rattle.frame.specs.Shape.{is_shape}
+use mathlib.Core.Path.{sym, ◌∙◌}
 use Rattle.job.proofs.Emptiness.{empty-sound, shaped-sound, unfinished-sound, located_shapeless, located-sound}
 use Rattle.heads.proofs.sound.is_sound.Goals as goal
-use Rattle.heads.proofs.sound.is_sound.Goals.{Else-not-is_shape}
 
 pub returns-then-not-is_shape : goal.returns-then-not-is_shape
 returns-then-not-is_shape c = sym (located_shapeless _ _ _ c.in-Located.is (sym c.is_shape-in-Located.ensures ∙ c.if-not-is_shape.true))
-
-has-shape : (c : Else-not-is_shape) → is_shape c.args.j.shape ≡ true
-has-shape c = sym c.is_shape-in-Located.ensures ∙ c.if-not-is_shape.false
-
-pub is_findings-requires : goal.is_findings-requires
-is_findings-requires c = has-shape (goal.at.is_findings-requires c).Else-not-is_shape
 
 pub returns-in-Empty : goal.returns-in-Empty
 returns-in-Empty c = sym (empty-sound _ c.in-Empty.is)
@@ -26,4 +17,4 @@ returns-in-Unfinished c = c.is_shape-in-Unfinished.ensures ∙ sym (unfinished-s
 
 pub returns-else-not-is_shape : goal.returns-else-not-is_shape
 returns-else-not-is_shape c =
-    c.is_findings.ensures ∙ sym (located-sound _ _ _ c.in-Located.is (has-shape (goal.at.returns-else-not-is_shape c).Else-not-is_shape))
+    c.is_findings.ensures ∙ sym (located-sound _ _ _ c.in-Located.is (sym c.is_shape-in-Located.ensures ∙ c.if-not-is_shape.false))

@@ -8,24 +8,16 @@ use Rattle.locating.proofs.Lending.{Lent, lent_findable, lent-answered, lent-lef
 use Rattle.lists.specs.Total.{total}
 use borrow.Author.Rules.{rules}
 use Rattle.locating.proofs.finding.register_of.Goals as goal
-use Rattle.locating.proofs.finding.register_of.Goals.{After-all_remaining, After-shortest-arg-1, Start}
-
--- ---- the ways back
+use Rattle.locating.proofs.finding.register_of.Goals.{After-all_remaining, After-shortest-arg-1}
 
 -- ---- nothing is declared
-
-eight : (c : Start) → length c.args.s.checks ≡ 8
-eight c = search rules
-
-sized : (c : After-shortest-arg-1) → length c.args.sums.now ≡ 512
-sized c = search rules
 
 -- the sums are lent as they are held
 lent-whole : (c : After-shortest-arg-1) →
     let args = c.args in
     Lent args.s.rows args.s.checks args.sums.now (held_sequences args.s args.sums.now)
 lent-whole c =
-    held-lent c.args.s c.requires.shape c.args.sums.now c.requires.small (eight (TODO_Start c)) (sized c)
+    held-lent c.args.s c.requires.shape c.args.sums.now c.requires.small (search rules) (search rules)
 
 pub shortest-requires : goal.shortest-requires
 shortest-requires c =

@@ -12,16 +12,15 @@ register_of-found-requires c =
 -- the finder never refuses
 pub returns-in_default : goal.returns-in_default
 returns-in_default c =
-    λ a f. absurd (never-refused c.args.s c.args.declared.now c.args.sums.now _ _ c.register_of-found.ensures _
-    (sym (ap answer_of c.enum_told-1.given.1)))
+    λ a f. absurd (never-refused c.args.s c.args.declared.now c.args.sums.now _ _ c.register_of-found.ensures _ (sym (ap answer_of c.in_default.is)))
 
 pub locate_by-requires : goal.locate_by-requires
 locate_by-requires c =
     held-register c.args.s c.args.declared.now c.args.sums.now _ _ c.register_of-found.ensures _ _
-    (sym (ap answer_of c.found-1.given.1)) _ c.requires
+    (sym (ap answer_of c.in-Register.is)) _ c.requires
 
 pub returns : goal.returns
 returns c =
     λ a f. c.locate_by.ensures a f
     ∙ located_so c.args.s c.args.declared.now c.args.sums.now _ _ c.register_of-found.ensures _ _
-    (sym (ap answer_of c.found-1.given.1)) c.requires.shape _ f
+    (sym (ap answer_of c.in-Register.is)) c.requires.shape _ f

@@ -3,7 +3,7 @@ use mathlib.Core.Path.{refl}
 use native.Mathlib.Omega.{arith}
 use borrow.Author.Rules.{rules}
 use Rattle.record.proofs.Registers.{found-taps, found_output}
-use Rattle.text.proofs.Writing.{line_as}
+use Rattle.text.proofs.Writing.{written_as}
 use Rattle.record.proofs.line.register_line.Goals as goal
 
 pub found_line-requires : goal.found_line-requires
@@ -11,12 +11,11 @@ found_line-requires c =
     let found = c.find-found in
     record {
       room = search rules;
-      few = omega (arith, found.auto.1.1.1.0);
-      held = found-taps _ _ _ _ _ refl found.auto.1.1.1.0 found.ensures.leaves found.result found.ensures.answers;
+      few = omega (arith, found.auto.taps);
+      held = found-taps _ _ _ _ _ refl found.auto.taps found.ensures.leaves found.result found.ensures.answers;
     }
 
-pub returns : goal.returns
-returns c =
+pub returns-clause-written : goal.returns-clause-written
+returns-clause-written c =
     let found = c.find-found in
-    let same = found_output _ _ _ _ _ refl found.auto.1.1.1.0 found.ensures.leaves found.result found.ensures.answers in
-    let all = line_as _ _ _ _ _ _ same c.found_line.ensures in record { written = all.0; upper_bound = all.1 }
+    written_as _ _ _ _ _ _ (found_output _ _ _ _ _ refl found.auto.taps found.ensures.leaves found.result found.ensures.answers) c.found_line.ensures.written

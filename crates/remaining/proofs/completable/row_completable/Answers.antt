@@ -24,20 +24,18 @@ completable_at-requires c = subst⁻¹ (λ J. TestableAt c.args.powers.now J c.a
 
 pub returns-then-size : goal.returns-then-size
 returns-then-size c =
-    let sized = c.before.before.before.before in
-    let args = sized.args in
+    let args = c.args in
     let fewer : length (members (either args.marked args.cells)) < length (members args.marked) + length (members args.cells) =
-    omega (arith, c.if-size.true, joined-size sized, c.size-2.ensures, c.size-3.ensures)
+    omega (arith, c.if-size.true, joined-size (goal.at.returns-then-size c).After-size, c.size-2.ensures, c.size-3.ensures)
     in
     let met : meets args.marked args.cells ≡ true = lt-ltb _ _ fewer in
-    c.completable_at.ensures ∙ ap (λ J. completable_at J args.sums.now) sized.either-set.ensures ∙ rw met
+    c.completable_at.ensures ∙ ap (λ J. completable_at J args.sums.now) c.either-set.ensures ∙ rw met
 
 pub returns : goal.returns
 returns c =
-    let sized = c.before.before.before in
-    let args = sized.args in
+    let args = c.args in
     let all : length (members args.marked) + length (members args.cells) ≤ length (members (either args.marked args.cells)) =
-    omega (arith, c.if-size.false, joined-size sized, c.size-2.ensures, c.size-3.ensures)
+    omega (arith, c.if-size.false, joined-size (goal.at.returns c).After-size, c.size-2.ensures, c.size-3.ensures)
     in
     let apart : meets args.marked args.cells ≡ false = le-ltb _ _ all in
     rw apart refl

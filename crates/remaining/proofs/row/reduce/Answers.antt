@@ -1,5 +1,4 @@
 use mathlib.Core.Path.{refl}
-use Prim.Native.Nat.{◌-◌}
 use Rattle.lists.proofs.Filling.{filled_none, filled_more, filled-all}
 use Rattle.remaining.proofs.row.reduce.Goals as goal
 

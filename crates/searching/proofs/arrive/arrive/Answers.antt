@@ -34,7 +34,7 @@ alone-mark-requires c = (end (goal.at.alone-mark-requires c).Else-counts).shorte
 
 pub locate_by-requires : goal.locate_by-requires
 locate_by-requires c =
-    held_so _ c.args.register.now _ (end (goal.at.locate_by-requires c).Else-counts).short c.held_taps-found.ensures _ _ _ _ _ _
+    held_so _ c.args.register.now _ (end (goal.at.locate_by-requires c).Else-counts).short (c.held_taps-found.ensures.value, c.held_taps-found.ensures.register_len) _ _ _ _ _ _
     c.nothing.ensures refl (end (goal.at.locate_by-requires c).Else-counts)
 
 pub returns : goal.returns
@@ -43,4 +43,4 @@ returns c =
     λ symbols discs quotients saved f.
     ends-given args.s args.sums.now args.taps.now _ args.declared.now _ f c.locate_by.result (eq-eqb _ _ c.if-counts.false)
     c.held_taps-found.result _
-    (own-taps _ args.register.now _ (end (goal.at.returns c).Else-counts).short c.held_taps-found.ensures) c.alone-mark.ensures c.locate_by.ensures
+    (own-taps _ args.register.now _ (end (goal.at.returns c).Else-counts).short (c.held_taps-found.ensures.value, c.held_taps-found.ensures.register_len)) c.alone-mark.ensures c.locate_by.ensures

@@ -11,14 +11,6 @@ use Rattle.searching.proofs.Beginning.{lent_beginnable, lent-begun}
 use Rattle.searching.proofs.begin.begin_left.Goals as goal
 use Rattle.searching.proofs.begin.begin_left.Goals.{After-all_remaining-left, After-told-2-1}
 
--- ---- the ways back
-
-eight : (c : After-all_remaining-left) → length c.all_remaining-left.result.lengths ≡ 8
-eight c = search rules
-
-sized : (c : After-told-2-1) → length c.all_remaining-left.result.symbols ≡ 512
-sized c = search rules
-
 lent : (c : After-told-2-1) →
     let args = c.args in
     let left = c.all_remaining-left.result in
@@ -27,7 +19,7 @@ lent : (c : After-told-2-1) →
 lent c =
     let args = c.args in
     left-lent args.s c.requires.shape (declared_by args.declared.now) args.sums.now c.all_remaining-left.result
-    c.all_remaining-left.ensures (eight (TODO_After-all_remaining-left c)) (sized c)
+    c.all_remaining-left.ensures (search rules) (search rules)
 
 counted : (c : After-all_remaining-left) →
     let left = c.all_remaining-left.result in

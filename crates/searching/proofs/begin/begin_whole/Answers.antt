@@ -6,22 +6,14 @@ use Rattle.locating.proofs.Lending.{Lent, held-lent}
 use borrow.Author.Rules.{rules}
 use Rattle.searching.proofs.Beginning.{lent_beginnable, lent-begun}
 use Rattle.searching.proofs.begin.begin_whole.Goals as goal
-use Rattle.searching.proofs.begin.begin_whole.Goals.{After-begin_lent-arg-10-1, Start}
-
--- ---- the ways back
-
-eight : (c : Start) → length c.args.s.checks ≡ 8
-eight c = search rules
-
-sized : (c : After-begin_lent-arg-10-1) → length c.args.sums.now ≡ 512
-sized c = search rules
+use Rattle.searching.proofs.begin.begin_whole.Goals.{After-begin_lent-arg-10-1}
 
 -- the sums are lent as they are held
 lent : (c : After-begin_lent-arg-10-1) →
     let args = c.args in
     Lent args.s.rows args.s.checks args.sums.now (held_sequences args.s args.sums.now)
 lent c =
-    held-lent c.args.s c.requires.s_value c.args.sums.now c.requires.by_index (eight (TODO_Start c)) (sized c)
+    held-lent c.args.s c.requires.s_value c.args.sums.now c.requires.by_index (search rules) (search rules)
 
 pub begin_lent-requires : goal.begin_lent-requires
 begin_lent-requires c = lent_beginnable (lent c) _ c.sum_count.ensures

@@ -23,7 +23,7 @@ pub returns-then-not-is_sound : goal.returns-then-not-is_sound
 unfolding step_sound
 returns-then-not-is_sound c = λ taps. fails _ _ (sym c.is_sound.ensures ∙ c.if-not-is_sound.true)
 
-sound : (c : Else-not-is_sound) → synthesis_sound c.args.s.rows (held (TODO_Start c)) ≡ true
+sound : (c : Else-not-is_sound) → synthesis_sound c.args.s.rows (let a = c.args in synthesis a.counts.now a.lengths.now a.symbols.now a.places.now a.sizes.now a.discs.now a.quotients.now a.register.now a.saved.now) ≡ true
 sound c = sym c.is_sound.ensures ∙ c.if-not-is_sound.false
 
 pub is_last-requires : goal.is_last-requires

@@ -14,13 +14,10 @@ pub advance-requires : goal.advance-requires
 advance-requires c =
     record { count_bound = (shape-ranges _ c.requires.shape).rows-most; saved_value = step-sound _ _ _ _ _ c.requires }
 
-width : (c : tie.After-arrive-arg5) → length (start_of (advanced-before c).before).args.sums.now ≡ 512
-width c = search rules
-
 pub arrive-requires : goal.arrive-requires
 arrive-requires c =
     let args = c.args in
-    subst⁻¹ (Ends args.s args.declared.now args.sums.now) c.advance.ensures (step-ends _ _ _ _ _ c.requires (width c))
+    subst⁻¹ (Ends args.s args.declared.now args.sums.now) c.advance.ensures (step-ends _ _ _ _ _ c.requires (search rules))
 
 pub returns : goal.returns
 returns c =

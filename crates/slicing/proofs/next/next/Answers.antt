@@ -40,7 +40,7 @@ returns-then-not-counts_as_unfinished c =
 
 unfinished : (c : Else-not-counts_as_unfinished) →
     let args = c.args in
-    is_unfinished (beside args.j (all_arrays args.sums.now args.taps.now args.held.now (held (TODO_Start c)))) ≡ true
+    is_unfinished (beside args.j (all_arrays args.sums.now args.taps.now args.held.now (let a = c.args in synthesis a.counts.now a.lengths.now a.symbols.now a.places.now a.sizes.now a.discs.now a.quotients.now a.register.now a.saved.now))) ≡ true
 unfinished c = sym (c.counts_as_unfinished.ensures _) ∙ c.if-not-counts_as_unfinished.false
 
 -- ---- the step

@@ -37,17 +37,20 @@ passes : (c : In_default) →
     let args = c.args in
     outcome (read_tests args.j.shape (declared_by args.declared.now) args.frame.now) ≡ passed
 passes c =
-    sym (whole-tests _ (shape (TODO_Start c)) _ c.requires.nothing _) ∙ sym c.check_frame-checked.ensures ∙ ap outcome_of c.enum_told-1.given.1
+    sym (whole-tests _ (has-shape _ c.requires.full) _ c.requires.nothing _) ∙ sym c.check_frame-checked.ensures ∙ ap outcome_of c.in_default.is
 
 -- ---- the search from its sums
 
 pub write_sums-requires : goal.write_sums-requires
 write_sums-requires c =
-    (shape (goal.at.write_sums-requires c).Start, passed-frame _ _ (sym c.check_frame-checked.ensures ∙ ap outcome_of c.enum_told-1.given.1))
+    (shape (goal.at.write_sums-requires c).Start, passed-frame _ _ (sym c.check_frame-checked.ensures ∙ ap outcome_of c.in_default.is))
 
 pub start_whole-requires : goal.start_whole-requires
 start_whole-requires c =
-    (shape (goal.at.start_whole-requires c).Start, λ k. subst⁻¹ (λ (l : List _). get_or l k 0 < 257) c.write_sums.ensures (held_below _ _ k))
+    record {
+      s_value = shape (goal.at.start_whole-requires c).Start;
+      by_index = λ k. subst⁻¹ (λ (l : List _). get_or l k 0 < 257) c.write_sums.ensures (held_below _ _ k);
+    }
 
 pub returns : goal.returns
 returns c =

@@ -1,20 +1,12 @@
 use mathlib.Core.Path.{refl, ap, ◌∙◌}
 use mathlib.Core.Bool.{true}
-use Prim.Native.Nat.{ℕ, ◌-◌}
+use Prim.Native.Nat.{ℕ}
 use native.Mathlib.Omega.{arith}
 use lib.Dec.{eqb}
 use borrow.Author.Tests.{eq-eqb, ne_eqb}
 use Rattle.lists.proofs.Testing.{tested-none, tested_out, tested-pass, tested-all}
 use Rattle.uniform.proofs.ConstantRows.{evaluable, sum-value, zeros-coded}
 use Rattle.uniform.proofs.constant.constant_coded.Goals as goal
-use Rattle.uniform.proofs.constant.constant_coded.Goals.{After-value_at, In-loop-j, Start}
-
--- the ways back
-abbrev start_of : In-loop-j → Start
-start_of c = c.before.before.before.before
-
-abbrev in-loop : After-value_at → In-loop-j
-in-loop c = c.before.before.before.before
 
 pub returns-then-a-eq0 : goal.returns-then-a-eq0
 returns-then-a-eq0 c = zeros-coded _ _ _ _ c.if-a-eq0.true
@@ -23,35 +15,29 @@ pub loop-j-init : goal.loop-j-init
 loop-j-init c = tested-none _ _
 
 pub slice_bounds-value_at-end : goal.slice_bounds-value_at-end
-slice_bounds-value_at-end c = let narrow = (start_of c.before.before).requires.narrow in omega arith
+slice_bounds-value_at-end c = let narrow = c.requires.narrow in omega arith
 
 pub overflow_cast-j : goal.overflow_cast-j
-overflow_cast-j c =
-    let inside = c.before.before.before in let few = (start_of inside).requires.few in let t = inside.loop-test.true in omega arith
+overflow_cast-j c = let few = c.requires.few in let t = c.loop-j-test.true in omega arith
 
 pub overflow_add-b : goal.overflow_add-b
 overflow_add-b c =
-    let inside = c.before.before.before in
-    let asked = (start_of inside).requires in
-    omega (arith, asked.exponent, asked.few, inside.loop-test.true)
+    let asked = c.requires in
+    omega (arith, asked.exponent, asked.few, c.loop-j-test.true)
 
 pub value_at-requires : goal.value_at-requires
-value_at-requires c =
-    let inside = c.before.before.before in
-    evaluable _ _ _ _ (start_of inside).requires _ inside.powers.ensures _ inside.loop-test.true
+value_at-requires c = evaluable _ _ _ _ c.requires _ c.powers-powers.ensures _ c.loop-j-test.true
 
 pub returns-then-value_at-ne0 : goal.returns-then-value_at-ne0
 returns-then-value_at-ne0 c =
-    let inside = in-loop c.before in
-    tested_out _ _ inside.loop-j.j inside.loop-j-test.taken
-    (ap (λ (x : ℕ). eqb x 0) (sum-value _ _ _ _ (start_of inside).requires _ _ c.value_at.ensures.equals) ∙ ne_eqb _ 0 c.if-value_at-ne0.true)
+    tested_out _ _ c.loop-j.j c.loop-j-test.true
+    (ap (λ (x : ℕ). eqb x 0) (sum-value _ _ _ _ c.requires _ _ c.value_at.ensures.equals) ∙ ne_eqb _ 0 c.if-value_at-ne0.true)
 
 pub loop-j-preserved : goal.loop-j-preserved
 loop-j-preserved c =
-    let inside = in-loop c.before in
-    let at = inside.loop-j in
-    tested-pass _ _ at.j true at.inv inside.loop-j-test.taken true refl
-    (ap (λ (x : ℕ). eqb x 0) (sum-value _ _ _ _ (start_of inside).requires _ _ c.value_at.ensures.equals) ∙ eq-eqb _ 0 c.if-value_at-ne0.false)
+    let at = c.loop-j in
+    tested-pass _ _ at.j true at.invariant c.loop-j-test.true true refl
+    (ap (λ (x : ℕ). eqb x 0) (sum-value _ _ _ _ c.requires _ _ c.value_at.ensures.equals) ∙ eq-eqb _ 0 c.if-value_at-ne0.false)
 
 pub returns : goal.returns
 returns c = tested-all _ _ _ _ c.loop-j.invariant c.loop-j-test.false

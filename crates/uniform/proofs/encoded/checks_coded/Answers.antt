@@ -1,28 +1,20 @@
 use mathlib.Core.Path.{ap, ◌∙◌}
-use mathlib.Core.Logic.{⊎_elim}
-use Prim.Native.Nat.{◌-◌}
 use native.Mathlib.Omega.{arith}
 use Rattle.frame.specs.Shape.{checks_of}
 use Rattle.frame.proofs.Shapes.{shape-ranges}
 use Rattle.lists.proofs.Largest.{largest-none, largest-more, largest-all, every-most, most-bound}
 use Rattle.uniform.specs.Constant.{constant_coded}
 use Rattle.uniform.proofs.encoded.checks_coded.Goals as goal
-use Rattle.uniform.proofs.encoded.checks_coded.Goals.{In-loop-h, Start}
-
--- the way back
-abbrev start_of : In-loop-h → Start
-start_of c = c.before.before
+use Rattle.uniform.proofs.encoded.checks_coded.Goals.{then-m-most, else-m-most}
 
 pub loop-h-init : goal.loop-h-init
 loop-h-init c = largest-none _ _
 
 pub offset_bounds-s-h : goal.offset_bounds-s-h
-offset_bounds-s-h c =
-    let start = start_of c in let most = (shape-ranges _ start.requires.0).rows-most in let t = c.loop-h-test.true in omega arith
+offset_bounds-s-h c = let most = (shape-ranges _ c.requires.0).rows-most in let t = c.loop-h-test.true in omega arith
 
 pub bounds-s-h : goal.bounds-s-h
-bounds-s-h c =
-    let start = start_of c in let most = (shape-ranges _ start.requires.0).rows-most in let t = c.loop-h-test.true in omega arith
+bounds-s-h c = let most = (shape-ranges _ c.requires.0).rows-most in let t = c.loop-h-test.true in omega arith
 
 pub overflow_cast-m : goal.overflow_cast-m
 overflow_cast-m c = let w = c.wide-m.ensures in omega arith
@@ -31,7 +23,8 @@ pub loop-h-preserved : goal.loop-h-preserved
 loop-h-preserved c =
     let at = c.loop-h in
     let w = c.wide-m.ensures.equals in
-    largest-more _ _ at.h at.most at.invariant c.loop-h-test.true c.if-m-most.most (⊎_elim (λ t. omega arith) (λ t. omega arith) c.if-m-most.branch)
+    largest-more _ _ at.h at.most at.invariant c.loop-h-test.true c.if-m-most.most
+    (elim c.if-m-most.branch [ then-m-most t ↦ omega arith | else-m-most t ↦ omega arith ])
 
 pub constant_coded-requires : goal.constant_coded-requires
 constant_coded-requires c =

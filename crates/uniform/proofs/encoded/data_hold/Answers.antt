@@ -1,9 +1,7 @@
 use mathlib.Core.Path.{◌≡◌, refl, ◌∙◌}
 use mathlib.Core.Bool.{true}
-use Prim.Native.Nat.{◌-◌}
 use native.Mathlib.Omega.{arith}
 use lib.ListN.{length}
-use borrow.Author.Tests.{not-true, not-false}
 use Rattle.frame.proofs.FrameTests.{row_test, row-tested}
 use Rattle.lists.proofs.Testing.{tested-none, tested_out, tested-pass, tested-all}
 use Rattle.frame.proofs.RowPlace.{RowPlace, row-place}
@@ -21,7 +19,8 @@ tested : (c : After-all_hold) →
     let args = c.args in
     row_test (holds args.a) args.s args.frame.now c.loop-h.h ≡ c.all_hold.result
 tested c =
-    row-tested (holds _) _ _ _ c.wide.result _ (place c.before.before) c.wide.ensures.equals c.all_hold.ensures
+    row-tested (holds _) _ _ _ c.wide.result _
+    (row-place c.args.s (length c.args.frame.now) c.loop-h.h c.requires.0 c.requires.1 c.loop-h-test.true) c.wide.ensures.equals c.all_hold.ensures
 
 pub loop-h-init : goal.loop-h-init
 loop-h-init c = tested-none _ _
@@ -36,36 +35,37 @@ pub bounds-s-h : goal.bounds-s-h
 bounds-s-h c = let p = place c in omega arith
 
 pub overflow_cast-from : goal.overflow_cast-from
-overflow_cast-from c = let p = place c.before.before in let w = c.wide.ensures in omega arith
+overflow_cast-from c = let p = place (goal.at.overflow_cast-from c).In-loop-h in let w = c.wide.ensures in omega arith
 
 pub overflow_add-from : goal.overflow_add-from
-overflow_add-from c = let p = place c.before.before in let w = c.wide.ensures in omega arith
+overflow_add-from c = let p = place (goal.at.overflow_add-from c).In-loop-h in let w = c.wide.ensures in omega arith
 
 pub overflow_mul-to : goal.overflow_mul-to
-overflow_mul-to c = let p = place c.before.before in let w = c.wide.ensures in omega arith
+overflow_mul-to c = let p = place (goal.at.overflow_mul-to c).In-loop-h in let w = c.wide.ensures in omega arith
 
 pub overflow_add-to : goal.overflow_add-to
-overflow_add-to c = let p = place c.before.before in let w = c.wide.ensures in omega arith
+overflow_add-to c = let p = place (goal.at.overflow_add-to c).In-loop-h in let w = c.wide.ensures in omega arith
 
 pub offset_bounds-frame-from : goal.offset_bounds-frame-from
-offset_bounds-frame-from c = let p = place c.before.before in let w = c.wide.ensures in omega arith
+offset_bounds-frame-from c = let p = place (goal.at.offset_bounds-frame-from c).In-loop-h in let w = c.wide.ensures in omega arith
 
 pub slice_bounds-all_hold-count : goal.slice_bounds-all_hold-count
-slice_bounds-all_hold-count c = let p = place c.before.before in let w = c.wide.ensures in omega arith
+slice_bounds-all_hold-count c = let p = place (goal.at.slice_bounds-all_hold-count c).In-loop-h in let w = c.wide.ensures in omega arith
 
 pub slice_bounds-all_hold-start : goal.slice_bounds-all_hold-start
-slice_bounds-all_hold-start c = let p = place c.before.before in let w = c.wide.ensures in omega arith
+slice_bounds-all_hold-start c = let p = place (goal.at.slice_bounds-all_hold-start c).In-loop-h in let w = c.wide.ensures in omega arith
 
 pub slice_bounds-all_hold-end : goal.slice_bounds-all_hold-end
-slice_bounds-all_hold-end c = let p = place c.before.before in let w = c.wide.ensures in omega arith
+slice_bounds-all_hold-end c = let p = place (goal.at.slice_bounds-all_hold-end c).In-loop-h in let w = c.wide.ensures in omega arith
 
 pub returns-then-not-all_hold : goal.returns-then-not-all_hold
-returns-then-not-all_hold c = tested_out _ _ c.loop-h.h c.loop-h-test.true (tested c.before ∙ not-true _ c.if-not-all_hold.true)
+returns-then-not-all_hold c =
+    tested_out _ _ c.loop-h.h c.loop-h-test.true (tested (goal.at.returns-then-not-all_hold c).After-all_hold ∙ c.if-not-all_hold.true)
 
 pub loop-h-preserved : goal.loop-h-preserved
 loop-h-preserved c =
     let at = c.loop-h in
-    tested-pass _ _ at.h true at.invariant c.loop-h-test.true true refl (tested c.before ∙ not-false _ c.if-not-all_hold.false)
+    tested-pass _ _ at.h true at.invariant c.loop-h-test.true true refl (tested (goal.at.loop-h-preserved c).After-all_hold ∙ c.if-not-all_hold.false)
 
 pub returns : goal.returns
 returns c = tested-all _ _ _ _ c.loop-h.invariant c.loop-h-test.false

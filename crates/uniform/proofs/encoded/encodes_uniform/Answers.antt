@@ -2,16 +2,10 @@
 use mathlib.Core.Path.{refl, sym, ap₂, ◌∙◌}
 use mathlib.Core.Bool.{◌&&◌}
 use native.Mathlib.Omega.{arith}
-use borrow.Author.Tests.{not-true, not-false}
 use Rattle.frame.proofs.RowPlace.{row-place}
 use Rattle.frame.proofs.Shapes.{shape-ranges}
 use Rattle.frame.proofs.UniformFrames.{last-small, uniform-encoded}
 use Rattle.uniform.proofs.encoded.encodes_uniform.Goals as goal
-use Rattle.uniform.proofs.encoded.encodes_uniform.Goals.{After-data_hold, Start}
-
--- the way back
-abbrev start_of : After-data_hold → Start
-start_of c = c.before.before.before.before
 
 pub overflow_sub-a : goal.overflow_sub-a
 overflow_sub-a c = omega (arith, (shape-ranges _ c.requires.shape).columns-least)
@@ -31,16 +25,15 @@ data_hold-requires c = let asked = c.requires in (asked.shape, asked.whole)
 
 pub returns-then-not-data_hold : goal.returns-then-not-data_hold
 returns-then-not-data_hold c =
-    let asked = (start_of c.before).requires in
+    let asked = c.requires in
     sym (uniform-encoded _ asked.shape _ asked.whole asked.small
-    ∙ ap₂ ◌&&◌ (sym c.data_hold.ensures ∙ not-true _ c.if-not-data_hold.true) refl)
+    ∙ ap₂ ◌&&◌ (sym c.data_hold.ensures ∙ c.if-not-data_hold.true) refl)
 
 pub checks_coded-requires : goal.checks_coded-requires
-checks_coded-requires c = let asked = (start_of c.before).requires in (asked.shape, last-small _ asked.shape _ asked.whole asked.small)
+checks_coded-requires c = let asked = c.requires in (asked.shape, last-small _ asked.shape _ asked.whole asked.small)
 
 pub returns : goal.returns
 returns c =
-    let held = c.before in
-    let asked = (start_of held.before).requires in
+    let asked = c.requires in
     sym (uniform-encoded _ asked.shape _ asked.whole asked.small
-    ∙ ap₂ ◌&&◌ (sym held.data_hold.ensures ∙ not-false _ held.if-not-data_hold.false) (sym c.checks_coded.ensures))
+    ∙ ap₂ ◌&&◌ (sym c.data_hold.ensures ∙ c.if-not-data_hold.false) (sym c.checks_coded.ensures))

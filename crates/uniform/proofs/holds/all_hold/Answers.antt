@@ -1,6 +1,5 @@
 use mathlib.Core.Path.{refl}
 use mathlib.Core.Bool.{true}
-use Prim.Native.Nat.{◌-◌}
 use borrow.Author.Tests.{eq-eqb, ne_eqb}
 use Rattle.lists.proofs.Testing.{tested-none, tested_out, tested-pass, tested-all}
 use Rattle.uniform.proofs.holds.all_hold.Goals as goal

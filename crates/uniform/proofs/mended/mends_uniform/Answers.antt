@@ -3,7 +3,6 @@ use mathlib.Core.Path.{◌≡◌, refl, sym, ap, ap₂, ◌∙◌}
 use mathlib.Core.Bool.{false, not, ◌&&◌}
 use Prim.Native.Nat.{◌<◌}
 use native.Mathlib.Omega.{arith}
-use borrow.Author.Tests.{not-true, not-false}
 use Rattle.columns.specs.Columns.{either, has}
 use Rattle.columns.specs.Listed.{least}
 use Rattle.columns.specs.declared.Columns.{Columns}
@@ -14,62 +13,53 @@ use Rattle.frame.proofs.Shapes.{shape-ranges}
 use Rattle.columns.proofs.FirstOutside.{first-inside, first_out}
 use Rattle.uniform.proofs.MendedColumns.{fewer, read, summed_sets}
 use Rattle.uniform.proofs.mended.mends_uniform.Goals as goal
-use Rattle.uniform.proofs.mended.mends_uniform.Goals.{After-first_outside, After-rows_hold, Start}
-
--- the ways back
-abbrev start_of : After-first_outside → Start
-start_of c = c.before.before.before.before
-
-abbrev looked : After-rows_hold → After-first_outside
-looked c = c.before.before
+use Rattle.uniform.proofs.mended.mends_uniform.Goals.{After-first_outside}
 
 -- the cell that is looked at first: within row 0, and neither marked nor declared
 first : (c : After-first_outside) →
-    let args = (start_of c).args in
+    let args = c.args in
     c.first_outside.result ≡ least args.s.columns (λ k. not (has (either args.marked (declared_by args.declared.now 0)) k))
 first c =
-    let args = (start_of c).args in
+    let args = c.args in
     c.first_outside.ensures
     ∙ ap (λ (J : Columns). least args.s.columns (λ k. not (has J k)))
     (c.either.ensures ∙ ap (either args.marked) c.cells_of.ensures)
 
-inside : (c : After-first_outside) → c.first_outside.result < (start_of c).args.s.columns
+inside : (c : After-first_outside) → c.first_outside.result < c.args.s.columns
 inside c =
-    let asked = (start_of c).requires in
+    let asked = c.requires in
     first-inside _ _ (shape-ranges _ asked.shape).columns-most (fewer _ _ _ _ asked) _ (first c)
 
 out : (c : After-first_outside) →
-    let args = (start_of c).args in
+    let args = c.args in
     has (either args.marked (declared_by args.declared.now 0)) c.first_outside.result ≡ false
 out c =
-    let asked = (start_of c).requires in
+    let asked = c.requires in
     first_out _ _ (shape-ranges _ asked.shape).columns-most (fewer _ _ _ _ asked) _ (first c)
 
 pub offset_bounds-frame-first_outside : goal.offset_bounds-frame-first_outside
-offset_bounds-frame-first_outside c = omega (arith, inside c, (shape-ranges _ (start_of c).requires.shape).columns-most)
+offset_bounds-frame-first_outside c = omega (arith, inside c, (shape-ranges _ c.requires.shape).columns-most)
 
 pub bounds-frame-first_outside : goal.bounds-frame-first_outside
 bounds-frame-first_outside c =
-    let asked = (start_of c.before).requires in
-    omega (arith, inside c.before, (row-place _ _ 0 asked.shape asked.whole (shape-ranges _ asked.shape).rows-least).inside)
+    let asked = c.requires in
+    omega (arith, inside (goal.at.bounds-frame-first_outside c).After-first_outside, (row-place _ _ 0 asked.shape asked.whole (shape-ranges _ asked.shape).rows-least).inside)
 
 pub rows_hold-requires : goal.rows_hold-requires
-rows_hold-requires c = (start_of c.before).requires
+rows_hold-requires c = c.requires
 
 pub returns-then-not-rows_hold : goal.returns-then-not-rows_hold
 returns-then-not-rows_hold c =
-    let seen = looked c.before in
-    let asked = (start_of seen).requires in
-    sym (uniform-mended _ asked.shape _ _ (read _ _ _ _ asked) _ asked.below _ (inside seen) (out seen)
-    ∙ ap₂ ◌&&◌ (sym c.rows_hold.ensures ∙ not-true _ c.if-not-rows_hold.true) refl)
+    let asked = c.requires in
+    sym (uniform-mended _ asked.shape _ _ (read _ _ _ _ asked) _ asked.below _ (inside (goal.at.returns-then-not-rows_hold c).After-first_outside) (out (goal.at.returns-then-not-rows_hold c).After-first_outside)
+    ∙ ap₂ ◌&&◌ (sym c.rows_hold.ensures ∙ c.if-not-rows_hold.true) refl)
 
 pub sets_coded-requires : goal.sets_coded-requires
-sets_coded-requires c = let seen = looked c.before in summed_sets _ _ _ _ (start_of seen).requires _ (inside seen) (out seen)
+sets_coded-requires c =
+    summed_sets _ _ _ _ c.requires _ (inside (goal.at.sets_coded-requires c).After-first_outside) (out (goal.at.sets_coded-requires c).After-first_outside)
 
 pub returns : goal.returns
 returns c =
-    let held = c.before in
-    let seen = looked held.before in
-    let asked = (start_of seen).requires in
-    sym (uniform-mended _ asked.shape _ _ (read _ _ _ _ asked) _ asked.below _ (inside seen) (out seen)
-    ∙ ap₂ ◌&&◌ (sym held.rows_hold.ensures ∙ not-false _ held.if-not-rows_hold.false) (sym c.sets_coded.ensures))
+    let asked = c.requires in
+    sym (uniform-mended _ asked.shape _ _ (read _ _ _ _ asked) _ asked.below _ (inside (goal.at.returns c).After-first_outside) (out (goal.at.returns c).After-first_outside)
+    ∙ ap₂ ◌&&◌ (sym c.rows_hold.ensures ∙ c.if-not-rows_hold.false) (sym c.sets_coded.ensures))

@@ -1,39 +1,29 @@
 use mathlib.Core.Path.{◌≡◌, refl, ap, ◌∙◌}
 use mathlib.Core.Bool.{true}
-use Prim.Native.Nat.{◌-◌}
 use native.Mathlib.Omega.{arith}
 use lib.ListN.{length}
-use borrow.Author.Tests.{not-true, not-false}
 use Rattle.columns.specs.Columns.{either}
 use Rattle.frame.proofs.RowPlace.{RowPlace, row-place}
 use Rattle.lists.proofs.Testing.{tested-none, tested_out, tested-pass, tested-all}
 use Rattle.frame.proofs.KeptRows.{row-held}
 use Rattle.uniform.proofs.mended.rows_hold.Goals as goal
-use Rattle.uniform.proofs.mended.rows_hold.Invariants.{rowHolds}
-use Rattle.uniform.proofs.mended.rows_hold.Goals.{After-kept_hold, In-loop-h, Start}
-
--- the ways back
-abbrev start_of : In-loop-h → Start
-start_of c = c.before.before.before
-
-abbrev in-loop : After-kept_hold → In-loop-h
-in-loop c = c.before.before.before.before
+use Rattle.uniform.proofs.mended.rows_hold.Invariants.{row_holds}
+use Rattle.uniform.proofs.mended.rows_hold.Goals.{After-kept_hold, In-loop-h}
 
 place : (c : In-loop-h) →
-    let args = (start_of c).args in
+    let args = c.args in
     RowPlace args.s (length args.frame.now) c.loop-h.h
 place c =
-    let start = start_of c in
-    row-place start.args.s (length start.args.frame.now) c.loop-h.h start.requires.shape start.requires.whole c.loop-h-test.true
+    row-place c.args.s (length c.args.frame.now) c.loop-h.h c.requires.shape c.requires.whole c.loop-h-test.true
 
 -- what is told of the row
 tested : (c : After-kept_hold) →
-    let inside = in-loop c in
-    let args = (start_of inside).args in
-    rowHolds args.s.columns args.declared.now args.marked args.frame.now args.a inside.loop-h.h ≡ c.kept_hold_lem.result
+    let args = c.args in
+    row_holds args.s.columns args.declared.now args.marked args.frame.now args.a c.loop-h.h ≡ c.kept_hold.result
 tested c =
-    let marked = (start_of (in-loop c)).args.marked in
-    row-held _ _ _ (place (in-loop c)) _ _ (c.either-set.ensures ∙ ap (either marked) c.cells_of.ensures) _ _ c.kept_hold_lem.ensures
+    let marked = c.args.marked in
+    row-held _ _ _
+    (row-place c.args.s (length c.args.frame.now) c.loop-h.h c.requires.shape c.requires.whole c.loop-h-test.true) _ _ (c.either-set.ensures ∙ ap (either marked) c.cells_of.ensures) _ _ c.kept_hold.ensures
 
 pub loop-h-init : goal.loop-h-init
 loop-h-init c = tested-none _ _
@@ -48,24 +38,22 @@ pub cells_of-requires : goal.cells_of-requires
 cells_of-requires c = let p = place c in omega arith
 
 pub offset_bounds-frame-from : goal.offset_bounds-frame-from
-offset_bounds-frame-from c = let p = place c.before.before in omega arith
+offset_bounds-frame-from c = let p = place (goal.at.offset_bounds-frame-from c).In-loop-h in omega arith
 
 pub slice_bounds-kept_hold-start : goal.slice_bounds-kept_hold-start
-slice_bounds-kept_hold-start c = let p = place c.before.before in omega arith
+slice_bounds-kept_hold-start c = let p = place (goal.at.slice_bounds-kept_hold-start c).In-loop-h in omega arith
 
 pub slice_bounds-kept_hold-end : goal.slice_bounds-kept_hold-end
-slice_bounds-kept_hold-end c = let p = place c.before.before in omega arith
+slice_bounds-kept_hold-end c = let p = place (goal.at.slice_bounds-kept_hold-end c).In-loop-h in omega arith
 
 pub returns-then-not-kept_hold : goal.returns-then-not-kept_hold
 returns-then-not-kept_hold c =
-    let inside = in-loop c.before in
-    tested_out _ _ inside.loop-h.h inside.loop-h-test.taken (tested c.before ∙ not-true _ c.if-not-kept_hold.true)
+    tested_out _ _ c.loop-h.h c.loop-h-test.true (tested (goal.at.returns-then-not-kept_hold c).After-kept_hold ∙ c.if-not-kept_hold.true)
 
 pub loop-h-preserved : goal.loop-h-preserved
 loop-h-preserved c =
-    let inside = in-loop c.before in
-    let at = inside.loop-h in
-    tested-pass _ _ at.h true at.inv inside.loop-h-test.taken true refl (tested c.before ∙ not-false _ c.if-not-kept_hold.false)
+    let at = c.loop-h in
+    tested-pass _ _ at.h true at.invariant c.loop-h-test.true true refl (tested (goal.at.loop-h-preserved c).After-kept_hold ∙ c.if-not-kept_hold.false)
 
 pub returns : goal.returns
 returns c = tested-all _ _ _ _ c.loop-h.invariant c.loop-h-test.false

@@ -12,11 +12,11 @@ use Rattle.lists.proofs.Testing.{Tested}
 use Rattle.uniform.proofs.mended.rows_hold.Given as goal
 
 -- whether the cells of row h outside its marked and declared columns hold a
-abbrev pub rowHolds : (n : ℕ) (declared : List ℕ) (M : Columns) (f : List ℕ) (a h : ℕ) → Bool
-rowHolds n declared M f a h = every n (λ k. has (either M (declared_by declared h)) k || eqb (cell n f h k) a)
+abbrev pub row_holds : (n : ℕ) (declared : List ℕ) (M : Columns) (f : List ℕ) (a h : ℕ) → Bool
+row_holds n declared M f a h = every n (λ k. has (either M (declared_by declared h)) k || eqb (cell n f h k) a)
 
 abbrev pub invariant-loop-h : goal.invariant-loop-h
-invariant-loop-h l = Tested l.rows (rowHolds l.columns l.declared l.marked l.frame l.a) l.h true
+invariant-loop-h l = Tested l.rows (row_holds l.columns l.declared l.marked l.frame l.a) l.h true
 
 abbrev pub decreases-loop-h : goal.decreases-loop-h
 decreases-loop-h l = l.rows - l.h
