@@ -20,13 +20,12 @@ returns-then-states-k-eq3 c =
     sym (ap number_of (looks_here _ _ (c.loop-i.invariant.1 extents checks marks) (let less = c.loop-i-test.true in omega arith) here))
 
 pub loop-i-preserved : goal.loop-i-preserved
-loop-i-preserved c =
-    (
-      omega arith,
-      λ extents checks marks.
-          let here = others-not (numbers-here (goal.at.loop-i-preserved c).In-loop-i extents checks marks) c.if-states-k-eq3.false in
-          looks_on _ _ (c.loop-i.invariant.1 extents checks marks) (let less = c.loop-i-test.true in omega arith) here,
-    )
+loop-i-preserved c = (
+  omega arith,
+  λ extents checks marks.
+      let here = others-not (numbers-here (goal.at.loop-i-preserved c).In-loop-i extents checks marks) c.if-states-k-eq3.false in
+      looks_on _ _ (c.loop-i.invariant.1 extents checks marks) (let less = c.loop-i-test.true in omega arith) here,
+)
 
 pub loop-i-init : goal.loop-i-init
 loop-i-init c = (omega arith, λ extents checks marks. looks_first _ _)

@@ -30,7 +30,7 @@ values-v-requires c = factors _ _ _ _ _ _ c.requires
 pub loop-i-init : goal.loop-i-init
 loop-i-init c =
     elim c.if-columns-end.branch [
-      then-columns-end w ↦ starts-cut _ _ _ _ _ _ c.requires _ w.if-columns-end.true w.to-is
+      | then-columns-end w ↦ starts-cut _ _ _ _ _ _ c.requires _ w.if-columns-end.true w.to-is
       | else-columns-end w ↦ starts-whole _ _ _ _ _ _ c.requires _ w.if-columns-end.false w.to-is
     ]
 
@@ -51,10 +51,10 @@ loop-i-preserved c =
     let t = c.loop-i-test.true in
     let inside = (goal.at.loop-i-preserved c).In-loop-i in
     elim c.if-v-i-eq0.branch [
-      then-v-i-eq0+else-left-eq0 w ↦
-        let more = w.if-left-eq0.false in
-        block-root _ _ _ _ at.i at.left _ at.invariant t (root inside w.if-v-i-eq0.true) _ (ap marking w.words-is ∙ w.mark.ensures) _ (omega arith)
-        w.left-is
+      | then-v-i-eq0+else-left-eq0 w ↦
+          let more = w.if-left-eq0.false in
+          block-root _ _ _ _ at.i at.left _ at.invariant t (root inside w.if-v-i-eq0.true) _ (ap marking w.words-is ∙ w.mark.ensures) _ (omega arith)
+          w.left-is
       | else-v-i-eq0 w ↦ block-other _ _ _ _ at.i at.left _ at.invariant t _ _ (other inside w.if-v-i-eq0.false) w.words-is w.left-is
     ]
 

@@ -11,7 +11,7 @@ pub loop-k-preserved : goal.loop-k-preserved
 loop-k-preserved c =
     let at = c.loop-k in
     elim c.if-sums-k-gt256.branch [
-      then-sums-k-gt256 w ↦ tested_fail _ _ at.k at.all at.invariant c.loop-k-test.true _ w.all-is (no-residue _ w.if-sums-k-gt256.true)
+      | then-sums-k-gt256 w ↦ tested_fail _ _ at.k at.all at.invariant c.loop-k-test.true _ w.all-is (no-residue _ w.if-sums-k-gt256.true)
       | else-sums-k-gt256 w ↦ tested-pass _ _ at.k at.all at.invariant c.loop-k-test.true _ w.all-is (residue _ w.if-sums-k-gt256.false)
     ]
 

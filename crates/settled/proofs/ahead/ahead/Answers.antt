@@ -37,12 +37,15 @@ take_off-requires c =
     let pre = c.requires in
     let few = c.padded-end.ensures.few in
     let sums = c.loop-i.invariant.1 in
-    record { odd = record { modulus = pre.modulus; not-two = pre.not-two; lent = pre.lent; factor = tap-less c }; cells = record {
+    record {
+      odd = record { modulus = pre.modulus; not-two = pre.not-two; lent = pre.lent; factor = tap-less c };
+      cells = record {
         width = sums.width;
         residues = sums.residues;
         within = omega (arith, pre.within, few);
         inside = omega (arith, pre.sequence, pre.within, few);
-      } }
+      };
+    }
 
 pub overflow_add-i : goal.overflow_add-i
 overflow_add-i c = record { fits = omega (arith, c.requires.within) }

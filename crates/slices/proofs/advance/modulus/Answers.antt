@@ -4,8 +4,7 @@ use native.Mathlib.Omega.{arith}
 use Rattle.slices.proofs.advance.modulus.Goals as goal
 
 pub returns : goal.returns
-returns c =
-    (
+returns c = (
   refl,
   record {
     taken = record { two_or_more = omega arith; modulus = omega arith; odd = λ _. refl };

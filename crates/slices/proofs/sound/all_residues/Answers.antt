@@ -11,7 +11,7 @@ pub loop-i-preserved : goal.loop-i-preserved
 loop-i-preserved c =
     let at = c.loop-i in
     elim c.if-taps-i-gt256.branch [
-      then-taps-i-gt256 w ↦ tested_fail _ _ at.i at.all at.invariant c.loop-i-test.true _ w.all-is (no-residue _ w.if-taps-i-gt256.true)
+      | then-taps-i-gt256 w ↦ tested_fail _ _ at.i at.all at.invariant c.loop-i-test.true _ w.all-is (no-residue _ w.if-taps-i-gt256.true)
       | else-taps-i-gt256 w ↦ tested-pass _ _ at.i at.all at.invariant c.loop-i-test.true _ w.all-is (residue _ w.if-taps-i-gt256.false)
     ]
 

@@ -11,7 +11,7 @@ pub loop-i-preserved : goal.loop-i-preserved
 loop-i-preserved c =
     let at = c.loop-i in
     elim c.if-x-from-ne0.branch [
-      then-x-from-ne0 w ↦ tested_fail _ _ at.i at.all at.invariant c.loop-i-test.true _ w.all-is (ne_eqb _ _ w.if-x-from-ne0.true)
+      | then-x-from-ne0 w ↦ tested_fail _ _ at.i at.all at.invariant c.loop-i-test.true _ w.all-is (ne_eqb _ _ w.if-x-from-ne0.true)
       | else-x-from-ne0 w ↦ tested-pass _ _ at.i at.all at.invariant c.loop-i-test.true _ w.all-is (eq-eqb _ _ w.if-x-from-ne0.false)
     ]
 

@@ -11,7 +11,7 @@ pub loop-h-preserved : goal.loop-h-preserved
 loop-h-preserved c =
     let at = c.loop-h in
     elim c.if-lengths-h.branch [
-      then-lengths-h w ↦ tested_fail _ _ at.h at.all at.invariant c.loop-h-test.true _ w.all-is (lt-leb _ _ w.if-lengths-h.true)
+      | then-lengths-h w ↦ tested_fail _ _ at.h at.all at.invariant c.loop-h-test.true _ w.all-is (lt-leb _ _ w.if-lengths-h.true)
       | else-lengths-h w ↦ tested-pass _ _ at.h at.all at.invariant c.loop-h-test.true _ w.all-is (le-leb _ _ w.if-lengths-h.false)
     ]
 
