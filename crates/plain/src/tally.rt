@@ -2,6 +2,7 @@
 ghost use Rattle.std.specs.Prelude.{◌≡◌, ◌+◌, ◌%◌, if◌then◌else◌, slice_index, slice_set};
 
 use crate::values::get;
+use std::io;
 
 // Adds to count i, if it is so.
 pub fn count(counts: &mut [u64], i: usize, so: bool)
@@ -13,37 +14,44 @@ pub fn count(counts: &mut [u64], i: usize, so: bool)
 }
 
 // A text and the count that it names.
-pub fn print(text: &[u8], counts: &[u64], i: usize) {
-    io::write_all(1, text);
+pub fn print(rt: &impl Print, text: &[u8], counts: &[u64], i: usize) -> io::Result<()> {
+    rt.write_all(text)?;
     if i < counts.len() {
-        io::print_decimal(1, counts[i]);
+        let n = counts[i];
+        print!(rt; "{n}")?;
     }
+    Ok(())
 }
 
 // A text and the values of a list.
-pub fn print_list(text: &[u8], a: &[u16]) {
-    io::write_all(1, text);
+pub fn print_list(rt: &impl Print, text: &[u8], a: &[u16]) -> io::Result<()> {
+    rt.write_all(text)?;
     for i in 0..a.len() {
-        io::write_all(1, b" ");
-        io::print_decimal(1, get(a, i) as u64);
+        let v = get(a, i);
+        print!(rt; " {v}")?;
     }
+    Ok(())
 }
 
 // A text, a shape and a frame.
-pub fn print_frame(text: &[u8], exponent: u32, columns: u16, checks: &[u16], frame: &[u16]) {
-    io::write_all(1, text);
-    io::write_all(1, b": columns ");
-    io::print_decimal(1, columns as u64);
-    print_list(b", checks", checks);
-    io::write_all(1, b", exponent ");
-    io::print_decimal(1, exponent as u64);
-    print_list(b", frame", frame);
-    io::write_all(1, b"\n");
+pub fn print_frame(
+    rt: &impl Print,
+    text: &[u8],
+    exponent: u32,
+    columns: u16,
+    checks: &[u16],
+    frame: &[u16],
+) -> io::Result<()> {
+    rt.write_all(text)?;
+    print!(rt; ": columns {columns}")?;
+    print_list(rt, b", checks", checks)?;
+    print!(rt; ", exponent {exponent}")?;
+    print_list(rt, b", frame", frame)?;
+    println!(rt)
 }
 
 // Whether anything disagreed, in the last line of a run.
-pub fn print_end(agreed: bool) {
-    io::write_all(1, b"disagreements ");
-    io::print_decimal(1, !agreed as u64);
-    io::write_all(1, b"\n");
+pub fn print_end(rt: &impl Print, agreed: bool) -> io::Result<()> {
+    let n = !agreed as u8;
+    println!(rt; "disagreements {n}")
 }
