@@ -8,6 +8,7 @@ use plain::random::{draw, draw_exponent, draw_from, fill_from};
 use plain::tally::{count, print_frame};
 use plain::values::{copy, first, minus, part, put, remainder, set};
 use plain_frames::damage::damage;
+use std::io;
 
 #[derive(Clone, Copy)]
 enum Call {
@@ -165,73 +166,93 @@ fn call_on(call: Call, pair: Pair, frame: &mut [u16], counts: &mut [u64]) -> Pai
 
 // A call on a copy of the frame. What it leaves stands in the room if it is not refused.
 fn call_lent(
+    rt: &impl Print,
     state: &mut u64,
     call: Call,
     pair: Pair,
     room: &mut [u16],
     counts: &mut [u64],
-) -> Pair {
+) -> io::Result<Pair> {
     let n = draw_size(state, size(pair.model));
     let mut lent = [0u16; 512];
     copy(room, &mut lent, 0);
     spoil(state, &mut lent, n);
     let next = call_on(call, pair, first(&mut lent, n), counts);
     if !next.agree {
-        show(pair.model, part(&lent, 0, n));
+        show(rt, pair.model, part(&lent, 0, n))?;
     }
     if !next.refused {
         copy(&lent, room, 0);
     }
-    next
+    Ok(next)
 }
 
 // Prints the frame of a disagreement.
-fn show(model: Model, frame: &[u16]) {
+fn show(rt: &impl Print, model: Model, frame: &[u16]) -> io::Result<()> {
     let checks = model.checks;
     let lent = part(&checks, 0, model.rows as usize);
     print_frame(
+        rt,
         b"calls disagree",
         model.exponent,
         model.columns,
         lent,
         frame,
-    );
+    )
 }
 
-fn next(state: &mut u64, pair: Pair, room: &mut [u16], counts: &mut [u64]) -> Pair {
+fn next(
+    rt: &impl Print,
+    state: &mut u64,
+    pair: Pair,
+    room: &mut [u16],
+    counts: &mut [u64],
+) -> io::Result<Pair> {
     let model = pair.model;
     let call = draw_call(state, model.phase);
     match call {
-        Call::Shape => call_shape(state, pair, counts),
+        Call::Shape => Ok(call_shape(state, pair, counts)),
         _ => {
             prepare(state, call, model, room);
-            call_lent(state, call, pair, room, counts)
+            call_lent(rt, state, call, pair, room, counts)
         }
     }
 }
 
 // A list of n calls from an empty job.
-fn list(state: &mut u64, planted: bool, n: u16, counts: &mut [u64]) -> bool {
+fn list(
+    rt: &impl Print,
+    state: &mut u64,
+    planted: bool,
+    n: u16,
+    counts: &mut [u64],
+) -> io::Result<bool> {
     let mut frame = [0u16; 512];
     let room: &mut [u16] = &mut frame;
     let mut pair = against::start(planted);
     for _ in 0..n {
-        pair = next(state, pair, room, counts);
+        pair = next(rt, state, pair, room, counts)?;
         if !pair.agree {
-            return false;
+            return Ok(false);
         }
     }
-    true
+    Ok(true)
 }
 
 // Lists of 10 to 30 calls against the model, or the planted one.
-pub(crate) fn random(state: &mut u64, planted: bool, lists: usize, counts: &mut [u64]) -> bool {
+pub(crate) fn random(
+    rt: &impl Print,
+    state: &mut u64,
+    planted: bool,
+    lists: usize,
+    counts: &mut [u64],
+) -> io::Result<bool> {
     for _ in 0..lists {
         count(counts, LISTS, true);
         let n = draw_from(state, 10, 21);
-        if !list(state, planted, n, counts) {
-            return false;
+        if !list(rt, state, planted, n, counts)? {
+            return Ok(false);
         }
     }
-    true
+    Ok(true)
 }

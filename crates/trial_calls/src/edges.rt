@@ -6,6 +6,7 @@ use plain::tally::{count, print_list};
 use plain::values::{first, get, minus, part, plus_product, put, set};
 use plain_frames::answers::{of_checked, of_reply};
 use plain_frames::compare::same;
+use std::io;
 use whole_job::Job;
 
 // What shape answers for rows of `checks` checks, but for the last row.
@@ -304,24 +305,24 @@ fn edges_of(kind: u16) -> u16 {
     }
 }
 
-fn try_kind(kind: u16, counts: &mut [u64]) -> bool {
+fn try_kind(rt: &impl Print, kind: u16, counts: &mut [u64]) -> io::Result<bool> {
     for i in 0..edges_of(kind) {
         count(counts, EDGES, true);
         if !edge(kind, i) {
             let place = [kind, i];
-            print_list(b"edges disagree: kind and number", &place);
-            io::write_all(1, b"\n");
-            return false;
+            print_list(rt, b"edges disagree: kind and number", &place)?;
+            println!(rt)?;
+            return Ok(false);
         }
     }
-    true
+    Ok(true)
 }
 
-pub(crate) fn try_all(counts: &mut [u64]) -> bool {
+pub(crate) fn try_all(rt: &impl Print, counts: &mut [u64]) -> io::Result<bool> {
     for kind in 0..5u16 {
-        if !try_kind(kind, counts) {
-            return false;
+        if !try_kind(rt, kind, counts)? {
+            return Ok(false);
         }
     }
-    true
+    Ok(true)
 }

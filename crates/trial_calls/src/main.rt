@@ -10,44 +10,48 @@ mod tallies;
 
 use plain::tally::{print, print_end};
 use plain::values::get;
+use std::io;
 
 // Runs everything up to the first disagreement.
-fn run(state: &mut u64, counts: &mut [u64]) -> bool {
-    if !edges::try_all(counts) {
-        return false;
+fn run(rt: &impl Print, state: &mut u64, counts: &mut [u64]) -> io::Result<bool> {
+    if !edges::try_all(rt, counts)? {
+        return Ok(false);
     }
-    call_lists::random(state, false, 2000, counts)
+    call_lists::random(rt, state, false, 2000, counts)
 }
 
 // How often each refusal of the calls on a job occurred.
-fn report_refusals(counts: &[u64]) {
+fn report_refusals(rt: &impl Print, counts: &[u64]) -> io::Result<()> {
     let numbers: [u16; 13] = [2, 5, 6, 32, 21, 22, 23, 7, 4, 24, 25, 34, 26];
     for k in 0..13 {
         let number = get(&numbers, k);
-        io::write_all(1, b"\nrefused by ");
-        io::print_decimal(1, number as u64);
-        print(b": ", counts, number as usize);
+        print!(rt; "\nrefused by {number}")?;
+        print(rt, b": ", counts, number as usize)?;
     }
+    Ok(())
 }
 
-fn report(counts: &[u64]) {
-    print(b"edges ", counts, tallies::EDGES);
-    print(b"\nlists of calls ", counts, tallies::LISTS);
-    print(b"\nshaped ", counts, tallies::RESHAPED);
-    print(b", encoded ", counts, tallies::ENCODED);
-    print(b", located ", counts, tallies::FOUND);
-    print(b", repaired ", counts, tallies::MENDED);
-    report_refusals(counts);
-    print(b", of repairs ", counts, tallies::DEAD);
-    io::write_all(1, b"\n");
+fn report(rt: &impl Print, counts: &[u64]) -> io::Result<()> {
+    print(rt, b"edges ", counts, tallies::EDGES)?;
+    print(rt, b"\nlists of calls ", counts, tallies::LISTS)?;
+    print(rt, b"\nshaped ", counts, tallies::RESHAPED)?;
+    print(rt, b", encoded ", counts, tallies::ENCODED)?;
+    print(rt, b", located ", counts, tallies::FOUND)?;
+    print(rt, b", repaired ", counts, tallies::MENDED)?;
+    report_refusals(rt, counts)?;
+    print(rt, b", of repairs ", counts, tallies::DEAD)?;
+    println!(rt)
 }
 
-fn main() {
+fn main(rt: HostRuntime) -> io::Result<()> {
     let mut state = 1u64;
     let mut counts = [0u64; 47];
-    let agreed = run(&mut state, &mut counts);
-    report(&counts);
-    print_end(agreed);
-    io::write_all(1, b"planted: ");
-    print_end(call_lists::random(&mut state, true, 100, &mut counts));
+    let agreed = run(&rt, &mut state, &mut counts)?;
+    report(&rt, &counts)?;
+    print_end(&rt, agreed)?;
+    print!(rt; "planted: ")?;
+    print_end(
+        &rt,
+        call_lists::random(&rt, &mut state, true, 100, &mut counts)?,
+    )
 }

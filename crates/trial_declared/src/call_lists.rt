@@ -11,6 +11,7 @@ use plain::random::{draw, draw_from};
 use plain::tally::count;
 use plain::values::{copy, first, minus, part, put, remainder, set};
 use plain_frames::damage::damage;
+use std::io;
 
 // A new shape with a frame that is encoded, a locate, or a repair.
 #[derive(Clone, Copy)]
@@ -87,7 +88,7 @@ fn prepare(state: &mut u64, call: Call, model: Model, room: &mut [u16]) {
 }
 
 // A locate with cells that are drawn.
-fn locate(state: &mut u64, pair: Pair, room: &[u16]) -> Pair {
+fn locate(rt: &impl Print, state: &mut u64, pair: Pair, room: &[u16]) -> io::Result<Pair> {
     let model = pair.model;
     let checks = model.checks;
     let words = cells::draw_cells(state, model.columns, part(&checks, 0, model.rows as usize));
@@ -96,12 +97,12 @@ fn locate(state: &mut u64, pair: Pair, room: &[u16]) -> Pair {
     spoil(state, model, &words, &mut lent);
     let frame = part(&lent, 0, draw_size(state, size(model)));
     let next = against::locate(pair, &words, frame);
-    show_unless(next.agree, model, &words, frame);
-    next
+    show_unless(rt, next.agree, model, &words, frame)?;
+    Ok(next)
 }
 
 // A repair with the cells that the job holds. What it leaves stands in the room if it is not refused.
-fn repair(state: &mut u64, pair: Pair, room: &mut [u16]) -> Pair {
+fn repair(rt: &impl Print, state: &mut u64, pair: Pair, room: &mut [u16]) -> io::Result<Pair> {
     let model = pair.model;
     let words = model.words;
     let mut lent = [0u16; 2048];
@@ -109,18 +110,24 @@ fn repair(state: &mut u64, pair: Pair, room: &mut [u16]) -> Pair {
     spoil(state, model, &words, &mut lent);
     let n = draw_size(state, size(model));
     let next = against::repair(pair, first(&mut lent, n));
-    show_unless(next.agree, model, &words, part(&lent, 0, n));
+    show_unless(rt, next.agree, model, &words, part(&lent, 0, n))?;
     if next.number == 0 {
         copy(&lent, room, 0);
     }
-    next
+    Ok(next)
 }
 
-fn call_on(state: &mut u64, call: Call, pair: Pair, room: &mut [u16]) -> Pair {
+fn call_on(
+    rt: &impl Print,
+    state: &mut u64,
+    call: Call,
+    pair: Pair,
+    room: &mut [u16],
+) -> io::Result<Pair> {
     match call {
-        Call::Renew => draw_frame(state, pair, Size::Middle, room),
-        Call::Locate => locate(state, pair, room),
-        Call::Repair => repair(state, pair, room),
+        Call::Renew => Ok(draw_frame(state, pair, Size::Middle, room)),
+        Call::Locate => locate(rt, state, pair, room),
+        Call::Repair => repair(rt, state, pair, room),
     }
 }
 
@@ -132,38 +139,56 @@ fn is_dead(call: Call, number: u32) -> bool {
     }
 }
 
-fn next(state: &mut u64, pair: Pair, room: &mut [u16], counts: &mut [u64]) -> Pair {
+fn next(
+    rt: &impl Print,
+    state: &mut u64,
+    pair: Pair,
+    room: &mut [u16],
+    counts: &mut [u64],
+) -> io::Result<Pair> {
     let model = pair.model;
     let call = draw_call(state, model.phase);
     prepare(state, call, model, room);
-    let next = call_on(state, call, pair, room);
+    let next = call_on(rt, state, call, pair, room)?;
     tally(next.number, kind_of(call), counts);
     count(counts, DEAD, is_dead(call, next.number));
-    next
+    Ok(next)
 }
 
 // A list of n calls from an empty job.
-fn list(state: &mut u64, planted: u16, n: u16, counts: &mut [u64]) -> bool {
+fn list(
+    rt: &impl Print,
+    state: &mut u64,
+    planted: u16,
+    n: u16,
+    counts: &mut [u64],
+) -> io::Result<bool> {
     let mut frame = [0u16; 2048];
     let room: &mut [u16] = &mut frame;
     let mut pair = against::empty(planted);
     for _ in 0..n {
-        pair = next(state, pair, room, counts);
+        pair = next(rt, state, pair, room, counts)?;
         if !pair.agree {
-            return false;
+            return Ok(false);
         }
     }
-    true
+    Ok(true)
 }
 
 // Lists of 10 to 30 calls against the model, or a planted one.
-pub(crate) fn random(state: &mut u64, planted: u16, lists: usize, counts: &mut [u64]) -> bool {
+pub(crate) fn random(
+    rt: &impl Print,
+    state: &mut u64,
+    planted: u16,
+    lists: usize,
+    counts: &mut [u64],
+) -> io::Result<bool> {
     for _ in 0..lists {
         count(counts, LISTS, true);
         let n = draw_from(state, 10, 21);
-        if !list(state, planted, n, counts) {
-            return false;
+        if !list(rt, state, planted, n, counts)? {
+            return Ok(false);
         }
     }
-    true
+    Ok(true)
 }

@@ -3,33 +3,41 @@ use crate::model::Model;
 use plain::tally::print_frame;
 use plain::values::part;
 use plain_frames::cells::mark;
+use std::io;
 
 // The marks of the declared cells.
-fn show_cells(words: &[u64; 32]) {
-    io::write_all(1, b"cells");
+fn show_cells(rt: &impl Print, words: &[u64; 32]) -> io::Result<()> {
+    print!(rt; "cells")?;
     for k in 0..2048usize {
         if mark(words, k) == 1 {
-            io::write_all(1, b" ");
-            io::print_decimal(1, k as u64);
+            print!(rt; " {k}")?;
         }
     }
-    io::write_all(1, b"; ");
+    print!(rt; "; ")?;
+    Ok(())
 }
 
 // The cells, the shape and the frame, if calls do not agree on them.
-pub(crate) fn show_unless(agree: bool, model: Model, words: &[u64; 32], frame: &[u16]) -> bool {
+pub(crate) fn show_unless(
+    rt: &impl Print,
+    agree: bool,
+    model: Model,
+    words: &[u64; 32],
+    frame: &[u16],
+) -> io::Result<bool> {
     if agree {
-        return true;
+        return Ok(true);
     }
-    show_cells(words);
+    show_cells(rt, words)?;
     let checks = model.checks;
     let lent = part(&checks, 0, model.rows as usize);
     print_frame(
+        rt,
         b"calls disagree",
         model.exponent,
         model.columns,
         lent,
         frame,
-    );
-    false
+    )?;
+    Ok(false)
 }

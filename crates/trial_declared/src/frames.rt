@@ -14,6 +14,7 @@ use plain::values::{copy, first, get, minus, part};
 use plain_frames::compare::same;
 use plain_frames::damage::damage;
 use plain_frames::frames::check_sums;
+use std::io;
 
 fn smaller(a: usize, b: usize) -> usize {
     if a < b {
@@ -144,12 +145,13 @@ fn is_due(number: u32, w: u16, reach: usize) -> bool {
 
 // Declares cells of a legal or a uniform frame, damages it, and compares the answers about it.
 fn compare_damaged(
+    rt: &impl Print,
     state: &mut u64,
     pair: Pair,
     tiny: bool,
     original: &[u16],
     counts: &mut [u64],
-) -> bool {
+) -> io::Result<bool> {
     let model = pair.model;
     let list = model.checks;
     let checks = part(&list, 0, model.rows as usize);
@@ -160,23 +162,34 @@ fn compare_damaged(
     let n = model::size(model);
     let verdict = mends(pair, tiny, &words, first(&mut frame, n), original, due);
     tally_frame(verdict.number, due, counts);
-    show_unless(verdict.agree, model, &words, part(&frame, 0, n))
+    show_unless(rt, verdict.agree, model, &words, part(&frame, 0, n))
 }
 
-fn compare_drawn(state: &mut u64, size: Size, counts: &mut [u64]) -> bool {
+fn compare_drawn(
+    rt: &impl Print,
+    state: &mut u64,
+    size: Size,
+    counts: &mut [u64],
+) -> io::Result<bool> {
     let mut room = [0u16; 2048];
     let pair = draw_frame(state, against::empty(RIGHT), size, &mut room);
     if !pair.agree {
-        return false;
+        return Ok(false);
     }
-    compare_damaged(state, pair, is_tiny(size), &room, counts)
+    compare_damaged(rt, state, pair, is_tiny(size), &room, counts)
 }
 
-pub(crate) fn random(state: &mut u64, size: Size, n: usize, counts: &mut [u64]) -> bool {
+pub(crate) fn random(
+    rt: &impl Print,
+    state: &mut u64,
+    size: Size,
+    n: usize,
+    counts: &mut [u64],
+) -> io::Result<bool> {
     for _ in 0..n {
-        if !compare_drawn(state, size, counts) {
-            return false;
+        if !compare_drawn(rt, state, size, counts)? {
+            return Ok(false);
         }
     }
-    true
+    Ok(true)
 }

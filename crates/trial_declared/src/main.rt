@@ -17,63 +17,76 @@ mod tallies;
 use plain::tally::{print, print_end};
 use plain::values::get;
 use shapes::Size;
+use std::io;
 
 // Runs everything up to the first disagreement.
-fn run(state: &mut u64, counts: &mut [u64]) -> bool {
-    if !edges::try_all(counts) {
-        return false;
+fn run(rt: &impl Print, state: &mut u64, counts: &mut [u64]) -> io::Result<bool> {
+    if !edges::try_all(rt, counts)? {
+        return Ok(false);
     }
-    if !frames::random(state, Size::Tiny, 100, counts) {
-        return false;
+    if !frames::random(rt, state, Size::Tiny, 100, counts)? {
+        return Ok(false);
     }
-    if !frames::random(state, Size::Small, 2000, counts) {
-        return false;
+    if !frames::random(rt, state, Size::Small, 2000, counts)? {
+        return Ok(false);
     }
-    if !frames::random(state, Size::Large, 40, counts) {
-        return false;
+    if !frames::random(rt, state, Size::Large, 40, counts)? {
+        return Ok(false);
     }
-    if !frames::random(state, Size::Full, 20, counts) {
-        return false;
+    if !frames::random(rt, state, Size::Full, 20, counts)? {
+        return Ok(false);
     }
-    call_lists::random(state, model::RIGHT, 2000, counts)
+    call_lists::random(rt, state, model::RIGHT, 2000, counts)
 }
 
 // How often each refusal of locate and repair occurred.
-fn report_refusals(counts: &[u64]) {
+fn report_refusals(rt: &impl Print, counts: &[u64]) -> io::Result<()> {
     let numbers: [u16; 10] = [21, 22, 23, 7, 31, 4, 24, 25, 34, 26];
     for k in 0..10 {
         let number = get(&numbers, k);
-        io::write_all(1, b"\nrefused by ");
-        io::print_decimal(1, number as u64);
-        print(b": ", counts, number as usize);
+        print!(rt; "\nrefused by {number}")?;
+        print(rt, b": ", counts, number as usize)?;
     }
+    Ok(())
 }
 
-fn report(counts: &[u64]) {
-    print(b"edges ", counts, tallies::EDGES);
-    print(b"\nframes: damage in reach ", counts, tallies::IN_REACH);
-    print(b", past it ", counts, tallies::PAST_REACH);
-    print(b"\nlists of calls ", counts, tallies::LISTS);
-    print(b", shapes in them ", counts, tallies::RENEWED);
-    print(b"\nlocated ", counts, tallies::FOUND);
-    print(b", repaired in lists ", counts, tallies::MENDED);
-    report_refusals(counts);
-    print(b", of repairs ", counts, tallies::DEAD);
-    io::write_all(1, b"\n");
+fn report(rt: &impl Print, counts: &[u64]) -> io::Result<()> {
+    print(rt, b"edges ", counts, tallies::EDGES)?;
+    print(rt, b"\nframes: damage in reach ", counts, tallies::IN_REACH)?;
+    print(rt, b", past it ", counts, tallies::PAST_REACH)?;
+    print(rt, b"\nlists of calls ", counts, tallies::LISTS)?;
+    print(rt, b", shapes in them ", counts, tallies::RENEWED)?;
+    print(rt, b"\nlocated ", counts, tallies::FOUND)?;
+    print(rt, b", repaired in lists ", counts, tallies::MENDED)?;
+    report_refusals(rt, counts)?;
+    print(rt, b", of repairs ", counts, tallies::DEAD)?;
+    println!(rt)
 }
 
-fn main() {
+fn main(rt: HostRuntime) -> io::Result<()> {
     let mut state = 1u64;
     let mut counts = [0u64; 48];
-    let agreed = run(&mut state, &mut counts);
-    report(&counts);
-    print_end(agreed);
-    io::write_all(1, b"planted, rows not completed: ");
-    print_end(call_lists::random(&mut state, model::NOT_COMPLETED, 300, &mut counts));
-    io::write_all(1, b"planted, cells kept: ");
-    print_end(call_lists::random(&mut state, model::CELLS_KEPT, 300, &mut counts));
-    io::write_all(1, b"planted, exponent left out: ");
-    print_end(call_lists::random(&mut state, model::EXPONENT_LEFT_OUT, 300, &mut counts));
-    io::write_all(1, b"planted, symbols received judged: ");
-    print_end(call_lists::random(&mut state, model::RECEIVED_JUDGED, 300, &mut counts));
+    let agreed = run(&rt, &mut state, &mut counts)?;
+    report(&rt, &counts)?;
+    print_end(&rt, agreed)?;
+    print!(rt; "planted, rows not completed: ")?;
+    print_end(
+        &rt,
+        call_lists::random(&rt, &mut state, model::NOT_COMPLETED, 300, &mut counts)?,
+    )?;
+    print!(rt; "planted, cells kept: ")?;
+    print_end(
+        &rt,
+        call_lists::random(&rt, &mut state, model::CELLS_KEPT, 300, &mut counts)?,
+    )?;
+    print!(rt; "planted, exponent left out: ")?;
+    print_end(
+        &rt,
+        call_lists::random(&rt, &mut state, model::EXPONENT_LEFT_OUT, 300, &mut counts)?,
+    )?;
+    print!(rt; "planted, symbols received judged: ")?;
+    print_end(
+        &rt,
+        call_lists::random(&rt, &mut state, model::RECEIVED_JUDGED, 300, &mut counts)?,
+    )
 }

@@ -9,6 +9,7 @@ use plain_frames::answers::of_checked;
 use plain_frames::compare::{same, same_data};
 use plain_frames::damage::damage;
 use plain_frames::uniform::{constant, data_of_uniform, legal};
+use std::io;
 use whole_job::Job;
 
 // How large random frames are: of full size, of any size from 65 columns on, of at most seven columns, or of three columns with two checks
@@ -90,18 +91,20 @@ fn due(original: &[u16], sends: bool, w: u16, half: u16) -> &[u16] {
     part(original, 0, 0)
 }
 
-fn show(shape: RowShape, checks: &[u16], frame: &[u16]) {
+fn show(rt: &impl Print, shape: RowShape, checks: &[u16], frame: &[u16]) -> io::Result<()> {
     print_frame(
+        rt,
         b"frames disagree",
         shape.exponent,
         shape.columns,
         checks,
         frame,
-    );
+    )
 }
 
 // Damages a frame, which is legal or uniform, and compares the answers about it.
 fn compare_damaged(
+    rt: &impl Print,
     state: &mut u64,
     job: Job,
     shape: RowShape,
@@ -110,7 +113,7 @@ fn compare_damaged(
     sends: bool,
     base: &[u16],
     counts: &mut [u64],
-) -> bool {
+) -> io::Result<bool> {
     let half = least(checks) / 2;
     let w = draw_damaged(state, half);
     tally_damage(w, half, counts);
@@ -120,10 +123,10 @@ fn compare_damaged(
     let damaged = part(&room, 0, original.len());
     let due = due(original, sends, w, half);
     if agrees(job, shape, checks, damaged, due, base, counts) {
-        return true;
+        return Ok(true);
     }
-    show(shape, checks, damaged);
-    false
+    show(rt, shape, checks, damaged)?;
+    Ok(false)
 }
 
 // Data of a frame: random, or now and then one symbol throughout, often 0.
@@ -148,6 +151,7 @@ fn sent(room: [u16; 2048], n: usize, sends: bool) -> [u16; 2048] {
 
 // A random frame, encoded, damaged and compared. Each row has one of `spread` numbers of checks from `few` on.
 fn compare_random(
+    rt: &impl Print,
     state: &mut u64,
     shape: RowShape,
     rows: u16,
@@ -155,7 +159,7 @@ fn compare_random(
     spread: u16,
     base: &[u16],
     counts: &mut [u64],
-) -> bool {
+) -> io::Result<bool> {
     let mut list = [0u16; 8];
     fill_from(state, few, spread, &mut list, rows as usize);
     let checks = part(&list, 0, rows as usize);
@@ -167,18 +171,18 @@ fn compare_random(
     let sends = !data_of_uniform(exponent, shape.columns, checks, part(&room, 0, n));
     count(counts, REFUSED_34, !sends);
     if !encodes(shaped.job, shape, checks, &mut room, n, sends) {
-        show(shape, checks, part(&room, 0, n));
-        return false;
+        show(rt, shape, checks, part(&room, 0, n))?;
+        return Ok(false);
     }
     let other = sent(room, n, sends);
     let original = part(&other, 0, n);
     compare_damaged(
-        state, shaped.job, shape, checks, original, sends, base, counts,
+        rt, state, shaped.job, shape, checks, original, sends, base, counts,
     )
 }
 
 // A frame of two rows with three and two checks against a model that takes both for rows with three.
-fn compare_planted(state: &mut u64, counts: &mut [u64]) -> bool {
+fn compare_planted(rt: &impl Print, state: &mut u64, counts: &mut [u64]) -> io::Result<bool> {
     let shape = RowShape {
         columns: 6,
         exponent: 1,
@@ -192,13 +196,19 @@ fn compare_planted(state: &mut u64, counts: &mut [u64]) -> bool {
     let taken = [3u16, 3];
     let none = [0u16; 0];
     if agrees(shaped.job, shape, &taken, &room, &none, &none, counts) {
-        return true;
+        return Ok(true);
     }
-    show(shape, &checks, &room);
-    false
+    show(rt, shape, &checks, &room)?;
+    Ok(false)
 }
 
-fn compare_drawn(state: &mut u64, size: Size, base: &[u16], counts: &mut [u64]) -> bool {
+fn compare_drawn(
+    rt: &impl Print,
+    state: &mut u64,
+    size: Size,
+    base: &[u16],
+    counts: &mut [u64],
+) -> io::Result<bool> {
     let exponent = draw_exponent(state);
     match size {
         Size::Full => {
@@ -206,7 +216,7 @@ fn compare_drawn(state: &mut u64, size: Size, base: &[u16], counts: &mut [u64]) 
                 columns: 256,
                 exponent,
             };
-            compare_random(state, shape, 8, 64, 1, base, counts)
+            compare_random(rt, state, shape, 8, 64, 1, base, counts)
         }
         Size::Large => {
             let columns = draw_from(state, 65, 192);
@@ -214,14 +224,14 @@ fn compare_drawn(state: &mut u64, size: Size, base: &[u16], counts: &mut [u64]) 
             let few = draw_from(state, 33, 32);
             let spread = std::num::wrapping_sub_u16(65, few);
             let shape = RowShape { columns, exponent };
-            compare_random(state, shape, rows, few, spread, base, counts)
+            compare_random(rt, state, shape, rows, few, spread, base, counts)
         }
         Size::Small => {
             let most = draw_from(state, 1, 6);
             let columns = std::num::wrapping_add_u16(most, 1);
             let rows = draw_from(state, 1, 4);
             let shape = RowShape { columns, exponent };
-            compare_random(state, shape, rows, 1, most, base, counts)
+            compare_random(rt, state, shape, rows, 1, most, base, counts)
         }
         Size::Tiny(exponent) => {
             let rows = draw_from(state, 1, 2);
@@ -229,43 +239,55 @@ fn compare_drawn(state: &mut u64, size: Size, base: &[u16], counts: &mut [u64]) 
                 columns: 3,
                 exponent,
             };
-            compare_random(state, shape, rows, 2, 1, base, counts)
+            compare_random(rt, state, shape, rows, 2, 1, base, counts)
         }
-        Size::Planted => compare_planted(state, counts),
+        Size::Planted => compare_planted(rt, state, counts),
     }
 }
 
 pub(crate) fn random(
+    rt: &impl Print,
     state: &mut u64,
     size: Size,
     n: usize,
     base: &[u16],
     counts: &mut [u64],
-) -> bool {
+) -> io::Result<bool> {
     for _ in 0..n {
-        if !compare_drawn(state, size, base, counts) {
-            return false;
+        if !compare_drawn(rt, state, size, base, counts)? {
+            return Ok(false);
         }
     }
-    true
+    Ok(true)
 }
 
 // n frames of three columns against all legal frames.
-fn tiny(state: &mut u64, exponent: u32, n: usize, counts: &mut [u64]) -> bool {
+fn tiny(
+    rt: &impl Print,
+    state: &mut u64,
+    exponent: u32,
+    n: usize,
+    counts: &mut [u64],
+) -> io::Result<bool> {
     let mut base = [0u16; 3];
     if !find_base(exponent, &mut base) {
-        return false;
+        return Ok(false);
     }
-    random(state, Size::Tiny(exponent), n, &base, counts)
+    random(rt, state, Size::Tiny(exponent), n, &base, counts)
 }
 
 // The same for the first exponents, the last, and those around 128, where 3^b is −1.
-pub(crate) fn tiny_each(state: &mut u64, n: usize, counts: &mut [u64]) -> bool {
+pub(crate) fn tiny_each(
+    rt: &impl Print,
+    state: &mut u64,
+    n: usize,
+    counts: &mut [u64],
+) -> io::Result<bool> {
     let exponents = [0u16, 1, 2, 127, 128, 255];
     for k in 0..6 {
-        if !tiny(state, get(&exponents, k) as u32, n, counts) {
-            return false;
+        if !tiny(rt, state, get(&exponents, k) as u32, n, counts)? {
+            return Ok(false);
         }
     }
-    true
+    Ok(true)
 }

@@ -10,46 +10,51 @@ mod tallies;
 
 use frames::Size;
 use plain::tally::{print, print_end};
+use std::io;
 
 // Runs everything up to the first disagreement.
-fn run(state: &mut u64, counts: &mut [u64]) -> bool {
+fn run(rt: &impl Print, state: &mut u64, counts: &mut [u64]) -> io::Result<bool> {
     let none = [0u16; 0];
-    if !frames::tiny_each(state, 20, counts) {
-        return false;
+    if !frames::tiny_each(rt, state, 20, counts)? {
+        return Ok(false);
     }
-    if !frames::random(state, Size::Small, 2000, &none, counts) {
-        return false;
+    if !frames::random(rt, state, Size::Small, 2000, &none, counts)? {
+        return Ok(false);
     }
-    if !frames::random(state, Size::Large, 40, &none, counts) {
-        return false;
+    if !frames::random(rt, state, Size::Large, 40, &none, counts)? {
+        return Ok(false);
     }
-    frames::random(state, Size::Full, 20, &none, counts)
+    frames::random(rt, state, Size::Full, 20, &none, counts)
 }
 
-fn report(counts: &[u64]) {
-    print(b"frames: F ", counts, tallies::LOCATED);
-    print(b", 24 ", counts, tallies::REFUSED_24);
-    print(b", 25 ", counts, tallies::REFUSED_25);
-    print(b", 26 ", counts, tallies::REFUSED_26);
-    print(b", of these dead lines ", counts, tallies::DEAD);
-    print(b"; encode 34 ", counts, tallies::REFUSED_34);
+fn report(rt: &impl Print, counts: &[u64]) -> io::Result<()> {
+    print(rt, b"frames: F ", counts, tallies::LOCATED)?;
+    print(rt, b", 24 ", counts, tallies::REFUSED_24)?;
+    print(rt, b", 25 ", counts, tallies::REFUSED_25)?;
+    print(rt, b", 26 ", counts, tallies::REFUSED_26)?;
+    print(rt, b", of these dead lines ", counts, tallies::DEAD)?;
+    print(rt, b"; encode 34 ", counts, tallies::REFUSED_34)?;
     print(
+        rt,
         b"\ndamage: below half the checks ",
         counts,
         tallies::BELOW_HALF,
-    );
-    print(b", at half ", counts, tallies::AT_HALF);
-    print(b", above half ", counts, tallies::ABOVE_HALF);
-    io::write_all(1, b"\n");
+    )?;
+    print(rt, b", at half ", counts, tallies::AT_HALF)?;
+    print(rt, b", above half ", counts, tallies::ABOVE_HALF)?;
+    println!(rt)
 }
 
-fn main() {
+fn main(rt: HostRuntime) -> io::Result<()> {
     let mut state = 1u64;
     let mut counts = [0u64; 9];
-    let agreed = run(&mut state, &mut counts);
-    report(&counts);
-    print_end(agreed);
-    io::write_all(1, b"planted: ");
+    let agreed = run(&rt, &mut state, &mut counts)?;
+    report(&rt, &counts)?;
+    print_end(&rt, agreed)?;
+    print!(rt; "planted: ")?;
     let none = [0u16; 0];
-    print_end(frames::random(&mut state, Size::Planted, 100, &none, &mut counts));
+    print_end(
+        &rt,
+        frames::random(&rt, &mut state, Size::Planted, 100, &none, &mut counts)?,
+    )
 }

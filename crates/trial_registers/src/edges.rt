@@ -5,6 +5,7 @@ use finder::find::find;
 use plain::tally::{count, print_list};
 use plain::values::{get, minus, part, put, set};
 use refusal::number_of;
+use std::io;
 
 // The number of the refusal, or 0.
 fn number(found: Found) -> u32 {
@@ -106,15 +107,15 @@ fn edge(i: usize) -> bool {
 }
 
 // The first n edges.
-pub(crate) fn try_all(n: u16, counts: &mut [u64]) -> bool {
+pub(crate) fn try_all(rt: &impl Print, n: u16, counts: &mut [u64]) -> io::Result<bool> {
     for i in 0..n {
         count(counts, EDGES, true);
         if !edge(i as usize) {
             let place = [i];
-            print_list(b"edges disagree: number", &place);
-            io::write_all(1, b"\n");
-            return false;
+            print_list(rt, b"edges disagree: number", &place)?;
+            println!(rt)?;
+            return Ok(false);
         }
     }
-    true
+    Ok(true)
 }

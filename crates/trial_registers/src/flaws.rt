@@ -6,6 +6,7 @@ use plain::random::{draw, draw_from, fill_from};
 use plain::sequences::start;
 use plain::tally::{count, print_list};
 use plain::values::{get, minus, part, put, remainder};
+use std::io;
 
 // No number from 2 to p − 1 divides p.
 fn is_prime(p: u16) -> bool {
@@ -113,19 +114,26 @@ fn draw_room(state: &mut u64, flawed: bool, most: u16) -> usize {
     most as usize + 1
 }
 
-fn compare(p: u16, lengths: &[u16], symbols: &[u16], room: usize, counts: &mut [u64]) -> bool {
+fn compare(
+    rt: &impl Print,
+    p: u16,
+    lengths: &[u16],
+    symbols: &[u16],
+    room: usize,
+    counts: &mut [u64],
+) -> io::Result<bool> {
     let mut taps = [0u16; 140];
     let number = find_in(p as u32, lengths, symbols, &mut taps, room);
     count(counts, REFUSED, number != 0);
     if number == reason(p, lengths, symbols, room) {
-        return true;
+        return Ok(true);
     }
     let sizes = [p, remainder(room as u64, 65535)];
-    print_list(b"refusals disagree: p and number of taps", &sizes);
-    print_list(b", lengths", lengths);
-    print_list(b", symbols", symbols);
-    io::write_all(1, b"\n");
-    false
+    print_list(rt, b"refusals disagree: p and number of taps", &sizes)?;
+    print_list(rt, b", lengths", lengths)?;
+    print_list(rt, b", symbols", symbols)?;
+    println!(rt)?;
+    Ok(false)
 }
 
 // Input has up to two flaws: 0 of the modulus, 1 of the count, 2 of a length, 3 of the number of symbols, 4 of a symbol, 5 of the taps.
@@ -144,38 +152,57 @@ fn has(flaws: Flaws, flaw: u16) -> bool {
 
 // Draws the symbols of sequences that have `whole` of them, and the number of taps.
 fn compare_lengths(
+    rt: &impl Print,
     state: &mut u64,
     flaws: Flaws,
     p: u16,
     lengths: &[u16],
     whole: usize,
     counts: &mut [u64],
-) -> bool {
+) -> io::Result<bool> {
     let total = flaw_total(state, has(flaws, 3), whole);
     let mut symbols = [0u16; 1200];
     fill_from(state, 0, p, &mut symbols, total);
     flaw_symbols(state, has(flaws, 4), p, &mut symbols, total);
     let room = draw_room(state, has(flaws, 5), greatest(lengths));
-    compare(p, lengths, part(&symbols, 0, total), room, counts)
+    compare(rt, p, lengths, part(&symbols, 0, total), room, counts)
 }
 
-fn compare_flawed(state: &mut u64, flaws: Flaws, counts: &mut [u64]) -> bool {
+fn compare_flawed(
+    rt: &impl Print,
+    state: &mut u64,
+    flaws: Flaws,
+    counts: &mut [u64],
+) -> io::Result<bool> {
     let p = draw_modulus(state, has(flaws, 0));
     let n = draw_count(state, has(flaws, 1));
     let mut room = [0u16; 9];
     fill_from(state, 0, 6, &mut room, n as usize);
     flaw_lengths(state, has(flaws, 2), &mut room, n);
     let lengths = part(&room, 0, n as usize);
-    compare_lengths(state, flaws, p, lengths, start(lengths, n as usize), counts)
+    compare_lengths(
+        rt,
+        state,
+        flaws,
+        p,
+        lengths,
+        start(lengths, n as usize),
+        counts,
+    )
 }
 
-pub(crate) fn random(state: &mut u64, n: usize, counts: &mut [u64]) -> bool {
+pub(crate) fn random(
+    rt: &impl Print,
+    state: &mut u64,
+    n: usize,
+    counts: &mut [u64],
+) -> io::Result<bool> {
     for _ in 0..n {
         let first = draw(state, 7);
         let second = draw(state, 7);
-        if !compare_flawed(state, Flaws { first, second }, counts) {
-            return false;
+        if !compare_flawed(rt, state, Flaws { first, second }, counts)? {
+            return Ok(false);
         }
     }
-    true
+    Ok(true)
 }

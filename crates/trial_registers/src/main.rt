@@ -13,46 +13,51 @@ mod tallies;
 
 use plain::tally::{print, print_end};
 use registers::Drawn;
+use std::io;
 
 // Runs everything up to the first disagreement.
-fn run(state: &mut u64, counts: &mut [u64]) -> bool {
-    if !edges::try_all(29, counts) {
-        return false;
+fn run(rt: &impl Print, state: &mut u64, counts: &mut [u64]) -> io::Result<bool> {
+    if !edges::try_all(rt, 29, counts)? {
+        return Ok(false);
     }
-    if !registers::every_pair(2, 5, counts) {
-        return false;
+    if !registers::every_pair(rt, 2, 5, counts)? {
+        return Ok(false);
     }
-    if !registers::every_pair(3, 4, counts) {
-        return false;
+    if !registers::every_pair(rt, 3, 4, counts)? {
+        return Ok(false);
     }
-    if !registers::random(state, Drawn::Short, 16000, counts) {
-        return false;
+    if !registers::random(rt, state, Drawn::Short, 16000, counts)? {
+        return Ok(false);
     }
-    if !registers::random(state, Drawn::Long, 400, counts) {
-        return false;
+    if !registers::random(rt, state, Drawn::Long, 400, counts)? {
+        return Ok(false);
     }
-    flaws::random(state, 4000, counts)
+    flaws::random(rt, state, 4000, counts)
 }
 
-fn report(counts: &[u64]) {
-    print(b"edges ", counts, tallies::EDGES);
-    print(b"\nregisters: alone ", counts, tallies::ALONE);
-    print(b", not alone ", counts, tallies::NOT_ALONE);
-    print(b", refused ", counts, tallies::REFUSED);
+fn report(rt: &impl Print, counts: &[u64]) -> io::Result<()> {
+    print(rt, b"edges ", counts, tallies::EDGES)?;
+    print(rt, b"\nregisters: alone ", counts, tallies::ALONE)?;
+    print(rt, b", not alone ", counts, tallies::NOT_ALONE)?;
+    print(rt, b", refused ", counts, tallies::REFUSED)?;
     print(
+        rt,
         b"\nlonger if aligned at starts: ",
         counts,
         tallies::LONGER_FROM_STARTS,
-    );
-    io::write_all(1, b"\n");
+    )?;
+    println!(rt)
 }
 
-fn main() {
+fn main(rt: HostRuntime) -> io::Result<()> {
     let mut state = 1u64;
     let mut counts = [0u64; 5];
-    let agreed = run(&mut state, &mut counts);
-    report(&counts);
-    print_end(agreed);
-    io::write_all(1, b"planted: ");
-    print_end(registers::random(&mut state, Drawn::Planted, 100, &mut counts));
+    let agreed = run(&rt, &mut state, &mut counts)?;
+    report(&rt, &counts)?;
+    print_end(&rt, agreed)?;
+    print!(rt; "planted: ")?;
+    print_end(
+        &rt,
+        registers::random(&rt, &mut state, Drawn::Planted, 100, &mut counts)?,
+    )
 }

@@ -13,6 +13,7 @@ use plain::random::{draw, draw_from, fill_from};
 use plain::sequences::start;
 use plain::tally::{count, print_list};
 use plain::values::{cross, get, part};
+use std::io;
 
 // The taps, the first of which is 1, times the first of b are b.
 fn proportional(p: u16, a: &[u16], b: &[u16], n: usize) -> bool {
@@ -116,16 +117,23 @@ fn agrees(p: u16, lengths: &[u16], symbols: &[u16], model: Model, counts: &mut [
 }
 
 // The same, and the sequences are printed where they disagree.
-fn compare(p: u16, lengths: &[u16], symbols: &[u16], model: Model, counts: &mut [u64]) -> bool {
+fn compare(
+    rt: &impl Print,
+    p: u16,
+    lengths: &[u16],
+    symbols: &[u16],
+    model: Model,
+    counts: &mut [u64],
+) -> io::Result<bool> {
     if agrees(p, lengths, symbols, model, counts) {
-        return true;
+        return Ok(true);
     }
     let modulus = [p];
-    print_list(b"registers disagree: p", &modulus);
-    print_list(b", lengths", lengths);
-    print_list(b", symbols", symbols);
-    io::write_all(1, b"\n");
-    false
+    print_list(rt, b"registers disagree: p", &modulus)?;
+    print_list(rt, b", lengths", lengths)?;
+    print_list(rt, b", symbols", symbols)?;
+    println!(rt)?;
+    Ok(false)
 }
 
 pub(crate) fn prime(i: u16) -> u16 {
@@ -141,6 +149,7 @@ pub(crate) fn prime(i: u16) -> u16 {
 
 // Random sequences, n of them, of lengths below `bound`.
 fn compare_random(
+    rt: &impl Print,
     state: &mut u64,
     p: u16,
     n: usize,
@@ -148,7 +157,7 @@ fn compare_random(
     kind: u16,
     model: Model,
     counts: &mut [u64],
-) -> bool {
+) -> io::Result<bool> {
     let mut lengths = [0u16; 8];
     let mut symbols = [0u16; 1024];
     fill_from(state, 0, bound, &mut lengths, n);
@@ -156,7 +165,7 @@ fn compare_random(
     let l = draw(state, 6) as usize;
     let lent = part(&lengths, 0, n);
     random_symbols(state, p, lent, &mut symbols, total, kind, l);
-    compare(p, lent, part(&symbols, 0, total), model, counts)
+    compare(rt, p, lent, part(&symbols, 0, total), model, counts)
 }
 
 // What is drawn: up to five short sequences of any kind; up to eight long ones that a short register generates; or three short ones for the
@@ -168,59 +177,75 @@ pub(crate) enum Drawn {
     Planted,
 }
 
-fn compare_drawn(state: &mut u64, drawn: Drawn, counts: &mut [u64]) -> bool {
+fn compare_drawn(
+    rt: &impl Print,
+    state: &mut u64,
+    drawn: Drawn,
+    counts: &mut [u64],
+) -> io::Result<bool> {
     let p = prime(draw(state, 6));
     match drawn {
         Drawn::Short => {
             let n = draw_from(state, 1, 5) as usize;
             let kind = draw(state, 4);
-            compare_random(state, p, n, 13, kind, Model::Usual, counts)
+            compare_random(rt, state, p, n, 13, kind, Model::Usual, counts)
         }
         Drawn::Long => {
             let n = draw_from(state, 1, 8) as usize;
-            compare_random(state, p, n, 129, 1, Model::Usual, counts)
+            compare_random(rt, state, p, n, 129, 1, Model::Usual, counts)
         }
-        Drawn::Planted => compare_random(state, p, 3, 7, 1, Model::Planted, counts),
+        Drawn::Planted => compare_random(rt, state, p, 3, 7, 1, Model::Planted, counts),
     }
 }
 
 // Up to n draws, and up to the first that disagrees.
-pub(crate) fn random(state: &mut u64, drawn: Drawn, n: usize, counts: &mut [u64]) -> bool {
+pub(crate) fn random(
+    rt: &impl Print,
+    state: &mut u64,
+    drawn: Drawn,
+    n: usize,
+    counts: &mut [u64],
+) -> io::Result<bool> {
     for _ in 0..n {
-        if !compare_drawn(state, drawn, counts) {
-            return false;
+        if !compare_drawn(rt, state, drawn, counts)? {
+            return Ok(false);
         }
     }
-    true
+    Ok(true)
 }
 
 // All symbols of sequences of these lengths.
-fn every_content(p: u16, lengths: &[u16], counts: &mut [u64]) -> bool {
+fn every_content(rt: &impl Print, p: u16, lengths: &[u16], counts: &mut [u64]) -> io::Result<bool> {
     let n = start(lengths, lengths.len());
     let mut room = [0u16; 1024];
     let symbols: &mut [u16] = &mut room;
     for _ in 0..4096usize {
-        if !compare(p, lengths, part(symbols, 0, n), Model::Few, counts) {
-            return false;
+        if !compare(rt, p, lengths, part(symbols, 0, n), Model::Few, counts)? {
+            return Ok(false);
         }
         if !advance(p, symbols, 0, n) {
-            return true;
+            return Ok(true);
         }
     }
-    false
+    Ok(false)
 }
 
 // All pairs of sequences of lengths below `bound`.
-pub(crate) fn every_pair(p: u16, bound: u16, counts: &mut [u64]) -> bool {
+pub(crate) fn every_pair(
+    rt: &impl Print,
+    p: u16,
+    bound: u16,
+    counts: &mut [u64],
+) -> io::Result<bool> {
     let mut room = [0u16; 2];
     let lengths: &mut [u16] = &mut room;
     for _ in 0..4096usize {
-        if !every_content(p, lengths, counts) {
-            return false;
+        if !every_content(rt, p, lengths, counts)? {
+            return Ok(false);
         }
         if !advance(bound, lengths, 0, 2) {
-            return true;
+            return Ok(true);
         }
     }
-    false
+    Ok(false)
 }

@@ -21,10 +21,13 @@ returns-then-v-ne0 c =
     let args = at.args in
     let read = added.get.ensures in
     let risen = added.plus_product-v.ensures ∙ ap (λ (x : ℕ). rem (x + 1) args.p) read in
-    record { by_index = λ e. (
+    record {
+      by_index = λ e. (
         at.loop-i.i,
         counted _ _ _ _ _ _ _ at.loop-i.inv.2 at.loop-i.inv.0 put.put.ensures risen _ (omega arith) c.if-v-ne0.true,
-      ); carried = λ le e. absurd (let z : ◌≡◌ {A = ℕ} 0 1 = cc in omega arith) }
+      );
+      carried = λ le e. absurd (let z : ◌≡◌ {A = ℕ} 0 1 = cc in omega arith);
+    }
 
 pub loop-i-preserved : goal.loop-i-preserved
 loop-i-preserved c =

@@ -7,11 +7,10 @@ pub loop-i-init : goal.loop-i-init
 loop-i-init c = (omega arith, sym (ap capped (sum-zero _)))
 
 pub loop-i-preserved : goal.loop-i-preserved
-loop-i-preserved c =
-    (
-      omega arith,
-      sum-capped-more _ _ c.loop-i.invariant.1 (c.plus-at.ensures ∙ ap (λ (x : ℕ). capped (c.loop-i.at + x)) c.get.ensures),
-    )
+loop-i-preserved c = (
+  omega arith,
+  sum-capped-more _ _ c.loop-i.invariant.1 (c.plus-at.ensures ∙ ap (λ (x : ℕ). capped (c.loop-i.at + x)) c.get.ensures),
+)
 
 pub returns : goal.returns
 returns c =
