@@ -17,3 +17,9 @@ pub record Ran (buffer : List ℕ) (r : Window) : Type 0 where
   pub stops : (is_over r ≡ true) ⊎ UsedUp steps
   -- where it is over, the text of all that came is handed over
   pub text : is_over r ≡ true → handed_in steps ≡ lines_of (came_in steps)
+
+-- A write failed, which ends the run: the turns made are one after the other all the same, up to the window that the last one left. What the last one handed
+-- over may be written in part.
+pub record BrokenOff (buffer : List ℕ) (r : Window) : Type 0 where
+  pub steps : List Step
+  pub chain : Turns [] true steps (unused r buffer) r.more

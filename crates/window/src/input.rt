@@ -3,6 +3,7 @@ ghost use Rattle.std.specs.Prelude.{◌≡◌, ◌+◌, ◌≤◌, length, take,
 ghost use Rattle.window.specs.Window.{Inside, Filled, Refilled, is_lacking};
 
 use record::parse::claimed;
+use std::io::{Read, Stdin};
 
 // The bytes from `start` to `end` are still to be used, and the input may have more.
 #[derive(Clone, Copy)]
@@ -25,21 +26,23 @@ fn move_down(buffer: &mut [u8], from: usize, n: usize)
 }
 
 // One read, of what is there; 0 at the end of the input and where it fails.
-fn read(part: &mut [u8]) -> usize
+fn read(mut input: Stdin, part: &mut [u8]) -> usize
     ensures { result ≤ length part.new }
 {
-    let got = libc::read(0, part);
-    io::count(got, part)
+    match input.read(part) {
+        Ok(n) => n,
+        Err(_) => 0,
+    }
 }
 
-fn refilled(buffer: &mut [u8], w: Window) -> Window
+fn refilled(input: Stdin, buffer: &mut [u8], w: Window) -> Window
     requires { Inside w buffer.old }
     ensures { Refilled buffer.old w buffer.new result }
 {
     let from = w.start;
     let kept = w.end - from;
     move_down(buffer, from, kept);
-    let got = read(&mut buffer[kept..]);
+    let got = read(input, &mut buffer[kept..]);
     Window {
         start: 0,
         end: kept + got,
@@ -61,14 +64,14 @@ pub fn lacking(buffer: &[u8], w: Window) -> bool
 }
 
 // A window that starts with a whole record, unless the input has no more.
-pub fn filled(buffer: &mut [u8], w: Window) -> Window
+pub fn filled(input: Stdin, buffer: &mut [u8], w: Window) -> Window
     requires { Inside w buffer.old }
     ensures { Filled buffer.old w buffer.new result }
 {
     let mut r = w;
     let mut short = lacking(buffer, r);
     while short {
-        r = refilled(buffer, r);
+        r = refilled(input, buffer, r);
         short = lacking(buffer, r);
     }
     r
