@@ -12,7 +12,7 @@ use window::input::{Window, filled};
 use window::output::put_lines;
 
 // Reads until the next line is due, and writes the lines that are due. So whoever sends a record and waits gets its line.
-// A write that fails is of the lines of a turn like any other: they are handed over, and some of their bytes may be written.
+// Where the write fails the turn is made all the same, and some of the bytes that it hands over may be written.
 fn turn(
     input: Stdin,
     output: Stdout,

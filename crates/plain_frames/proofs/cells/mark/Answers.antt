@@ -1,0 +1,14 @@
+-- `plain_frames::cells::mark` meets its contract.
+use mathlib.Core.Path.{sym, ap, ◌∙◌}
+use Prim.Native.Nat.{ℕ, ◌/◌, ◌%◌, ◌^◌}
+use native.Mathlib.Nat.{zero-div, zero-mod}
+use native.Mathlib.Omega.{arith}
+use lib.ListN.{get_or-eq_default}
+use Rattle.plain_frames.proofs.cells.mark.Goals as goal
+
+pub returns : goal.returns
+returns c =
+    let k = c.args.k in
+    sym
+    (ap (λ (x : ℕ). x / 2 ^ (k % 64) % 2) (get_or-eq_default c.args.words.now 0 (omega arith))
+    ∙ ap (λ (x : ℕ). x % 2) (zero-div (2 ^ (k % 64))) ∙ zero-mod 2)
