@@ -1,32 +1,25 @@
-use Rattle.std.proofs.Common.{◌≡◌, ℕ, ◌-◌, ap, ◌∙◌, arith}
+use Rattle.std.proofs.Common.{◌≡◌, ℕ, ap, ◌∙◌, arith}
 use Rattle.plain.proofs.Draws.{later-zero, later_more, drawn-more}
 use Rattle.plain.proofs.Writing.{wrote_none, wrote-put, wrote-all}
 use Rattle.plain.specs.Drawn.{later}
 use Rattle.plain.proofs.random.fill_from.Goals as goal
-use Rattle.plain.proofs.random.fill_from.Goals.{After-draw_from, At-loop-i}
-
-abbrev loop-of : After-draw_from → At-loop-i
-loop-of c = c.before.before.before.before
 
 pub loop-i-init : goal.loop-i-init
 loop-i-init c = (omega arith, later-zero _, wrote_none _ 0 _)
 
 pub loop-i-preserved : goal.loop-i-preserved
-loop-i-preserved c =
-    let drawn = c.before.before.before in
-    let at = loop-of drawn in
-    let args = at.args in (
-      omega arith,
-      later_more _ _ at.loop-i.inv.1 drawn.draw_from.ensures.0,
-      wrote-put
-          0
-          at.loop-i.i
-          _
-          at.loop-i.inv.2
-          (omega arith)
-          c.put.ensures
-          (drawn-more _ _ args.least args.p at.loop-i.inv.1 drawn.draw_from.ensures.1),
-    )
+loop-i-preserved c = (
+  omega arith,
+  later_more _ _ c.loop-i.invariant.1 c.draw_from.ensures.0,
+  wrote-put
+      0
+      c.loop-i.i
+      _
+      c.loop-i.invariant.2
+      (omega arith)
+      c.put.ensures
+      (drawn-more _ _ c.args.least c.args.p c.loop-i.invariant.1 c.draw_from.ensures.1),
+)
 
 pub returns : goal.returns
 returns c =
