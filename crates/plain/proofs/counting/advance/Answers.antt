@@ -1,4 +1,4 @@
-use Rattle.std.proofs.Common.{◌≡◌, ℕ, ◌+◌, ◌-◌, ap, ◌∙◌, arith}
+use Rattle.std.proofs.Common.{◌≡◌, ℕ, ◌+◌, ap, ◌∙◌, arith}
 use Rattle.plain.proofs.Digits.{carried_none, carried-more, carried-all, counted}
 use Rattle.plain.specs.Plain.{rem}
 use Rattle.plain.proofs.counting.advance.Goals as goal

@@ -1,4 +1,4 @@
-use Rattle.std.proofs.Common.{◌≡◌, ℕ, ◌+◌, ◌-◌, ◌*◌, sym, ap, ◌∙◌, ap₂, arith}
+use Rattle.std.proofs.Common.{◌≡◌, ℕ, ◌+◌, ◌*◌, sym, ap, ◌∙◌, ap₂, arith}
 use Rattle.plain.proofs.Remainders.{rem-none}
 use Rattle.plain.proofs.Sums.{sum-zero, sum-rem-more}
 use Rattle.plain.specs.Plain.{discrepancy, rem}

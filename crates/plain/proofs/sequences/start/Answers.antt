@@ -1,4 +1,4 @@
-use Rattle.std.proofs.Common.{◌≡◌, ℕ, ◌+◌, ◌-◌, get_or, sym, ap, ◌∙◌, arith}
+use Rattle.std.proofs.Common.{◌≡◌, ℕ, ◌+◌, get_or, sym, ap, ◌∙◌, arith}
 use Rattle.plain.proofs.Sums.{sum-zero, sum-capped-more}
 use Rattle.plain.specs.Plain.{capped, sum}
 use Rattle.plain.proofs.sequences.start.Goals as goal

@@ -1,4 +1,4 @@
-use Rattle.std.proofs.Common.{◌-◌, refl, arith}
+use Rattle.std.proofs.Common.{refl, arith}
 use Rattle.plain.proofs.Writing.{wrote_none, wrote-put, wrote-all}
 use Rattle.plain.proofs.values.set.Goals as goal
 
