@@ -1,5 +1,4 @@
 use mathlib.Core.Path.{refl, sym, ◌∙◌}
-use Prim.Native.Nat.{◌-◌}
 use native.Mathlib.Omega.{arith}
 use Rattle.elimination.proofs.Reducing.{reduced-none, reduced-more}
 use Rattle.elimination.proofs.Settling.{leading, following, contradicting}

@@ -1,5 +1,4 @@
 use mathlib.Core.Path.{sym, ◌∙◌}
-use Prim.Native.Nat.{◌-◌}
 use native.Mathlib.Omega.{arith}
 use Rattle.elimination.proofs.Crossing.{cancelled_none, cancelled_zero, cancelled_more, cancelled_all}
 use Rattle.elimination.proofs.cancel.Goals as goal

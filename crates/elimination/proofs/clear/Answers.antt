@@ -1,5 +1,4 @@
 use mathlib.Core.Logic.{inl, inr}
-use Prim.Native.Nat.{◌-◌}
 use native.Mathlib.Omega.{arith}
 use Rattle.elimination.proofs.Tables.{cleared-none, cleared_more, cleared-all}
 use Rattle.elimination.proofs.clear.Goals as goal

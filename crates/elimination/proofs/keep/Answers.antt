@@ -1,4 +1,3 @@
-use Prim.Native.Nat.{◌-◌}
 use native.Mathlib.Omega.{arith}
 use Rattle.elimination.proofs.Storing.{stored-none, stored_more, stored-all}
 use Rattle.elimination.proofs.keep.Goals as goal

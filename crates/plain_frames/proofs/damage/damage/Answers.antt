@@ -10,14 +10,14 @@ pub returns : goal.returns
 returns c =
     let eight = c.at_most_eight in
     let args = c.args in
-    let order = c.mix.last.1.0 in
+    let order = c.mix.new.order in
     let size : length order ≡ 256 = omega arith in (
       _,
       chosen
           args.columns
           args.rows
           args.w
-          c.draw_factors.last.1.1.0
+          c.draw_factors.new.factors
           _
           _
           order

@@ -15,4 +15,4 @@ returns c =
     λ some few held.
     let fill = c.fill_from in
     let size = fill.ensures.1.size in
-    factor-put _ 0 _ fill.last.1.1.1.0 some (omega arith) (drawn-nonzero _ c.draw_from.ensures.1) c.put-2.ensures
+    factor-put _ 0 _ fill.new.a some (omega arith) (drawn-nonzero _ c.draw_from.ensures.1) c.put-2.ensures

@@ -16,7 +16,7 @@ loop-i-preserved c =
     )
 
 pub loop-i-init : goal.loop-i-init
-loop-i-init c. = d)
+loop-i-init c = (search rules, λ fits d. d)
 
 pub returns : goal.returns
 returns c = c.loop-i.invariant.1
