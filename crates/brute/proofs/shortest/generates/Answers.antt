@@ -1,5 +1,5 @@
 use Rattle.std.proofs.Common.{◌≡◌, ℕ, ◌+◌, ◌-◌, List, length, refl, subst, arith}
-use Rattle.plain.proofs.Tests.{told-fails, told-holds, each_none, each_more, each-fails, each_holds}
+use Rattle.plain.proofs.Tests.{each_none, each_more, each-fails, each_holds}
 use Rattle.plain.specs.Plain.{Tells, Each, discrepancy, sequence}
 use Rattle.brute.proofs.shortest.generates.Goals as goal
 
@@ -12,7 +12,7 @@ returns-then-not-generates_one c =
     (λ j. discrepancy c.args.p s c.args.taps.now (c.args.l + 1) j ≡ 0)))
     c.sequence.ensures
     c.generates_one.ensures in
-    each-fails _ _ _ c.loop-h.h (omega arith) (omega arith) (told-fails _ told c.if-not-generates_one.true)
+    each-fails _ _ _ c.loop-h.h (omega arith) (omega arith) (told.no c.if-not-generates_one.true)
 
 pub loop-h-preserved : goal.loop-h-preserved
 loop-h-preserved c =
@@ -20,7 +20,7 @@ loop-h-preserved c =
     (λ j. discrepancy c.args.p s c.args.taps.now (c.args.l + 1) j ≡ 0)))
     c.sequence.ensures
     c.generates_one.ensures in
-    (refl, each_more _ _ _ c.loop-h.invariant.1 (told-holds _ told c.if-not-generates_one.false))
+    (refl, each_more _ _ _ c.loop-h.invariant.1 (told.yes c.if-not-generates_one.false))
 
 pub returns : goal.returns
 returns c = each_holds _ _ _ _ (omega arith) c.loop-h.invariant.1
