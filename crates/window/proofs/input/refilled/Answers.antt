@@ -4,7 +4,5 @@ use Rattle.window.proofs.input.refilled.Goals as goal
 
 pub returns : goal.returns
 returns c =
-    let move = c.move_down in
-    let read = c.read-got in
-    refills c.args.w c.args.buffer.now c.requires move.last.0 read.new.0 read.result move.kept.0 read.auto.0
-    read.ensures move.ensures
+    refills c.args.w c.args.buffer.now c.requires c.move_down.new.buffer c.read-got.new.part c.read-got.result c.move_down.auto.buffer c.read-got.auto.part
+    c.read-got.ensures c.move_down.ensures

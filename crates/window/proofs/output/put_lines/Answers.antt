@@ -1,6 +1,5 @@
-use mathlib.Core.Path.{refl, ◌∙◌}
 use mathlib.Core.Logic.{inl, inr}
-use Prim.Native.Nat.{◌+◌, ◌-◌, ◌≤◌}
+use Prim.Native.Nat.{◌+◌, ◌≤◌}
 use native.Mathlib.Omega.{arith}
 use borrow.Author.Rules.{rules}
 use Rattle.window.proofs.Putting.{putting_none, next-within, putting_more, due-none, stopped}
@@ -9,13 +8,13 @@ use Rattle.window.proofs.output.put_lines.Goals.{Else-size-eq0}
 
 within_of : (c : Else-size-eq0) → c.loop-used.start + c.next_size-size.result ≤ c.args.w.end
 within_of c =
-    next-within _ _ _ _ c.requires.inside.within _ _ _ c.loop-used.invariant.0 _ c.next_size-size.ensures
+    next-within _ _ _ _ c.requires.inside.within _ _ _ c.loop-used.invariant _ c.next_size-size.ensures
 
 pub loop-used-init : goal.loop-used-init
-loop-used-init c = (putting_none _ _ _ _ _ c.requires.inside.ordered, refl, refl)
+loop-used-init c = putting_none _ _ _ _ _ c.requires.inside.ordered
 
 pub slice_bounds-next_size-count : goal.slice_bounds-next_size-count
-slice_bounds-next_size-count c = c.loop-used.invariant.0.within
+slice_bounds-next_size-count c = c.loop-used.invariant.within
 
 pub overflow_add-next : goal.overflow_add-next
 overflow_add-next c = let e = within_of c in search rules
@@ -29,34 +28,15 @@ loop-used-smaller c = let e = within_of (goal.at.loop-used-smaller c).Else-size-
 pub loop-used-preserved : goal.loop-used-preserved
 loop-used-preserved c =
     let line = c.line-used in
-    let (now, scratch, out) = c.loop-used.invariant in
-    (
-      putting_more _ _ _ _ c.requires.inside.within _ _ _ now _ c.next_size-size.ensures (let n = c.if-size-eq0.false in omega arith) _ _
-          line.ensures.written (let room = line.ensures.upper_bound in let wide = c.requires.line in search rules),
-      line.kept.1.0 ∙ scratch,
-      line.kept.1.1.0 ∙ out,
-    )
-
-pub shape_of-scratch-after-loop-used : goal.shape_of-scratch-after-loop-used
-shape_of-scratch-after-loop-used c = c.loop-used.invariant.1
-
-pub shape_of-out-after-loop-used : goal.shape_of-out-after-loop-used
-shape_of-out-after-loop-used c = c.loop-used.invariant.2
+    putting_more _ _ _ _ c.requires.inside.within _ _ _ c.loop-used.invariant _ c.next_size-size.ensures (let n = c.if-size-eq0.false in omega arith) _ _
+        line.ensures.written (let room = line.ensures.upper_bound in let wide = c.requires.line in search rules)
 
 pub returns-after-loop-used : goal.returns-after-loop-used
 returns-after-loop-used c =
-    let (now, scratch, out) = c.loop-used.invariant in
     let room = c.requires.line in
-    stopped _ _ _ _ _ now (inr (omega arith))
-
-pub shape_of-scratch-then-size-eq0 : goal.shape_of-scratch-then-size-eq0
-shape_of-scratch-then-size-eq0 c = c.loop-used.invariant.1
-
-pub shape_of-out-then-size-eq0 : goal.shape_of-out-then-size-eq0
-shape_of-out-then-size-eq0 c = c.loop-used.invariant.2
+    stopped _ _ _ _ _ c.loop-used.invariant (inr (omega arith))
 
 pub returns-then-size-eq0 : goal.returns-then-size-eq0
 returns-then-size-eq0 c =
-    let (now, scratch, out) = c.loop-used.invariant in
-    stopped _ _ _ _ _ now
-    (inl (due-none _ _ _ _ c.requires.inside.within _ _ _ now _ c.next_size-size.ensures c.if-size-eq0.true))
+    stopped _ _ _ _ _ c.loop-used.invariant
+    (inl (due-none _ _ _ _ c.requires.inside.within _ _ _ c.loop-used.invariant _ c.next_size-size.ensures c.if-size-eq0.true))
