@@ -12,8 +12,10 @@ use borrow.Author.Tests.{eqb-true}
 use Rattle.lines.specs.Lines.{lines_of}
 use Rattle.lines.specs.Runs.{Step, Turns, came_in, handed_in}
 use Rattle.lines.proofs.Runs.{turns-on, handed-on, runs}
-use Rattle.tomkhadi.specs.Ran.{Ran}
+use Rattle.tomkhadi.specs.Ran.{Ran, BrokenOff}
 use Rattle.tomkhadi.specs.Turned.{Turned}
+use Rattle.tomkhadi.proofs.Turning.{on_err}
+use Rattle.std.specs.Prelude.{Result, OnErr}
 use Rattle.window.specs.Window.{unused, is_over}
 use Rattle.window.specs.declared.input.Window.{Window}
 
@@ -70,3 +72,12 @@ module _ (before : List ℕ) (w : Window) (turns : ℕ) (now : Running before w 
 
   pub over : is_over r ≡ true → Ran after r
   over e = record { steps = now.steps ++ (next ∷ []); chain = joins; stops = inl e; text = whole-text after r (now.steps ++ (next ∷ [])) joins }
+
+-- where what the last turn handed over is not all written
+pub broken : {T E : Type 0} (before : List ℕ) (w : Window) (turns : ℕ) (now : Running before w turns) (after out : List ℕ)
+    → ((r : Window) × Turned before w after out r) → (result : Result T E) → OnErr result ((r : Window) × BrokenOff after r)
+broken before w turns now after out (r, t) result =
+    on_err ((x : Window) × BrokenOff after x) result (
+      r,
+      record { steps = now.steps ++ (next before w turns now after out r t ∷ []); chain = joins before w turns now after out r t },
+    )

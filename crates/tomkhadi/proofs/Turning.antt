@@ -10,6 +10,7 @@ use lib.Dec.{eqb}
 use lib.ListN.{length, take, drop, length-append, length-take, length-drop, take-append-drop, drop_of_length-le}
 use lib.Seq.{length-take-le}
 use borrow.Author.Tests.{ltb-false, eq-eqb}
+use Rattle.std.specs.Prelude.{Result, Ok, Err, OnErr}
 use Rattle.record.specs.Record.{claimed_by}
 use Rattle.lines.specs.Lines.{rest_of, text_of, next_size}
 use Rattle.lines.proofs.Due.{some-due}
@@ -20,6 +21,11 @@ use Rattle.window.specs.declared.input.Window.{Window}
 use Rattle.window.specs.declared.output.Put.{Put}
 use Rattle.window.proofs.Filling.{some_lacking}
 use Rattle.window.proofs.Putting.{whole-next, last-next}
+
+-- what holds whether a write failed or not
+pub on_err : {T E : Type 0} (P : Type 0) (r : Result T E) → P → OnErr r P
+on_err P (Ok x) p = tt
+on_err P (Err e) p = p
 
 module _ (before : List ℕ) (w : Window) (after : List ℕ) (full : Window) (f : Filled before w after full) (out : List ℕ) (put : Put)
     (l : Lined after full out put) (room : 1024 ≤ length out) where
@@ -100,3 +106,7 @@ module _ (before : List ℕ) (w : Window) (after : List ℕ) (full : Window) (f 
       joins =
           ap (λ (x : List ℕ). x ++ drop (w.end - w.start) bytes) (sym f.kept) ∙
           take-append-drop (w.end - w.start) bytes
+
+  -- where the lines are not all written
+  pub turned_all_the_same : {T E : Type 0} (r : Result T E) → OnErr r ((x : Window) × Turned before w after out x)
+  turned_all_the_same r = on_err ((x : Window) × Turned before w after out x) r (left, turned)

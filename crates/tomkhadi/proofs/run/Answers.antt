@@ -1,22 +1,24 @@
--- `tomkhadi::run` meets its contract.
 use mathlib.Core.Path.{sym, ◌∙◌}
 use native.Mathlib.Omega.{arith}
 use borrow.Author.Rules.{rules}
-use Rattle.tomkhadi.proofs.Running.{running_none, running-on, over, used-up}
+use Rattle.tomkhadi.proofs.Running.{running_none, running-on, over, used-up, broken}
 use Rattle.tomkhadi.proofs.run.Goals as goal
 
 pub loop-turns-init : goal.loop-turns-init
-loop-turns-init c = (running_none _, search rules, search rules, search rules, search rules)
+loop-turns-init c = record { made = running_none _; inside = search rules }
+
+pub returns-in_err-w-clause-err : goal.returns-in_err-w-clause-err
+returns-in_err-w-clause-err c = broken _ _ _ c.loop-turns.invariant.made _ _ c.in_err-w.ensures.err _
 
 pub loop-turns-preserved : goal.loop-turns-preserved
 loop-turns-preserved c =
-    let turned = c.turn.ensures in
+    let turned = c.in_ok-w.ensures.ok in
     let goes = sym c.is_over.ensures ∙ c.if-is_over.false in
-    (running-on _ _ _ c.loop-turns.invariant.0 _ _ _ turned (omega arith) goes, search rules, search rules, search rules, search rules)
+    record { made = running-on _ _ _ c.loop-turns.invariant.made _ _ _ turned (omega arith) goes; inside = turned.inside }
 
-pub returns-in_err-w : goal.returns-in_err-w
-returns-in_err-w c = let all = used-up _ _ _ c.loop-turns.invariant.0 (omega arith) in record { ok = all.0; err = all.1 }
+pub returns-after-loop-turns-clause-ok : goal.returns-after-loop-turns-clause-ok
+returns-after-loop-turns-clause-ok c = used-up _ _ _ c.loop-turns.invariant.made (omega arith)
 
-pub returns-after-loop-turns : goal.returns-after-loop-turns
-returns-after-loop-turns c =
-    let all = over _ _ _ c.loop-turns.invariant.0 _ _ _ c.turn.ensures (sym c.is_over.ensures ∙ c.if-is_over.true) in record { ok = all.0; err = all.1 }
+pub returns-then-is_over-clause-ok : goal.returns-then-is_over-clause-ok
+returns-then-is_over-clause-ok c =
+    over _ _ _ c.loop-turns.invariant.made _ _ _ c.in_ok-w.ensures.ok (sym c.is_over.ensures ∙ c.if-is_over.true)
