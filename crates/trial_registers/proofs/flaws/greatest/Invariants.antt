@@ -1,9 +1,0 @@
--- `trial_registers::flaws::greatest` is safe and ends.
-use Rattle.std.proofs.Common.{◌-◌}
-use Rattle.trial_registers.proofs.flaws.greatest.Given as goal
-
-abbrev pub invariant-loop-i : goal.invariant-loop-i
-invariant-loop-i l = Unit
-
-abbrev pub decreases-loop-i : goal.decreases-loop-i
-decreases-loop-i l = l.i-end - l.i
