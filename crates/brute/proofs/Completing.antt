@@ -1,6 +1,6 @@
 -- Rows that can be completed at columns: the equations of the check sums are gathered in a table, one after the other, and a solution is a symbol for each
 -- column.
-use Rattle.std.proofs.Common.{◌≡◌, ℕ, zero, suc, ◌+◌, ◌-◌, ◌*◌, ◌%◌, ◌^◌, ◌<◌, ◌≤◌, true, List, length, get_or, set, sym, refl, ap, ◌∙◌, subst, ap₂, mod-lt, mul_comm, mul-one, add-one, arith, length-set, get_or-set_other, get_or-set_same}
+use Rattle.std.proofs.Common.{◌≡◌, ℕ, zero, suc, ◌+◌, ◌*◌, ◌%◌, ◌^◌, ◌<◌, ◌≤◌, true, List, length, get_or, set, sym, refl, ap, ◌∙◌, subst, ap₂, mod-lt, mul_comm, mul-one, add-one, arith, length-set, get_or-set_other, get_or-set_same}
 use native.Mathlib.Decide.{ℕ_discrete}
 use Rattle.plain.proofs.Congruences.{equal, same_sum}
 use Rattle.plain.proofs.Powers.{mod-is-rem, power_of_power}

@@ -2,7 +2,6 @@
 -- stands, by numbers.
 use Rattle.std.specs.Prelude.{ℕ}
 use Rattle.job.specs.declared.Phase.{Phase}
-use Rattle.job.specs.declared.Phase.TheVariants as Phase
 use Rattle.job.specs.declared.Reply.{Reply}
 use Rattle.job.specs.declared.Reply.TheVariants.{Count, Unfinished, Refused}
 use Rattle.refusal.specs.Number.{number}

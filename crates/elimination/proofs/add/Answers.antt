@@ -17,14 +17,13 @@ returns-then-is_new c =
     }
 
 pub loop-k-preserved : goal.loop-k-preserved
-loop-k-preserved c =
-    (
-      omega arith,
-      c.cancel.ensures.size ∙ c.loop-k.invariant.1,
-      λ posed.
-          reduced-more _ _ _ posed _ _ (c.loop-k.invariant.2 posed) c.loop-k.invariant.0 (omega arith) _ c.cancel.ensures
-          (c.is_new.ensures.no c.if-is_new.false),
-    )
+loop-k-preserved c = (
+  omega arith,
+  c.cancel.ensures.size ∙ c.loop-k.invariant.1,
+  λ posed.
+      reduced-more _ _ _ posed _ _ (c.loop-k.invariant.2 posed) c.loop-k.invariant.0 (omega arith) _ c.cancel.ensures
+      (c.is_new.ensures.no c.if-is_new.false),
+)
 
 pub returns-then-get-ne0 : goal.returns-then-get-ne0
 returns-then-get-ne0 c =

@@ -1,4 +1,4 @@
-use Rattle.std.proofs.Common.{◌+◌, ◌-◌, get_or, ◌∙◌, arith}
+use Rattle.std.proofs.Common.{◌+◌, get_or, ◌∙◌, arith}
 use Rattle.plain.proofs.Writing.{wrote_none, wrote-put, wrote-all}
 use Rattle.brute.proofs.Erased.{taken_out}
 use Rattle.brute.proofs.erasures.take_out.Goals as goal
@@ -8,8 +8,7 @@ loop-j-init c = (omega arith, wrote_none _ 0 _)
 
 pub loop-j-preserved : goal.loop-j-preserved
 loop-j-preserved c =
-    let kept = c.loop-j.invariant.1.after in
-    (
+    let kept = c.loop-j.invariant.1.after in (
       omega arith,
       wrote-put 0 c.loop-j.j _ c.loop-j.invariant.1 (omega arith) c.put.ensures
           (taken_out _ (λ k. get_or c.args.sums.now k 0) c.loop-j.j c.power.ensures c.times-weight.ensures

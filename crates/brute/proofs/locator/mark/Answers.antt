@@ -1,4 +1,4 @@
-use Rattle.std.proofs.Common.{◌-◌, arith}
+use Rattle.std.proofs.Common.{arith}
 use Rattle.brute.proofs.Marks.{marked_begin, marked-on, marked_all}
 use Rattle.brute.proofs.locator.mark.Goals as goal
 

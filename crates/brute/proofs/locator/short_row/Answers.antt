@@ -1,4 +1,4 @@
-use Rattle.std.proofs.Common.{◌-◌, refl, arith}
+use Rattle.std.proofs.Common.{refl, arith}
 use Rattle.plain.proofs.Tests.{some-found, none_found, each_none, each_more}
 use Rattle.brute.proofs.locator.short_row.Goals as goal
 

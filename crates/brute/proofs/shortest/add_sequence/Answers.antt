@@ -1,4 +1,4 @@
-use Rattle.std.proofs.Common.{◌-◌, refl, arith}
+use Rattle.std.proofs.Common.{refl, arith}
 use Rattle.brute.proofs.OneSequence.{so_far_none, so_far_short, so_far_all, so_far_more, so_far_fails}
 use Rattle.brute.proofs.shortest.add_sequence.Goals as goal
 

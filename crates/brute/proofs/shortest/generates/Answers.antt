@@ -1,6 +1,6 @@
-use Rattle.std.proofs.Common.{◌≡◌, ℕ, ◌+◌, ◌-◌, List, length, refl, subst, arith}
+use Rattle.std.proofs.Common.{◌≡◌, ℕ, ◌+◌, List, length, refl, subst, arith}
 use Rattle.plain.proofs.Tests.{each_none, each_more, each-fails, each_holds}
-use Rattle.plain.specs.Plain.{Tells, Each, discrepancy, sequence}
+use Rattle.plain.specs.Plain.{Tells, Each, discrepancy}
 use Rattle.brute.proofs.shortest.generates.Goals as goal
 
 pub loop-h-init : goal.loop-h-init

@@ -1,6 +1,5 @@
-use Rattle.std.proofs.Common.{◌-◌, sym, refl, ◌∙◌, arith}
+use Rattle.std.proofs.Common.{sym, refl, ◌∙◌, arith}
 use Rattle.plain.proofs.Tests.{each_none, each_more, each-fails, each_holds}
-use Rattle.plain.specs.Plain.{discrepancy}
 use Rattle.brute.proofs.shortest.generates_one.Goals as goal
 
 pub returns-then-s-l : goal.returns-then-s-l

@@ -1,4 +1,4 @@
-use Rattle.std.proofs.Common.{◌-◌, arith}
+use Rattle.std.proofs.Common.{arith}
 use Rattle.plain.proofs.Writing.{wrote_none, wrote-put, wrote-all}
 use Rattle.brute.proofs.shortest.pose.Goals as goal
 

@@ -1,4 +1,4 @@
-use Rattle.std.proofs.Common.{◌-◌, arith}
+use Rattle.std.proofs.Common.{arith}
 use Rattle.brute.proofs.Searching.{none_yet, none_more, found, not_found}
 use Rattle.brute.proofs.shortest.shortest.Goals as goal
 

@@ -1,4 +1,4 @@
-use Rattle.std.proofs.Common.{◌-◌, refl, arith}
+use Rattle.std.proofs.Common.{refl, arith}
 use Rattle.brute.proofs.AllSequences.{all_begin, all_more, all-fails, all_done}
 use Rattle.brute.proofs.shortest.solvable.Goals as goal
 
@@ -11,13 +11,12 @@ returns-then-not-add_sequence c =
     _ c.clear.ensures.size (c.if-not-add_sequence.true) (omega arith)
 
 pub loop-h-preserved : goal.loop-h-preserved
-loop-h-preserved c =
-    (
-      refl,
-      omega arith,
-      all_more _ _ _ _ c.loop-h.h _ _ _ _ _ c.loop-h.invariant.2 c.sequence.ensures c.add_sequence.ensures
-          (c.if-not-add_sequence.false),
-    )
+loop-h-preserved c = (
+  refl,
+  omega arith,
+  all_more _ _ _ _ c.loop-h.h _ _ _ _ _ c.loop-h.invariant.2 c.sequence.ensures c.add_sequence.ensures
+      (c.if-not-add_sequence.false),
+)
 
 pub returns : goal.returns
 returns c = all_done _ _ _ _ c.loop-h.h _ _ _ c.loop-h.invariant.2 c.clear.ensures.size (omega arith) (omega arith)

@@ -1,6 +1,6 @@
 use mathlib.Core.Bool.{cond}
 use mathlib.Core.Path.{refl, ap₂, ◌∙◌}
-use Prim.Native.Nat.{ℕ, ◌-◌}
+use Prim.Native.Nat.{ℕ}
 use native.Mathlib.Nat.{div-le_self, mod-le}
 use native.Mathlib.Omega.{arith}
 use lib.Dec.{eqb}
@@ -24,15 +24,14 @@ overflow_add-k c =
     let columns = mod-le c.loop-k.k n in search rules
 
 pub loop-k-preserved : goal.loop-k-preserved
-loop-k-preserved c =
-    (
-      omega arith,
-      refl,
-      wrote-put 0 c.loop-k.k _ c.loop-k.invariant.2 (omega arith) c.put.ensures
-          (c.read-v.ensures
-          ∙ ap₂ (λ (m v : ℕ). cond (eqb m 1) 0 v) c.mark.ensures
-          (c.get.ensures ∙ c.loop-k.invariant.2.after c.loop-k.k (omega arith))),
-    )
+loop-k-preserved c = (
+  omega arith,
+  refl,
+  wrote-put 0 c.loop-k.k _ c.loop-k.invariant.2 (omega arith) c.put.ensures
+      (c.read-v.ensures
+      ∙ ap₂ (λ (m v : ℕ). cond (eqb m 1) 0 v) c.mark.ensures
+      (c.get.ensures ∙ c.loop-k.invariant.2.after c.loop-k.k (omega arith))),
+)
 
 pub returns : goal.returns
 returns c = λ some. wrote-all 0 _ _ c.loop-k.invariant.2 c.loop-k.invariant.0 (omega arith)

@@ -1,4 +1,3 @@
-use Prim.Native.Nat.{◌-◌}
 use native.Mathlib.Omega.{arith}
 use Rattle.plain.proofs.Tests.{flags_agree, flags_differ, eqb-told, each_none, each_more, each-fails, each_holds}
 use Rattle.plain_frames.proofs.compare.differ_in.Goals as goal
@@ -12,8 +11,7 @@ returns-then-differs-get c =
     (λ h. flags_differ _ _ c.differs.ensures (eqb-told _ _ 1 c.get.ensures) c.if-differs-get.true (h.1, h.0))
 
 pub loop-i-preserved : goal.loop-i-preserved
-loop-i-preserved c =
-    (
+loop-i-preserved c = (
   omega arith,
   each_more _ _ _ c.loop-i.invariant.1
       (let h = flags_agree _ _ c.differs.ensures (eqb-told _ _ 1 c.get.ensures) c.if-differs-get.false in (h.1, h.0)),

@@ -1,10 +1,9 @@
 use mathlib.Core.List.{List}
 use mathlib.Core.Path.{ap, sym, ◌∙◌}
-use Prim.Native.Nat.{ℕ, ◌-◌}
+use Prim.Native.Nat.{ℕ}
 use native.Mathlib.Omega.{arith}
 use lib.ListN.{get_or}
 use Rattle.plain.proofs.Tests.{some-found, none_found, each_none, each_more}
-use Rattle.plain_frames.specs.Frames.{row}
 use Rattle.plain_frames.proofs.compare.differs.Goals as goal
 
 pub loop-h-init : goal.loop-h-init

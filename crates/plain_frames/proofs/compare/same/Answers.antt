@@ -1,5 +1,4 @@
 use mathlib.Core.Path.{sym, ◌∙◌, refl}
-use Prim.Native.Nat.{◌-◌}
 use native.Mathlib.Omega.{arith}
 use Rattle.plain.proofs.Tests.{each_none, each_more, each-fails, each_holds}
 use Rattle.plain_frames.proofs.compare.same.Goals as goal
@@ -13,12 +12,11 @@ returns-then-get c =
     (λ e. c.if-get.true (c.get.ensures ∙ e ∙ sym c.get-in-loop-i.ensures))
 
 pub loop-i-preserved : goal.loop-i-preserved
-loop-i-preserved c =
-    (
-      refl,
-      omega arith,
-      each_more _ _ _ c.loop-i.invariant.2 (sym c.get.ensures ∙ c.if-get.false ∙ c.get-in-loop-i.ensures),
-    )
+loop-i-preserved c = (
+  refl,
+  omega arith,
+  each_more _ _ _ c.loop-i.invariant.2 (sym c.get.ensures ∙ c.if-get.false ∙ c.get-in-loop-i.ensures),
+)
 
 pub returns : goal.returns
 returns c = each_holds _ _ _ _ (omega arith) c.loop-i.invariant.2

@@ -1,6 +1,6 @@
 use mathlib.Core.Bool.{Bool}
 use mathlib.Core.Path.{refl, sym, subst, ◌≡◌}
-use Prim.Native.Nat.{ℕ, ◌-◌}
+use Prim.Native.Nat.{ℕ}
 use native.Mathlib.Omega.{arith}
 use Rattle.plain.proofs.Tests.{flags_agree, flags_differ, eqb-told, each_none, each_more, each-fails, each_holds}
 use Rattle.columns.specs.Columns.{has}
@@ -22,8 +22,7 @@ returns-then-contains-get c =
     (flags_differ _ _ (marked-told _ _ _ c.contains.ensures) (eqb-told _ _ 1 c.get.ensures) c.if-contains-get.true)
 
 pub loop-i-preserved : goal.loop-i-preserved
-loop-i-preserved c =
-    (
+loop-i-preserved c = (
   omega arith,
   each_more _ _ _ c.loop-i.invariant.1
       (flags_agree _ _ (marked-told _ _ _ c.contains.ensures) (eqb-told _ _ 1 c.get.ensures) c.if-contains-get.false),

@@ -1,5 +1,5 @@
 use mathlib.Core.Path.{ap}
-use Prim.Native.Nat.{ℕ, ◌+◌, ◌-◌}
+use Prim.Native.Nat.{ℕ, ◌+◌}
 use native.Mathlib.Omega.{arith}
 use Rattle.plain_frames.proofs.Errors.{drawn-nonzero, error-nonzero}
 use Rattle.plain_frames.proofs.Striking.{struck_none, struck_more, struck_all}

@@ -1,5 +1,4 @@
 use mathlib.Core.Path.{refl}
-use Prim.Native.Nat.{◌-◌}
 use native.Mathlib.Omega.{arith}
 use Rattle.plain_frames.proofs.Striking.{damaged-none, damaged-more, damaged-all}
 use Rattle.plain_frames.proofs.damage.damage_columns.Goals as goal

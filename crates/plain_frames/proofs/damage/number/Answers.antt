@@ -1,5 +1,4 @@
 use mathlib.Core.Path.{refl}
-use Prim.Native.Nat.{◌-◌}
 use native.Mathlib.Omega.{arith}
 use Rattle.plain.proofs.Writing.{wrote_none, wrote-put, wrote-all}
 use Rattle.plain_frames.proofs.damage.number.Goals as goal

@@ -1,5 +1,4 @@
 use mathlib.Core.Path.{sym, ◌∙◌, refl}
-use Prim.Native.Nat.{◌-◌}
 use native.Mathlib.Omega.{arith}
 use Rattle.plain.proofs.Tests.{each_none, each_more, each-fails, each_holds}
 use Rattle.plain_frames.proofs.frames.all_zero.Goals as goal

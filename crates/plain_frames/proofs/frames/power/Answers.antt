@@ -1,5 +1,5 @@
 use mathlib.Core.Path.{ap, ◌∙◌, ◌≡◌}
-use Prim.Native.Nat.{ℕ, ◌-◌, ◌%◌, ◌^◌}
+use Prim.Native.Nat.{ℕ, ◌%◌, ◌^◌}
 use native.Mathlib.Omega.{arith}
 use Rattle.plain.proofs.Powers.{power-none, power-more}
 use Rattle.plain_frames.proofs.frames.power.Goals as goal

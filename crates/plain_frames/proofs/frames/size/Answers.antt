@@ -1,5 +1,5 @@
 use mathlib.Core.Path.{refl, sym, ap, ◌∙◌, ◌≡◌}
-use Prim.Native.Nat.{ℕ, ◌+◌, ◌-◌}
+use Prim.Native.Nat.{ℕ, ◌+◌}
 use native.Mathlib.Omega.{arith}
 use lib.ListN.{length, get_or}
 use Rattle.plain.proofs.Sums.{sum-zero, sum-capped-more}
@@ -10,12 +10,11 @@ pub loop-i-init : goal.loop-i-init
 loop-i-init c = (omega arith, refl, sym (ap capped (sum-zero _)))
 
 pub loop-i-preserved : goal.loop-i-preserved
-loop-i-preserved c =
-    (
-      omega arith,
-      refl,
-      sum-capped-more _ _ c.loop-i.invariant.2 (c.plus-n.ensures ∙ ap (λ (x : ℕ). capped (c.loop-i.n + x)) c.get.ensures),
-    )
+loop-i-preserved c = (
+  omega arith,
+  refl,
+  sum-capped-more _ _ c.loop-i.invariant.2 (c.plus-n.ensures ∙ ap (λ (x : ℕ). capped (c.loop-i.n + x)) c.get.ensures),
+)
 
 pub returns : goal.returns
 returns c =
