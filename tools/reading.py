@@ -403,6 +403,27 @@ def imported(path, text):
             yield above, name, known_as or name
 
 
+RUST_USE = re.compile(r"^[ \t]*(?:pub(?:\([^)\n]*\))? )?use\s+([^;]+);", re.M)
+
+
+def rust_names(path, text):
+    """The names that the code's own `use` items bring in, which a clause may use too: the crate of each, the name there and the name here."""
+    def under(crate, tree):
+        for part in re.findall(r"(?:[^,{}]|\{(?:[^{}]|\{[^{}]*\})*\})+", tree):
+            above, brace, inner = part.strip().partition("{")
+            steps = [step for step in above.split("::") if step.strip()]
+            first = crate or (steps[0].strip() if steps else "")
+            if brace:
+                yield from under(first, inner.removesuffix("}"))
+            elif steps:
+                words = steps[-1].split()
+                yield first, words[0], words[-1]
+
+    for m in RUST_USE.finditer(blanked(text)):
+        for crate, name, here in under("", m.group(1)):
+            yield crate_of(path) if crate in ("crate", "self", "super") else crate, name, here
+
+
 def modules(path, text):
     """Each module that the file brings in whole: its path, and the name that it gets here."""
     for module, names, known_as in uses(path, text):
@@ -444,6 +465,11 @@ class Names:
             for where, name in self.definitions:
                 if where == path:
                     names[name] = self.definitions[where, name]
+            if path.endswith(".rt"):
+                for d in declared(path, text):
+                    names.setdefault(d.name.split("::")[-1], d)
+                for crate, name, here in rust_names(path, text):
+                    names.setdefault(here, self.definitions.get((f"crates/{crate}/src", name)))
             for module, here in modules(path, text):
                 where = spec_path(module)
                 for there, name in self.definitions:
