@@ -9,7 +9,7 @@ mod disagreement;
 mod edges;
 mod frames;
 mod model;
-mod search;
+mod named;
 mod shapes;
 mod small;
 mod tallies;

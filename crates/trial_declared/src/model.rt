@@ -1,5 +1,5 @@
 // A simple model of a job that is shaped well: what locate and repair must answer, and the state that they leave. It shares no code with the library.
-use crate::search::{all_completable, named_by};
+use crate::named::{all_completable, named_by};
 use brute::locator::Expected;
 use lost::cells::declarable;
 use plain::values::{copy, get, part, product};

@@ -1,6 +1,6 @@
 // What is right of small frames by trying everything: all sets of columns for frames of at most eight columns, and all legal frames for those of three columns
 // with two checks in each of at most two rows. Declared cells do not count for distance.
-use crate::search::all_completable;
+use crate::named::all_completable;
 use brute::locator::Expected;
 use lost::cells::is_declared;
 use plain::counting::advance;
