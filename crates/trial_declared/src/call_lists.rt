@@ -3,8 +3,8 @@
 use crate::against;
 use crate::against::Pair;
 use crate::disagreement::show_unless;
+use crate::drawn::{Size, draw_frame};
 use crate::model::{EMPTY, Model, size};
-use crate::shapes::{Size, draw_frame};
 use crate::tallies::{DEAD, FOUND, LISTS, MENDED, RENEWED, tally};
 use lost::cells;
 use plain::random::{draw, draw_from};

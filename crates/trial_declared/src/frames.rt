@@ -2,8 +2,8 @@
 // the smallest by all legal frames; damage in reach of the checks that are left must be mended.
 use crate::against::Pair;
 use crate::disagreement::show_unless;
+use crate::drawn::{Size, draw_frame, is_tiny};
 use crate::model::{Model, RIGHT};
-use crate::shapes::{Size, draw_frame, is_tiny};
 use crate::small::{frames_agree, sets_agree};
 use crate::tallies::{FOUND, IN_REACH, PAST_REACH, tally};
 use crate::{against, model};

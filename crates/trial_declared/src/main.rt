@@ -6,17 +6,17 @@
 mod against;
 mod call_lists;
 mod disagreement;
+mod drawn;
 mod edges;
 mod frames;
 mod model;
 mod named;
-mod shapes;
 mod small;
 mod tallies;
 
+use drawn::Size;
 use plain::tally::{print, print_end};
 use plain::values::get;
-use shapes::Size;
 use std::io;
 
 // Runs everything up to the first disagreement.
