@@ -29,7 +29,7 @@ pub loop-used-preserved : goal.loop-used-preserved
 loop-used-preserved c =
     let line = c.line-used in
     putting_more _ _ _ _ c.requires.inside.within _ _ _ c.loop-used.invariant _ c.next_size-size.ensures (let n = c.if-size-eq0.false in omega arith) _ _
-        line.ensures.written (let room = line.ensures.upper_bound in let wide = c.requires.line in search rules)
+    line.ensures.written (let room = line.ensures.upper_bound in let wide = c.requires.line in search rules)
 
 pub returns-after-loop-used : goal.returns-after-loop-used
 returns-after-loop-used c =
