@@ -74,10 +74,17 @@ module _ (before : List ℕ) (w : Window) (turns : ℕ) (now : Running before w 
   over e = record { steps = now.steps ++ (next ∷ []); chain = joins; stops = inl e; text = whole-text after r (now.steps ++ (next ∷ [])) joins }
 
 -- where what the last turn handed over is not all written
-pub broken : {T E : Type 0} (before : List ℕ) (w : Window) (turns : ℕ) (now : Running before w turns) (after out : List ℕ)
+pub broken : {T E : Type 0} (before : List ℕ) (w : Window) (turns : ℕ) (now : Running before w turns) → 0 < turns → (after out : List ℕ)
     → ((r : Window) × Turned before w after out r) → (result : Result T E) → OnErr result ((r : Window) × BrokenOff after r)
-broken before w turns now after out (r, t) result =
+broken before w turns now some after out (r, t) result =
+    let n = now.count in
     on_err ((x : Window) × BrokenOff after x) result (
       r,
-      record { steps = now.steps ++ (next before w turns now after out r t ∷ []); chain = joins before w turns now after out r t },
+      record {
+        steps = now.steps;
+        last = next before w turns now after out r t;
+        chain = joins before w turns now after out r t;
+        count = omega arith;
+        handed = now.handed;
+      },
     )

@@ -8,7 +8,7 @@ pub loop-turns-init : goal.loop-turns-init
 loop-turns-init c = record { made = running_none _; inside = search rules }
 
 pub returns-in_err-w-clause-err : goal.returns-in_err-w-clause-err
-returns-in_err-w-clause-err c = broken _ _ _ c.loop-turns.invariant.made _ _ c.in_err-w.ensures.err _
+returns-in_err-w-clause-err c = broken _ _ _ c.loop-turns.invariant.made c.loop-turns-test.true _ _ c.in_err-w.ensures.err _
 
 pub loop-turns-preserved : goal.loop-turns-preserved
 loop-turns-preserved c =
