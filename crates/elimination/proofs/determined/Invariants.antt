@@ -8,6 +8,3 @@ use Rattle.elimination.proofs.determined.Given as goal
 
 abbrev pub invariant-loop-k : goal.invariant-loop-k
 invariant-loop-k l = (1 ≤ l.k) × Each 1 l.k (λ m. get_or l.table (place_of m m) 0 ≡ 0 → ⊥)
-
-abbrev pub decreases-loop-k : goal.decreases-loop-k
-decreases-loop-k l = l.n - l.k

@@ -7,6 +7,3 @@ use Rattle.brute.proofs.erasures.pose_sum.Given as goal
 abbrev pub invariant-loop-k : goal.invariant-loop-k
 invariant-loop-k l =
     (l.k ≤ l.k-end) × (l.k-end ≡ length l.list) × Wrote l.initial.table l.table 1 (l.k + 1) (sum_equation l.list l.sum l.step)
-
-abbrev pub decreases-loop-k : goal.decreases-loop-k
-decreases-loop-k l = l.k-end - l.k

@@ -6,6 +6,3 @@ use Rattle.brute.proofs.erasures.take_out.Given as goal
 
 abbrev pub invariant-loop-j : goal.invariant-loop-j
 invariant-loop-j l = (l.j ≤ l.n) × Wrote l.initial.sums l.sums 0 l.j (without_column l.i (λ k. get_or l.initial.sums k 0))
-
-abbrev pub decreases-loop-j : goal.decreases-loop-j
-decreases-loop-j l = l.n - l.j

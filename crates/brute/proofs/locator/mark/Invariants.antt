@@ -5,6 +5,3 @@ use Rattle.brute.proofs.locator.mark.Given as goal
 
 abbrev pub invariant-loop-i : goal.invariant-loop-i
 invariant-loop-i l = (l.i ≤ l.columns) × MarkedTo l.n l.initial.table l.table l.initial.named l.named l.i
-
-abbrev pub decreases-loop-i : goal.decreases-loop-i
-decreases-loop-i l = l.columns - l.i

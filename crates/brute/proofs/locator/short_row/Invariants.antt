@@ -5,6 +5,3 @@ use Rattle.brute.proofs.locator.short_row.Given as goal
 
 abbrev pub invariant-loop-h : goal.invariant-loop-h
 invariant-loop-h l = (l.h-end ≡ length l.checks) × Each 0 l.h (λ k. get_or l.checks k 0 < l.c → ⊥)
-
-abbrev pub decreases-loop-h : goal.decreases-loop-h
-decreases-loop-h l = l.h-end - l.h

@@ -7,6 +7,3 @@ abbrev pub invariant-loop-h : goal.invariant-loop-h
 invariant-loop-h l =
     (l.h-end ≡ length l.lengths)
     × Each 0 l.h (λ g. Each l.l (length (sequence l.lengths l.symbols g)) (λ j. discrepancy l.p (sequence l.lengths l.symbols g) l.taps (l.l + 1) j ≡ 0))
-
-abbrev pub decreases-loop-h : goal.decreases-loop-h
-decreases-loop-h l = l.h-end - l.h

@@ -5,6 +5,3 @@ use Rattle.brute.proofs.shortest.shortest.Given as goal
 
 abbrev pub invariant-loop-l : goal.invariant-loop-l
 invariant-loop-l l = (l.l ≤ 129) × NoneBelow l.p l.lengths l.symbols l.initial.table l.l l.table
-
-abbrev pub decreases-loop-l : goal.decreases-loop-l
-decreases-loop-l l = 129 - l.l
