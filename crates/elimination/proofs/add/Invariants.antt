@@ -1,6 +1,6 @@
 -- `elimination::add` meets its contract.
 use mathlib.Core.Path.{◌≡◌}
-use Prim.Native.Nat.{◌-◌, ◌≤◌}
+use Prim.Native.Nat.{◌≤◌}
 use lib.ListN.{length}
 use Rattle.elimination.proofs.Reducing.{Reduced}
 use Rattle.elimination.specs.Equations.{Posed}

@@ -1,5 +1,5 @@
 -- `elimination::cancel` meets its contract.
-use Prim.Native.Nat.{◌-◌, ◌≤◌}
+use Prim.Native.Nat.{◌≤◌}
 use Rattle.elimination.specs.Equations.{Cancelled}
 use Rattle.elimination.proofs.cancel.Given as goal
 

@@ -1,6 +1,6 @@
 -- `elimination::clear` meets its contract.
 use mathlib.Core.Logic.{◌⊎◌}
-use Prim.Native.Nat.{◌-◌, ◌≤◌}
+use Prim.Native.Nat.{◌≤◌}
 use Rattle.elimination.specs.Equations.{Cleared}
 use Rattle.elimination.proofs.clear.Given as goal
 

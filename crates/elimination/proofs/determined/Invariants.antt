@@ -1,6 +1,6 @@
 -- `elimination::determined` meets its contract.
 use mathlib.Core.Path.{◌≡◌}
-use Prim.Native.Nat.{◌-◌, ◌≤◌}
+use Prim.Native.Nat.{◌≤◌}
 use lib.ListN.{get_or}
 use Rattle.elimination.specs.Equations.{place_of}
 use Rattle.plain.specs.Plain.{Each}

@@ -1,5 +1,5 @@
 -- `elimination::keep` meets its contract.
-use Prim.Native.Nat.{◌-◌, ◌≤◌}
+use Prim.Native.Nat.{◌≤◌}
 use Rattle.elimination.specs.Equations.{Stored}
 use Rattle.elimination.proofs.keep.Given as goal
 

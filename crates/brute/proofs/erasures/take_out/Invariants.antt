@@ -1,5 +1,5 @@
 -- `brute::erasures::take_out` meets its contract.
-use Rattle.std.proofs.Common.{◌-◌, ◌≤◌, get_or}
+use Rattle.std.proofs.Common.{◌≤◌, get_or}
 use Rattle.plain.specs.Written.{Wrote}
 use Rattle.brute.specs.Erasures.{without_column}
 use Rattle.brute.proofs.erasures.take_out.Given as goal

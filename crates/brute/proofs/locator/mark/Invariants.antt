@@ -1,5 +1,5 @@
 -- `brute::locator::mark` meets its contract.
-use Rattle.std.proofs.Common.{◌-◌, ◌≤◌}
+use Rattle.std.proofs.Common.{◌≤◌}
 use Rattle.brute.proofs.Marks.{MarkedTo}
 use Rattle.brute.proofs.locator.mark.Given as goal
 

@@ -1,5 +1,5 @@
 -- `brute::locator::pose_root` meets its contract.
-use Rattle.std.proofs.Common.{◌≡◌, ◌-◌, ◌%◌, ◌^◌, ◌≤◌}
+use Rattle.std.proofs.Common.{◌≡◌, ◌%◌, ◌^◌, ◌≤◌}
 use Rattle.plain.specs.Written.{Wrote}
 use Rattle.brute.proofs.locator.pose_root.Given as goal
 

@@ -1,5 +1,5 @@
 -- `brute::shortest::add_sequence` meets its contract.
-use Rattle.std.proofs.Common.{◌≡◌, ◌-◌, ◌≤◌, length}
+use Rattle.std.proofs.Common.{◌≡◌, ◌≤◌, length}
 use Rattle.brute.proofs.OneSequence.{SoFar}
 use Rattle.brute.proofs.shortest.add_sequence.Given as goal
 

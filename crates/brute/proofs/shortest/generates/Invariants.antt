@@ -1,5 +1,5 @@
 -- `brute::shortest::generates` meets its contract.
-use Rattle.std.proofs.Common.{◌≡◌, ◌+◌, ◌-◌, length}
+use Rattle.std.proofs.Common.{◌≡◌, ◌+◌, length}
 use Rattle.plain.specs.Plain.{Each, discrepancy, sequence}
 use Rattle.brute.proofs.shortest.generates.Given as goal
 

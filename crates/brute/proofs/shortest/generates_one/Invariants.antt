@@ -1,5 +1,5 @@
 -- `brute::shortest::generates_one` meets its contract.
-use Rattle.std.proofs.Common.{◌≡◌, ◌+◌, ◌-◌, ◌≤◌, length}
+use Rattle.std.proofs.Common.{◌≡◌, ◌+◌, ◌≤◌, length}
 use Rattle.plain.specs.Plain.{Each, discrepancy}
 use Rattle.brute.proofs.shortest.generates_one.Given as goal
 

@@ -1,5 +1,5 @@
 -- `brute::shortest::pose` meets its contract.
-use Rattle.std.proofs.Common.{◌-◌, ◌≤◌}
+use Rattle.std.proofs.Common.{◌≤◌}
 use Rattle.plain.specs.Plain.{before}
 use Rattle.plain.specs.Written.{Wrote}
 use Rattle.brute.proofs.shortest.pose.Given as goal

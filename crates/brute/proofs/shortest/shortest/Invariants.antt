@@ -1,5 +1,5 @@
 -- `brute::shortest::shortest` meets its contract.
-use Rattle.std.proofs.Common.{◌-◌, ◌≤◌}
+use Rattle.std.proofs.Common.{◌≤◌}
 use Rattle.brute.proofs.Searching.{NoneBelow}
 use Rattle.brute.proofs.shortest.shortest.Given as goal
 

@@ -1,5 +1,5 @@
 -- `brute::shortest::solvable` meets its contract.
-use Rattle.std.proofs.Common.{◌≡◌, ◌-◌, ◌≤◌, length}
+use Rattle.std.proofs.Common.{◌≡◌, ◌≤◌, length}
 use Rattle.brute.proofs.AllSequences.{FirstGathered}
 use Rattle.brute.proofs.shortest.solvable.Given as goal
 
