@@ -5,6 +5,7 @@ use crate::model::{Model, Planted};
 use crate::tallies::Tallies;
 use plain::random::draw_from;
 use plain::tally::{count, print_frame};
+use plain_frames::cells::mark;
 use std::io;
 
 // How the next call is drawn and made.
@@ -68,4 +69,21 @@ pub fn show(rt: &impl Print, model: &Model, frame: &[u16]) -> io::Result<()> {
         model.checks(),
         frame,
     )
+}
+
+// The same, after the marks of the declared cells.
+pub fn show_cells(
+    rt: &impl Print,
+    model: &Model,
+    words: &[u64; 32],
+    frame: &[u16],
+) -> io::Result<()> {
+    print!(rt; "cells")?;
+    for k in 0..2048usize {
+        if mark(words, k) == 1 {
+            print!(rt; " {k}")?;
+        }
+    }
+    print!(rt; "; ")?;
+    show(rt, model, frame)
 }
