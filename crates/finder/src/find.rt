@@ -8,7 +8,7 @@ use crate::Register;
 use discrepancy::worked_out::worked_out;
 use ends::{alone, start};
 use reduction::copy::copy;
-use refusal::{Checked, Refusal};
+use refusal::Refusal;
 use rounds::rounds;
 use sequences::backwards::all_backwards;
 use sequences::check::{check, longest};
@@ -77,8 +77,6 @@ pub fn synthesize(p: u32, lengths: &[u16], symbols: &[u16], taps: &mut [u16]) ->
 pub fn find(p: u32, lengths: &[u16], symbols: &[u16], taps: &mut [u16]) -> Result<Register, Refusal>
     ensures { Finds p lengths.now symbols.now taps.old taps.new result }
 {
-    match check(p, lengths, symbols, taps.len()) {
-        Checked::Refuse(why) => Err(why),
-        Checked::Pass => Ok(synthesize(p, lengths, symbols, taps)),
-    }
+    check(p, lengths, symbols, taps.len())?;
+    Ok(synthesize(p, lengths, symbols, taps))
 }
