@@ -1,5 +1,5 @@
 // One stage of a transform: of every four columns that lie 64 apart, each times its factor, four others.
-ghost use Rattle.std.specs.Prelude.{◌≡◌, ◌+◌, ◌*◌, ◌%◌, ◌≤◌, ◌<◌, length, get_or};
+ghost use Rattle.std.specs.Prelude.{◌≡◌, ◌+◌, ◌*◌, ◌%◌, ◌≤◌, ◌<◌, get_or};
 ghost use Rattle.lists.specs.Tabulate.{tabulate};
 ghost use Rattle.butterflies.specs.Butterflies.{Butterflies, Factors, Weighed, butterfly};
 
@@ -55,7 +55,7 @@ fn four(t: &[u16], x: &[u16; 256], l: usize) -> (u16, u16, u16, u16)
 // One stage, of 64 butterflies: the columns l, 64 + l, 128 + l and 192 + l become the four from 4 l on. So the loop is the same in each stage, and several
 // butterflies are worked out at once.
 pub fn butterflies(t: &[u16], x: &[u16; 256], y: &mut [u16; 256])
-    requires { Factors t.now × (length y.old ≡ 256) }
+    requires { Factors t.now }
     ensures { Butterflies t.now x.now y.new }
 {
     for l in 0..64 {

@@ -3,7 +3,7 @@ use Rattle.butterflies.proofs.ButterflyLaws.{written_none, written-four, written
 use Rattle.butterflies.proofs.stage.butterflies.Goals as goal
 
 pub loop-l-init : goal.loop-l-init
-loop-l-init c = written_none _ _ _ c.requires.1
+loop-l-init c = written_none _ _ _ c.told-y
 
 pub loop-l-preserved : goal.loop-l-preserved
 loop-l-preserved c =
