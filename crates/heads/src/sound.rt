@@ -23,7 +23,9 @@ pub fn rows_reach(s: Shape, c: usize) -> bool
     requires { is_shape s ≡ true }
     ensures { result ≡ rows_reach s c }
 {
-    s.checks[..s.rows].iter().all(|count| usize::from(*count) >= c)
+    s.checks[..s.rows]
+        .iter()
+        .all(|count| usize::from(*count) >= c)
 }
 
 // What a located job of length c and the given alone mark must hold.

@@ -1,10 +1,9 @@
 -- `heads::sound::rows_reach` meets its contract: the entries of the part that is tested are the checks of the rows.
-use Rattle.std.proofs.Common.{◌≡◌, true, ◌≤◌, ◌<◌, ◌↔◌, ℕ, length, take, get_or, arith, rules, sym, subst}
+use Rattle.std.proofs.Common.{◌≡◌, ◌≤◌, ◌<◌, ◌↔◌, length, take, get_or, arith, rules, sym, subst}
 use Rattle.std.specs.Prelude.{EachIndex, IsTrue}
 use Rattle.std.proofs.lemmas.List.{get_or-take, length-take-le}
 use borrow.Author.Tests.{le-leb, leb-true}
 use Rattle.decoding.specs.Locating.{rows_reach}
-use Rattle.frame.specs.Shape.{checks_of}
 use Rattle.frame.proofs.Shapes.{shape-ranges}
 use Rattle.lists.proofs.Tabulated.{every-at, every_of}
 use Rattle.lists.proofs.Truth.{same_truth}
