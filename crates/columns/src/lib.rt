@@ -1,6 +1,8 @@
 // A set of columns: 256 marks in four 64-bit words, column 0 lowest. Column i is bit i mod 64 of word i / 64.
 #![tactic(auto)]
 
+pub mod rising;
+
 ghost use Rattle.std.specs.Prelude.{◌≡◌, false, ◌&&◌, ◌||◌, ◌<◌, eqb, leb, length};
 ghost use Rattle.columns.specs.Columns.{has, marking, columns_of, members, either, Sound};
 ghost use Rattle.columns.specs.Listed.{least};
