@@ -15,6 +15,7 @@ use refusal::{Checked, Refusal};
 use shapes::symbols::all_below;
 
 // 0 in the columns of the set.
+// Kept as a while: it goes from one marked column to the next, and not by one.
 fn clear(set: Columns, row: &mut [u16])
     requires { length row.old ≤ 256 }
     ensures { row.new ≡ cleared (length row.old) set row.old }
@@ -31,14 +32,10 @@ pub fn clear_rows(s: Shape, declared: &[u64; 32], frame: &mut [u16])
     requires { ReadableFrame s frame.old }
     ensures { frame.new ≡ as_read s (declared_by declared.now) frame.old }
 {
-    let rows = s.rows;
-    let columns = s.columns;
-    let mut h = 0;
-    while h < rows {
-        let a = h * columns;
-        let e = a + columns;
+    for h in 0..s.rows {
+        let a = h * s.columns;
+        let e = a + s.columns;
         clear(cells_of(declared, h), &mut frame[a..e]);
-        h += 1;
     }
 }
 

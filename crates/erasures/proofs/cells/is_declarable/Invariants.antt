@@ -15,5 +15,3 @@ row s words h = row_declarable s (declared_by words h) h
 abbrev pub invariant-loop-h : goal.invariant-loop-h
 invariant-loop-h l = Tested 8 (row l.s l.declared) l.h true
 
-abbrev pub decreases-loop-h : goal.decreases-loop-h
-decreases-loop-h l = 8 - l.h

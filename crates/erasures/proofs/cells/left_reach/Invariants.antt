@@ -7,7 +7,5 @@ use Rattle.lists.proofs.Testing.{Tested}
 use Rattle.erasures.proofs.cells.left_reach.Given as goal
 
 abbrev pub invariant-loop-h : goal.invariant-loop-h
-invariant-loop-h l = Tested l.rows (λ k. leb l.c (checks_left l.s (declared_by l.declared) k)) l.h true
+invariant-loop-h l = Tested l.s.rows (λ k. leb l.c (checks_left l.s (declared_by l.declared) k)) l.h true
 
-abbrev pub decreases-loop-h : goal.decreases-loop-h
-decreases-loop-h l = l.rows - l.h

@@ -7,7 +7,5 @@ use Rattle.frame.proofs.RowsAtSets.{RowsAtSets}
 use Rattle.erasures.proofs.reading.clear_rows.Given as goal
 
 abbrev pub invariant-loop-h : goal.invariant-loop-h
-invariant-loop-h l = RowsAtSets cleared length-cleared l.columns l.rows (declared_by l.declared) l.initial.frame l.h l.frame
+invariant-loop-h l = RowsAtSets cleared length-cleared l.s.columns l.s.rows (declared_by l.declared) l.initial.frame l.h l.frame
 
-abbrev pub decreases-loop-h : goal.decreases-loop-h
-decreases-loop-h l = l.rows - l.h
