@@ -5,7 +5,7 @@ ghost use Rattle.refusal.specs.Outcome.{outcome_of, outcome};
 ghost use Rattle.register.specs.Sequences.{largest};
 ghost use Rattle.sequences.specs.Tests.{is_counted, is_short, is_measured, is_below, tests};
 
-use refusal::{Checked, Refusal};
+use refusal::{Refusal, require};
 
 fn counted(n: usize) -> bool
     ensures { result ≡ is_counted n }
@@ -84,23 +84,13 @@ fn below(symbols: &[u16], p: u32) -> bool
 }
 
 // The refusal of the first test that fails.
-pub fn check(p: u32, lengths: &[u16], symbols: &[u16], room: usize) -> Checked
+#[tactic(auto, unfolding(crate::specs::Tests::tests))]
+pub fn check(p: u32, lengths: &[u16], symbols: &[u16], room: usize) -> Result<(), Refusal>
     ensures { outcome_of result ≡ outcome (tests p lengths.now symbols.now room) }
 {
-    if !field::prime::is_modulus(p) {
-        return Checked::Refuse(Refusal::Modulus);
-    }
-    if !counted(lengths.len()) {
-        return Checked::Refuse(Refusal::Count);
-    }
-    if !measured(lengths, symbols.len()) {
-        return Checked::Refuse(Refusal::Lengths);
-    }
-    if room <= longest(lengths) {
-        return Checked::Refuse(Refusal::TapBuffer);
-    }
-    if !below(symbols, p) {
-        return Checked::Refuse(Refusal::Symbol);
-    }
-    Checked::Pass
+    require(field::prime::is_modulus(p), Refusal::Modulus)?;
+    require(counted(lengths.len()), Refusal::Count)?;
+    require(measured(lengths, symbols.len()), Refusal::Lengths)?;
+    require(longest(lengths) < room, Refusal::TapBuffer)?;
+    require(below(symbols, p), Refusal::Symbol)
 }
