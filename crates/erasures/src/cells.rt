@@ -27,7 +27,12 @@ pub fn cells_of(declared: &[u64; 32], h: usize) -> Columns
 {
     let a = 4 * h;
     Columns {
-        words: [declared[a], declared[a + 1], declared[a + 2], declared[a + 3]],
+        words: [
+            declared[a],
+            declared[a + 1],
+            declared[a + 2],
+            declared[a + 3],
+        ],
     }
 }
 

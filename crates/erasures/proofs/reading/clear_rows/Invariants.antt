@@ -1,5 +1,4 @@
 -- `erasures::reading::clear_rows` meets its contract.
-use Prim.Native.Nat.{◌-◌}
 use Rattle.frame.specs.DeclaredCells.{declared_by}
 use Rattle.frame.specs.Completion.{cleared}
 use Rattle.frame.proofs.ReadFrames.{length-cleared}
@@ -8,4 +7,3 @@ use Rattle.erasures.proofs.reading.clear_rows.Given as goal
 
 abbrev pub invariant-loop-h : goal.invariant-loop-h
 invariant-loop-h l = RowsAtSets cleared length-cleared l.s.columns l.s.rows (declared_by l.declared) l.initial.frame l.h l.frame
-
