@@ -1,16 +1,16 @@
 -- The marked columns that are still to come from a place on: none where no marked column follows, else the next one and those after it.
 use mathlib.Core.Path.{◌≡◌, refl, sym, ap, ap₂, ◌∙◌}
-use mathlib.Core.List.{List, [], ◌∷◌}
+use mathlib.Core.List.{List, [], ◌∷◌, ◌++◌, append_assoc}
 use Prim.Native.Nat.{ℕ, suc, ◌+◌, ◌≤◌, ◌<◌}
 use native.Mathlib.Decide.{dec_le}
 use native.Mathlib.Numerals.{add-one}
 use native.Mathlib.Omega.{arith}
-use lib.ListN.{drop, drop_of_length-le}
-use lib.Seq.{drop-cons, drop-length}
+use lib.ListN.{length, length-append, get_or, drop, drop_of_length-le}
+use lib.Seq.{drop-cons, drop-length, get_or-append_seam}
 use Rattle.columns.specs.Columns.{has, members}
 use Rattle.columns.specs.Listed.{count}
 use Rattle.columns.specs.declared.Columns.{Columns}
-use Rattle.columns.proofs.Listing.{count-pass, count_mono, length-listed}
+use Rattle.columns.proofs.Listing.{count-pass, count_mono, length-listed, entry}
 use Rattle.columns.proofs.Walk.{Walk, next_at, before-next, next_within, arrived, walk-member, walk_end}
 
 module _ (c : Columns) where
@@ -63,3 +63,21 @@ module _ (c : Columns) where
 
         after : suc (count i (has c)) ≡ count (i + 1) (has c)
         after = sym (ap (λ (k : ℕ). count k (has c)) (add-one i) ∙ count-pass i (has c) (rw next (at.marked here)))
+
+-- an iterator over the set has given some of its columns, and has the others still to give
+module _ (set : Columns) (given : List ℕ) (left : List ℕ) (split : members set ≡ given ++ left) where
+  module _ (i : ℕ) (later : List ℕ) (next : left ≡ i ∷ later) where
+    pub split-next : members set ≡ (given ++ (i ∷ [])) ++ later
+    split-next = split ∙ ap (λ (l : List ℕ). given ++ l) next ∙ sym (append_assoc given (i ∷ []) later)
+
+    pub next-place : length given < length (members set)
+    next-place = omega (arith, ap length split, length-append given left, ap length next)
+
+    pub next-member : get_or (members set) (length given) 0 ≡ i
+    next-member = rw (split, next) (get_or-append_seam given i later 0)
+
+    pub next-below : i < 256
+    next-below = rw (sym next-member) (entry 256 (has set) (length given) (let p = next-place in let n = length-listed 256 (has set) in omega arith)).below
+
+  pub all-given : left ≡ [] → length given ≡ length (members set)
+  all-given e = omega (arith, ap length split, length-append given left, ap length e)
