@@ -7,7 +7,7 @@ ghost use Rattle.frame.specs.Encode.{each_row};
 
 use crate::cell::mend_cell;
 use columns::{Columns, next, size};
-use field257::powers::{powers, wide};
+use field257::powers::powers;
 use frame::Shape;
 use polynomials::locator::locator_polynomial;
 use weights::weigh;
@@ -17,17 +17,13 @@ fn mend_column(s: Shape, frame: &mut [u16], i: usize, coefficients: &[u16], sums
     requires { MendableColumn s frame.old i coefficients.now sums.now }
     ensures { frame.new ≡ mended_column s coefficients.now sums.now i frame.old }
 {
-    let rows = s.rows;
-    let columns = s.columns;
     let mut at: usize = 0;
-    let mut h = 0;
-    while h < rows {
-        let to = at + wide(s.checks[h]) as usize;
-        let a = h * columns;
-        let e = a + columns;
+    for h in 0..s.rows {
+        let to = at + usize::from(s.checks[h]);
+        let a = h * s.columns;
+        let e = a + s.columns;
         mend_cell(&mut frame[a..e], i, coefficients, &sums[at..to]);
         at = to;
-        h += 1;
     }
 }
 

@@ -10,12 +10,12 @@ use Rattle.completion.proofs.mend.mend_column.Goals.{After-wide, In-loop-h}
 place : (c : In-loop-h) →
     let args = c.args in
     RowLent args.s args.sums.now args.frame.now c.loop-h.h
-place c = row-lent _ _ _ _ c.requires.lent c.loop-h-test.true
+place c = row-lent _ _ _ _ c.requires.lent (omega arith)
 
 -- the sums of the row end within those that are lent
 ends : (c : After-wide) → c.loop-h.at + c.wide.result ≤ length c.args.sums.now
 ends c =
-    let room = (row-lent _ _ _ _ c.requires.lent c.loop-h-test.true).sums-room in
+    let room = (row-lent _ _ _ _ c.requires.lent (omega arith)).sums-room in
     let begins = c.loop-h.invariant.place in
     let count = c.wide.ensures.equals in
     omega arith
@@ -63,7 +63,7 @@ mend_cell-requires c =
     let p = place (goal.at.mend_cell-requires c).In-loop-h in
     let s = c.loop-h.invariant.rows.size in
     let i = c.requires.inside in
-    let enough = c.requires.reach c.loop-h.h c.loop-h-test.true in
+    let enough = c.requires.reach c.loop-h.h (omega arith) in
     let count = c.wide.ensures.equals in
     let e = ends (goal.at.mend_cell-requires c).After-wide in
     let size = mid_len (c.loop-h.h * n) (c.loop-h.h * n + n) c.loop-h.frame (let w = p.inside in omega arith) in
@@ -76,19 +76,13 @@ mend_cell-requires c =
       sums-small = part-below c.args.sums.now c.requires.lent.sums-small c.loop-h.at (end - c.loop-h.at);
     }
 
-pub overflow_add-h : goal.overflow_add-h
-overflow_add-h c = let p = place (goal.at.overflow_add-h c).In-loop-h in omega arith
-
-pub loop-h-smaller : goal.loop-h-smaller
-loop-h-smaller c = let t = c.loop-h-test.true in omega arith
-
 pub loop-h-preserved : goal.loop-h-preserved
 loop-h-preserved c =
     mended-more _ _ _ _ _ c.loop-h.h c.loop-h.at c.loop-h.frame c.loop-h.invariant (place (goal.at.loop-h-preserved c).In-loop-h).inside c.wide.result _
-    c.loop-h-test.true c.wide.ensures.equals c.mend_cell.ensures
+    (omega arith) c.wide.ensures.equals c.mend_cell.ensures
 
 pub shape_of-frame : goal.shape_of-frame
 shape_of-frame c = c.loop-h.invariant.rows.size
 
 pub returns : goal.returns
-returns c = mended-all _ _ _ _ _ _ _ _ c.loop-h.invariant c.loop-h-test.false
+returns c = mended-all _ _ _ _ _ _ _ _ c.loop-h.invariant (omega arith)

@@ -5,6 +5,3 @@ use Rattle.completion.proofs.mend.mend_column.Given as goal
 
 abbrev pub invariant-loop-h : goal.invariant-loop-h
 invariant-loop-h l = Mended l.s l.coefficients l.sums l.i l.initial.frame l.h l.at l.frame
-
-abbrev pub decreases-loop-h : goal.decreases-loop-h
-decreases-loop-h l = l.rows - l.h

@@ -8,6 +8,3 @@ use Rattle.division.proofs.generator.generator.Given as goal
 
 abbrev pub invariant-loop-j : goal.invariant-loop-j
 invariant-loop-j l = (l.j ≤ l.m) × (length l.f ≡ 65) × (l.root ≡ power_of3 (l.b + l.j)) × GeneratorPolynomial l.b l.j l.f
-
-abbrev pub decreases-loop-j : goal.decreases-loop-j
-decreases-loop-j l = l.m - l.j

@@ -17,4 +17,4 @@ loop-i-preserved c =
     )
 
 pub returns : goal.returns
-returns c = data_all c.args.row.now _ _ _ c.loop-i.invariant.1 c.loop-i.invariant.0 c.loop-i-test.false
+returns c = data_all c.args.row.now _ _ _ c.loop-i.invariant.1 c.loop-i.invariant.0 (omega arith)

@@ -8,6 +8,3 @@ use Rattle.division.proofs.rows.data_cells.Given as goal
 
 abbrev pub invariant-loop-i : goal.invariant-loop-i
 invariant-loop-i l = (l.m ≤ l.i) × Filled (data_cell l.row l.m) (zeros 256) l.i l.cells
-
-abbrev pub decreases-loop-i : goal.decreases-loop-i
-decreases-loop-i l = length l.row - l.i

@@ -6,6 +6,3 @@ use Rattle.division.proofs.rows.put_negatives.Given as goal
 
 abbrev pub invariant-loop-k : goal.invariant-loop-k
 invariant-loop-k l = (l.k ≤ l.m) × Filled (λ i. (257 - get_or l.cells i 0 % 257) % 257) l.initial.row l.k l.row
-
-abbrev pub decreases-loop-k : goal.decreases-loop-k
-decreases-loop-k l = l.m - l.k

@@ -21,17 +21,8 @@ stands c =
     let few = c.requires in
     (omega arith, here)
 
-pub overflow_cast-list : goal.overflow_cast-list
-overflow_cast-list c = let t = c.loop-i-test.true in omega arith
-
-pub offset_bounds-list-k : goal.offset_bounds-list-k
-offset_bounds-list-k c = omega (arith, (stands c).0)
-
 pub bounds-list-k : goal.bounds-list-k
-bounds-list-k c = (stands c).0
-
-pub overflow_add-k : goal.overflow_add-k
-overflow_add-k c = omega (arith, (stands c).0)
+bounds-list-k c = (stands (goal.at.bounds-list-k c).In-loop-i).0
 
 pub loop-i-smaller : goal.loop-i-smaller
 loop-i-smaller c =

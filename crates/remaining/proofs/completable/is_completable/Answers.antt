@@ -11,7 +11,7 @@ use Rattle.remaining.proofs.completable.is_completable.Goals.{After-row_completa
 place : (c : In-loop-h) →
     let args = c.args in
     RowLent args.s (declared_by args.declared.now) args.marked args.sums.now c.loop-h.h c.loop-h.at
-place c = row-lent _ _ _ _ c.requires c.held-1.given _ _ c.loop-h.invariant.sums-passed c.loop-h-test.true
+place c = row-lent _ _ _ _ c.requires c.held-1.given _ _ c.loop-h.invariant.sums-passed (omega arith)
 
 pub loop-h-init : goal.loop-h-init
 loop-h-init c = before-none _ _ _ _
@@ -39,7 +39,7 @@ slice_bounds-row_completable-end c = let p = place (goal.at.slice_bounds-row_com
 
 pub row_completable-requires : goal.row_completable-requires
 row_completable-requires c =
-    row-testable _ _ _ _ c.requires c.held-1.given c.loop-h.h c.loop-h.at c.loop-h.invariant.sums-passed c.loop-h-test.true
+    row-testable _ _ _ _ c.requires c.held-1.given c.loop-h.h c.loop-h.at c.loop-h.invariant.sums-passed (omega arith)
     c.wide.result c.cells_of.result c.wide.ensures.equals c.cells_of.ensures _ c.powers-powers.ensures
 
 -- what is answered of the row is its test
@@ -47,24 +47,24 @@ tested : (c : After-row_completable) →
     let args = c.args in
     row_test args.s (declared_by args.declared.now) args.marked args.sums.now c.loop-h.h ≡ c.row_completable.result
 tested c =
-    row-tested _ _ _ _ c.requires c.held-1.given c.loop-h.h c.loop-h.at c.loop-h.invariant.sums-passed c.loop-h-test.true
+    row-tested _ _ _ _ c.requires c.held-1.given c.loop-h.h c.loop-h.at c.loop-h.invariant.sums-passed (omega arith)
     c.wide.result c.cells_of.result c.wide.ensures.equals c.cells_of.ensures _ c.row_completable.ensures
 
 pub returns-then-not-row_completable : goal.returns-then-not-row_completable
 unfolding meeting_completable
 returns-then-not-row_completable c =
-    tested_out _ _ c.loop-h.h c.loop-h-test.true (tested (goal.at.returns-then-not-row_completable c).After-row_completable ∙ c.if-not-row_completable.true)
+    tested_out _ _ c.loop-h.h (omega arith) (tested (goal.at.returns-then-not-row_completable c).After-row_completable ∙ c.if-not-row_completable.true)
 
 pub loop-h-preserved : goal.loop-h-preserved
 loop-h-preserved c =
     let at = c.loop-h in
     record {
       sums-passed =
-          passed-more _ _ _ _ c.requires c.held-1.given at.h at.at at.invariant.sums-passed c.loop-h-test.true
+          passed-more _ _ _ _ c.requires c.held-1.given at.h at.at at.invariant.sums-passed (omega arith)
           c.wide.result c.cells_of.result c.wide.ensures.equals c.cells_of.ensures;
-      tested = tested-pass _ _ at.h true at.invariant.tested c.loop-h-test.true true refl (tested (goal.at.loop-h-preserved c).After-row_completable ∙ c.if-not-row_completable.false);
+      tested = tested-pass _ _ at.h true at.invariant.tested (omega arith) true refl (tested (goal.at.loop-h-preserved c).After-row_completable ∙ c.if-not-row_completable.false);
     }
 
 pub returns : goal.returns
 unfolding meeting_completable
-returns c = tested-all _ _ _ _ c.loop-h.invariant.tested c.loop-h-test.false
+returns c = tested-all _ _ _ _ c.loop-h.invariant.tested (omega arith)

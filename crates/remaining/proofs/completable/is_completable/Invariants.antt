@@ -6,6 +6,3 @@ use Rattle.remaining.proofs.completable.is_completable.Given as goal
 
 abbrev pub invariant-loop-h : goal.invariant-loop-h
 invariant-loop-h l = TestedBefore l.s (declared_by l.declared) l.marked l.sums l.h l.at
-
-abbrev pub decreases-loop-h : goal.decreases-loop-h
-decreases-loop-h l = l.rows - l.h

@@ -6,10 +6,10 @@ pub loop-j-init : goal.loop-j-init
 loop-j-init c = filled_none _ _
 
 pub loop-j-preserved : goal.loop-j-preserved
-loop-j-preserved c = filled_more _ _ _ _ _ c.loop-j.invariant c.loop-j-test.true refl
+loop-j-preserved c = filled_more _ _ _ _ _ c.loop-j.invariant (omega arith) refl
 
 pub shape_of-left : goal.shape_of-left
 shape_of-left c = c.loop-j.invariant.size
 
 pub returns : goal.returns
-returns c = filled-all _ _ _ _ c.loop-j.invariant c.loop-j-test.false
+returns c = filled-all _ _ _ _ c.loop-j.invariant (omega arith)

@@ -17,7 +17,7 @@ place : (c : In-loop-h) →
     RowRoom args.s (declared_by args.declared.now) args.sums.now loop.h loop.at loop.count
 place c =
     let asked = c.requires in
-    row_room _ _ _ asked.shape c.held-1.given _ _ _ _ _ c.loop-h.invariant c.loop-h-test.true asked.declared
+    row_room _ _ _ asked.shape c.held-1.given _ _ _ _ _ c.loop-h.invariant (omega arith) asked.declared
 
 -- as many cells of the row are declared
 sized : (c : After-size) →
@@ -96,19 +96,13 @@ offset_bounds-lengths-h c = let p = place (goal.at.offset_bounds-lengths-h c).In
 pub bounds-lengths-h : goal.bounds-lengths-h
 bounds-lengths-h c = let p = place (goal.at.bounds-lengths-h c).In-loop-h in omega arith
 
-pub overflow_add-h : goal.overflow_add-h
-overflow_add-h c = let p = place (goal.at.overflow_add-h c).In-loop-h in omega arith
-
-pub loop-h-smaller : goal.loop-h-smaller
-loop-h-smaller c = let t = c.loop-h-test.true in omega arith
-
 pub loop-h-preserved : goal.loop-h-preserved
 loop-h-preserved c =
     let p = place (goal.at.loop-h-preserved c).In-loop-h in
-    left-more _ _ _ c.requires.shape c.held-1.given _ _ _ _ _ c.loop-h.invariant c.loop-h-test.true c.wide-checks.result
+    left-more _ _ _ c.requires.shape c.held-1.given _ _ _ _ _ c.loop-h.invariant (omega arith) c.wide-checks.result
     c.size.result c.cells_of-cells.result _ c.wide-checks.ensures.equals c.cells_of-cells.ensures
     c.size.ensures (omega (arith, c.wide-checks.ensures.equals, sized (goal.at.loop-h-preserved c).After-size)) c.remaining.ensures
 
 pub returns : goal.returns
 returns c =
-    left-all _ _ _ c.requires.shape c.held-1.given _ _ _ _ _ c.loop-h.invariant c.loop-h-test.false
+    left-all _ _ _ c.requires.shape c.held-1.given _ _ _ _ _ c.loop-h.invariant (omega arith)

@@ -6,6 +6,3 @@ use Rattle.remaining.proofs.rows.all_remaining.Given as goal
 
 abbrev pub invariant-loop-h : goal.invariant-loop-h
 invariant-loop-h l = LeftBefore l.s (declared_by l.declared) l.sums l.h l.at l.count l.lengths l.symbols
-
-abbrev pub decreases-loop-h : goal.decreases-loop-h
-decreases-loop-h l = l.rows - l.h
