@@ -49,11 +49,6 @@ weighed c =
     weighed-column _ _ d c.loop-i.i mending.walk c.loop-i-test.true named.result named.ensures c.size-m.result
     c.loop-i.coefficients _ c.size-m.ensures (omega (arith, c.size-m.ensures, (held_mendable _ _ _ _ c.requires).few)) size c.weigh.ensures
 
-pub slice_bounds-mend_column-end : goal.slice_bounds-mend_column-end
-slice_bounds-mend_column-end c =
-    let l = (weighed (goal.at.slice_bounds-mend_column-end c).After-weigh).long in
-    omega (arith, few (goal.at.slice_bounds-mend_column-end c).After-size-m)
-
 pub mend_column-requires : goal.mend_column-requires
 mend_column-requires c =
     let asked = c.requires in
@@ -64,9 +59,6 @@ mend_column-requires c =
       inside = asked.below c.loop-i.i (mending.walk.marked c.loop-i-test.true);
       reach = λ h l. let e = asked.reach h l in omega arith;
     }
-
-pub overflow_add-i : goal.overflow_add-i
-overflow_add-i c = let t = c.loop-i-test.true in omega arith
 
 pub loop-i-smaller : goal.loop-i-smaller
 loop-i-smaller c =
@@ -83,9 +75,6 @@ loop-i-preserved c =
       mending_more _ _ _ _ c.requires.whole d c.loop-i.i c.loop-i.frame mending c.next-i-in-loop-i.result _ _
           c.loop-i-test.true c.next-i-in-loop-i.ensures w.lent c.mend_column.ensures,
     )
-
-pub shape_of-frame : goal.shape_of-frame
-shape_of-frame c = c.loop-i.invariant.2.size
 
 pub returns : goal.returns
 returns c =

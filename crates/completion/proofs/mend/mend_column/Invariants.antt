@@ -1,5 +1,4 @@
 -- `completion::mend::mend_column` meets its contract.
-use Prim.Native.Nat.{◌-◌}
 use Rattle.completion.proofs.ColumnMending.{Mended}
 use Rattle.completion.proofs.mend.mend_column.Given as goal
 

@@ -1,8 +1,7 @@
 use Prim.Native.Nat.{◌<◌}
 use native.Mathlib.Omega.{arith}
-use lib.ListN.{length}
 use Rattle.columns.proofs.Walk.{walk-rises}
-use Rattle.completion.proofs.SymbolsAdded.{readable-set, adding_none, adding_more, adding_all, has-symbol, in_row, same_size}
+use Rattle.completion.proofs.SymbolsAdded.{readable-set, adding_none, adding_more, adding_all, has-symbol}
 use Rattle.completion.proofs.row.mend_row.Goals as goal
 use Rattle.completion.proofs.row.mend_row.Goals.{In-loop-i}
 
@@ -12,30 +11,14 @@ symbols-symbols-requires c = (c.requires.0, readable-set _ _ _ _ c.requires.1)
 pub loop-i-init : goal.loop-i-init
 loop-i-init c = adding_none _ _ _ _ _ c.next-i.ensures
 
--- the cell stands in the row
-cell : (c : In-loop-i) → c.loop-i.i < length c.loop-i.row
-cell c = in_row _ _ _ _ _ _ _ c.loop-i.invariant c.requires.1 c.loop-i-test.true
-
 symbol : (c : In-loop-i) → c.loop-i.k < 64
 symbol c = has-symbol _ _ _ _ _ _ _ c.loop-i.invariant c.requires.1 c.loop-i-test.true
-
-pub offset_bounds-row-i : goal.offset_bounds-row-i
-offset_bounds-row-i c = let t = c.loop-i-test.true in omega arith
-
-pub bounds-row-i : goal.bounds-row-i
-bounds-row-i c = cell (goal.at.bounds-row-i c).In-loop-i
 
 pub offset_bounds-symbols-k : goal.offset_bounds-symbols-k
 offset_bounds-symbols-k c = omega (arith, symbol (goal.at.offset_bounds-symbols-k c).In-loop-i)
 
 pub bounds-symbols-k : goal.bounds-symbols-k
 bounds-symbols-k c = symbol (goal.at.bounds-symbols-k c).In-loop-i
-
-pub offset_bounds-row-i-in-loop-i : goal.offset_bounds-row-i-in-loop-i
-offset_bounds-row-i-in-loop-i c = let t = c.loop-i-test.true in omega arith
-
-pub bounds-row-i-in-loop-i : goal.bounds-row-i-in-loop-i
-bounds-row-i-in-loop-i c = cell (goal.at.bounds-row-i-in-loop-i c).In-loop-i
 
 pub overflow_add-k : goal.overflow_add-k
 overflow_add-k c = omega (arith, symbol (goal.at.overflow_add-k c).In-loop-i)
@@ -51,9 +34,6 @@ loop-i-preserved c =
     adding_more _ _ _ _ _ _ _ c.loop-i.invariant c.requires.1 c.loop-i-test.true c.symbols-symbols.result
     c.symbols-symbols.ensures _ _ c.plus.ensures
     c.next-i-in-loop-i.ensures
-
-pub shape_of-row : goal.shape_of-row
-shape_of-row c = same_size _ _ _ _ _ _ _ c.loop-i.invariant
 
 pub returns : goal.returns
 returns c = adding_all _ _ _ _ _ _ _ c.loop-i.invariant c.requires.1 c.loop-i-test.false
