@@ -15,8 +15,7 @@ pub fn generator(b: u32, m: usize) -> [u16; 65]
     f[0] = 256;
     let mut root = u32::from(power_of_3(b));
     for j in 0..m {
-        let to = j + 2;
-        multiply(&mut f[0..to], 1, 257 - root);
+        multiply(&mut f[0..j + 2], 1, 257 - root);
         root = (3 * root) % 257;
     }
     f

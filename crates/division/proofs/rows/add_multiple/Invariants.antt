@@ -1,6 +1,6 @@
 -- `division::rows::add_multiple` meets its contract.
-use Prim.Native.Nat.{◌+◌, ◌-◌, ◌*◌}
-use lib.ListN.{length, get_or}
+use Prim.Native.Nat.{◌+◌, ◌*◌}
+use lib.ListN.{get_or}
 use Rattle.lists.proofs.Filling.{Filled}
 use Rattle.division.proofs.rows.add_multiple.Given as goal
 

@@ -6,18 +6,15 @@ loop-i-init c = divided_none _ _ _ c.requires.reach c.requires.small
 
 pub add_multiple-requires : goal.add_multiple-requires
 add_multiple-requires c =
-    let less = (omega arith) in (
+    let less = c.loop-i-test.true in (
       same_size _ _ _ c.requires.divisor c.loop-i.i _ c.loop-i.invariant less,
       added-fits _ _ _ c.requires.divisor c.loop-i.i _ c.loop-i.invariant less c.requires.narrow,
     )
 
 pub loop-i-preserved : goal.loop-i-preserved
 loop-i-preserved c =
-    divided_more _ _ _ c.requires.divisor c.loop-i.i _ c.loop-i.invariant (omega arith) _
+    divided_more _ _ _ c.requires.divisor c.loop-i.i _ c.loop-i.invariant c.loop-i-test.true _
     c.add_multiple.ensures
 
-pub shape_of-cells : goal.shape_of-cells
-shape_of-cells c = c.loop-i.invariant.size
-
 pub returns : goal.returns
-returns c = divided_all _ _ _ _ _ c.loop-i.invariant (omega arith)
+returns c = divided_all _ _ _ _ _ c.loop-i.invariant c.loop-i-test.false
