@@ -1,4 +1,5 @@
 -- `division::rows::encode_row` meets its contract.
+use Rattle.std.proofs.Common.{rules}
 use mathlib.Core.Path.{◌≡◌}
 use native.Mathlib.Omega.{arith}
 use lib.ListN.{length}
@@ -16,7 +17,7 @@ divide-requires c =
       divisor = c.requires.divisor;
       reach = omega (arith, size);
       narrow = omega (arith, size);
-      small = part_small m row cells c.requires.reach c.requires.narrow room c.data_cells-cells.ensures c.slice_known-1.given;
+      small = part_small m row cells c.requires.reach c.requires.narrow room c.data_cells-cells.ensures (search rules);
     }
 
 pub returns : goal.returns
