@@ -42,11 +42,10 @@ pub fn is_completable(s: Shape, declared: &[u64; 32], marked: Columns, sums: &[u
     ensures { result ≡ meeting_completable s (declared_by declared.now) marked (held_sequences s sums.now) }
 {
     let powers = powers();
-    let held = &sums[..];
     let mut at: usize = 0;
     for h in 0..s.rows {
         let to = at + usize::from(s.checks[h]);
-        if !row_completable(&powers, marked, cells_of(declared, h), &held[at..to]) {
+        if !row_completable(&powers, marked, cells_of(declared, h), &sums[at..to]) {
             return false;
         }
         at = to;

@@ -38,7 +38,8 @@ pub fn remaining(powers: &[u16; 256], set: Columns, sums: &[u16], left: &mut [u1
     let e = size(set);
     let n = left.len();
     let mut totals = [0u32; 64];
-    for k in 0..=e {
+    // Not 0..=e, which ends in one of two ways, each with a proof of its own.
+    for k in 0..e + 1 {
         add_multiple(&mut totals, f[k], sums, e - k, n);
     }
     reduce(&totals, left);

@@ -23,7 +23,6 @@ pub fn all_remaining(s: Shape, declared: &[u64; 32], sums: &[u16; 512]) -> Left
     ensures { SequencesLeft s (declared_by declared.now) sums.now result }
 {
     let powers = powers();
-    let held = &sums[..];
     let mut lengths = [0u16; 8];
     let mut symbols = [0u16; 512];
     let mut count: usize = 0;
@@ -34,7 +33,7 @@ pub fn all_remaining(s: Shape, declared: &[u64; 32], sums: &[u16; 512]) -> Left
         let left = checks - size(cells);
         let to = at + checks;
         let end = count + left;
-        remaining(&powers, cells, &held[at..to], &mut symbols[count..end]);
+        remaining(&powers, cells, &sums[at..to], &mut symbols[count..end]);
         lengths[h] = left as u16;
         count = end;
         at = to;

@@ -1,5 +1,4 @@
 -- `remaining::completable::is_completable` meets its contract.
-use Prim.Native.Nat.{◌-◌}
 use Rattle.frame.specs.DeclaredCells.{declared_by}
 use Rattle.remaining.proofs.RowsCompletable.{TestedBefore}
 use Rattle.remaining.proofs.completable.is_completable.Given as goal

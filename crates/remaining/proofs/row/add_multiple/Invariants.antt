@@ -1,5 +1,4 @@
 -- `remaining::row::add_multiple` meets its contract.
-use Prim.Native.Nat.{◌-◌}
 use Rattle.remaining.proofs.Multiples.{Adding}
 use Rattle.remaining.proofs.row.add_multiple.Given as goal
 

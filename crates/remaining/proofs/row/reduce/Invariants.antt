@@ -1,6 +1,6 @@
 -- `remaining::row::reduce` meets its contract.
-use Prim.Native.Nat.{◌-◌, ◌%◌}
-use lib.ListN.{length, get_or}
+use Prim.Native.Nat.{◌%◌}
+use lib.ListN.{get_or}
 use Rattle.lists.proofs.Filling.{Filled}
 use Rattle.remaining.proofs.row.reduce.Given as goal
 

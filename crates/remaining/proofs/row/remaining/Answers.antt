@@ -12,9 +12,6 @@ add_multiple-requires c = addable c.loop-k.invariant c.requires c.size-e.ensures
 pub loop-k-preserved : goal.loop-k-preserved
 loop-k-preserved c = multiplied_more c.loop-k.invariant (omega arith) c.add_multiple.ensures
 
-pub reduce-requires : goal.reduce-requires
-reduce-requires c = let pre = c.requires in omega (arith, pre.sums-few, pre.places)
-
 pub returns : goal.returns
 returns c =
     c.reduce.ensures

@@ -1,5 +1,4 @@
 -- `remaining::row::remaining` meets its contract.
-use Prim.Native.Nat.{◌+◌, ◌-◌}
 use Rattle.remaining.proofs.RowLeft.{Multiplied}
 use Rattle.remaining.proofs.row.remaining.Given as goal
 

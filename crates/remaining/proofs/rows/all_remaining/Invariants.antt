@@ -1,5 +1,4 @@
 -- `remaining::rows::all_remaining` meets its contract.
-use Prim.Native.Nat.{◌-◌}
 use Rattle.frame.specs.DeclaredCells.{declared_by}
 use Rattle.remaining.proofs.RowsLeft.{LeftBefore}
 use Rattle.remaining.proofs.rows.all_remaining.Given as goal
