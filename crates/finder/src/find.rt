@@ -4,11 +4,11 @@ ghost use Rattle.refusal.specs.Outcome.{passed, outcome};
 ghost use Rattle.sequences.specs.Tests.{tests};
 ghost use Rattle.finder.specs.Finder.{Finds};
 
-use crate::Found;
+use crate::Register;
 use discrepancy::worked_out::worked_out;
 use ends::{alone, start};
 use reduction::copy::copy;
-use refusal::Checked;
+use refusal::Refusal;
 use rounds::rounds;
 use sequences::backwards::all_backwards;
 use sequences::check::{check, longest};
@@ -16,9 +16,9 @@ use sequences::sort::by_length;
 use sequences::zeros::all_zero;
 
 // The rounds, and what they leave.
-fn shortest(p: u32, lengths: &[u16], symbols: &[u16], taps: &mut [u16]) -> Found
+fn shortest(p: u32, lengths: &[u16], symbols: &[u16], taps: &mut [u16]) -> Register
     requires { outcome (tests p lengths.now symbols.now (length taps.old)) ≡ passed }
-    ensures { Finds p lengths.now symbols.now taps.old taps.new result }
+    ensures { Finds p lengths.now symbols.now taps.old taps.new (Ok result) }
 {
     let f = worked_out(p);
     let moduli = [p as u16; 144];
@@ -51,7 +51,7 @@ fn shortest(p: u32, lengths: &[u16], symbols: &[u16], taps: &mut [u16]) -> Found
     );
     let e = l + 1;
     copy(&mut taps[0..e], &sigma[0..e]);
-    Found::Register {
+    Register {
         length: l,
         alone: alone(most, &sorted, count, l, &places, &sizes),
     }
@@ -59,13 +59,13 @@ fn shortest(p: u32, lengths: &[u16], symbols: &[u16], taps: &mut [u16]) -> Found
 
 // The search itself, on input that no test refuses: for callers who know that of theirs. Where all symbols are 0, as for the check sums of a legal frame,
 // no round finds anything to change.
-pub fn synthesize(p: u32, lengths: &[u16], symbols: &[u16], taps: &mut [u16]) -> Found
+pub fn synthesize(p: u32, lengths: &[u16], symbols: &[u16], taps: &mut [u16]) -> Register
     requires { outcome (tests p lengths.now symbols.now (length taps.old)) ≡ passed }
-    ensures { Finds p lengths.now symbols.now taps.old taps.new result }
+    ensures { Finds p lengths.now symbols.now taps.old taps.new (Ok result) }
 {
     if all_zero(symbols) {
         taps[0] = 1;
-        return Found::Register {
+        return Register {
             length: 0,
             alone: true,
         };
@@ -74,12 +74,9 @@ pub fn synthesize(p: u32, lengths: &[u16], symbols: &[u16], taps: &mut [u16]) ->
 }
 
 // For any input at all: the sequences of the given lengths stand one after the other in `symbols`, and the taps 0 to l go to the front of `taps`.
-pub fn find(p: u32, lengths: &[u16], symbols: &[u16], taps: &mut [u16]) -> Found
+pub fn find(p: u32, lengths: &[u16], symbols: &[u16], taps: &mut [u16]) -> Result<Register, Refusal>
     ensures { Finds p lengths.now symbols.now taps.old taps.new result }
 {
-    let checked = check(p, lengths, symbols, taps.len());
-    match checked {
-        Checked::Refuse(why) => Found::Refused(why),
-        Checked::Pass => synthesize(p, lengths, symbols, taps),
-    }
+    check(p, lengths, symbols, taps.len())?;
+    Ok(synthesize(p, lengths, symbols, taps))
 }
