@@ -6,7 +6,7 @@ ghost use Rattle.frame.specs.Completion.{completed};
 ghost use Rattle.frame.specs.Encode.{each_row};
 
 use crate::cell::mend_cell;
-use columns::{Columns, next, size};
+use columns::{Columns, size};
 use field257::powers::powers;
 use frame::Shape;
 use polynomials::locator::locator_polynomial;
@@ -37,10 +37,8 @@ pub fn mend(s: Shape, set: Columns, sums: &[u16], frame: &mut [u16])
     let m = size(set);
     let f = locator_polynomial(&powers, set);
     let mut coefficients = [0u16; 64];
-    let mut i = next(set, 0);
-    while i < 256 {
+    for i in set.members() {
         weigh(&powers, s.exponent, &f, i, &mut coefficients[0..m]);
         mend_column(s, frame, i, &coefficients[0..m], sums);
-        i = next(set, i + 1);
     }
 }

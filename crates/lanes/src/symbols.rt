@@ -5,7 +5,7 @@ ghost use Rattle.field257.specs.Table.{table};
 ghost use Rattle.lanes.specs.Symbols.{Listable, ReadableSet, locators_to, symbol_of, symbols_in, symbols_of};
 
 use crate::run::{Lanes, run};
-use columns::{Columns, next, size};
+use columns::{Columns, size};
 use field::residue::difference;
 use field257::inverses::inverse;
 use field257::montgomery::companions;
@@ -19,12 +19,8 @@ fn listed(set: Columns) -> [u16; 64]
     ensures { (k : ℕ) → get_or result k 0 ≡ get_or (members set) k 0 }
 {
     let mut list = [0u16; 64];
-    let mut k = 0;
-    let mut i = next(set, 0);
-    while i < 256 {
+    for (k, i) in set.members().enumerate() {
         list[k] = i as u16;
-        k += 1;
-        i = next(set, i + 1);
     }
     list
 }

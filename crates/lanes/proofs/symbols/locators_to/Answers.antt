@@ -18,8 +18,8 @@ loop-k-preserved c =
     let args = c.args in
     -- the power that is looked up is that of this column
     let power : c.entry.result ≡ get_or (locators_to args.m args.list.now args.e) at.k 0 =
-        c.entry.ensures.power c.requires.powers_known ∙ ap (λ (i : ℕ). power_of3 (i * args.e)) c.from.ensures
-        ∙ sym (get_d_tabulate args.m _ _ 0 c.loop-k-test.true) in
+    c.entry.ensures.power c.requires.powers_known ∙ ap (λ (i : ℕ). power_of3 (i * args.e)) c.from.ensures
+    ∙ sym (get_d_tabulate args.m _ _ 0 c.loop-k-test.true) in
     let few = c.requires.few in
     filled_more _ (zeros 64) at.k _ _ at.invariant (let s = at.invariant.size in omega arith) power
 
