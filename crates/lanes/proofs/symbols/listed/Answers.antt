@@ -21,7 +21,7 @@ pub loop-k-init : goal.loop-k-init
 loop-k-init c = filled_none _ (zeros 64)
 
 pub overflow_cast-list : goal.overflow_cast-list
-overflow_cast-list c = let t = (turn c).below in omega arith
+overflow_cast-list c = let t = turn c in omega arith
 
 pub loop-k-preserved : goal.loop-k-preserved
 loop-k-preserved c =
