@@ -1,7 +1,7 @@
 -- What the code works out for four columns is their butterfly, and the entries of a stage are written one after the other.
 use mathlib.Core.Path.{◌≡◌, sym, ap, ap₂, subst, ◌∙◌}
 use mathlib.Core.List.{List}
-use Prim.Native.Nat.{ℕ, ◌+◌, ◌*◌, ◌%◌, ◌≤◌, ◌<◌}
+use Prim.Native.Nat.{ℕ, ◌+◌, ◌*◌, ◌%◌, ◌<◌}
 use native.Mathlib.Nat.{mul_assoc, zero-add}
 use native.Mathlib.Decide.{ℕ_discrete}
 use native.Mathlib.Omega.{arith}
@@ -11,7 +11,7 @@ use Rattle.lists.specs.Total.{total}
 use Rattle.lists.proofs.Totals.{total-zero, total-suc}
 use Rattle.field.proofs.Remainders.{mod-mul-mod, same-sums}
 use Rattle.field257.specs.Powers.{power_of3}
-use Rattle.butterflies.specs.Butterflies.{Butterflies, butterfly}
+use Rattle.butterflies.specs.Butterflies.{Weighed, butterfly}
 
 four : (f : ℕ → ℕ) → total 4 f ≡ f 0 + f 1 + f 2 + f 3
 four f =
@@ -23,11 +23,7 @@ same-product a u v p e =
     sym (mod-mul-mod a 257 p) ∙ ap (λ (r : ℕ). (r * p) % 257) e ∙ mod-mul-mod (u * v) 257 p ∙ ap (λ (r : ℕ). r % 257) (mul_assoc u v p)
 
 module _ (t x : List ℕ) where
-  -- k holds column i times its factor
-  abbrev Weighed : (i k : ℕ) → Type 0
-  Weighed i k = k % 257 ≡ (get_or x i 0 * get_or t i 0) % 257
-
-  module _ (l a b c d : ℕ) (ea : Weighed l a) (eb : Weighed (64 + l) b) (ec : Weighed (128 + l) c) (ed : Weighed (192 + l) d) where
+  module _ (l a b c d : ℕ) (ea : Weighed t x l a) (eb : Weighed t x (64 + l) b) (ec : Weighed t x (128 + l) c) (ed : Weighed t x (192 + l) d) where
     -- the four with their powers of 3^(64 m)
     pub butterfly-four : (m v : ℕ)
         → v % 257 ≡ (a * power_of3 (64 * 0 * m) + b * power_of3 (64 * 1 * m) + c * power_of3 (64 * 2 * m) + d * power_of3 (64 * 3 * m)) % 257
@@ -37,10 +33,10 @@ module _ (t x : List ℕ) where
         e
         ∙ same-sums _ _ _ _ 257
         (same-sums _ _ _ _ 257
-        (same-sums _ _ _ _ 257 (same-product a (get_or x l 0) (get_or t l 0) (power_of3 (64 * 0 * m)) ea ∙ first)
-        (same-product b (get_or x (64 + l) 0) (get_or t (64 + l) 0) (power_of3 (64 * 1 * m)) eb))
-        (same-product c (get_or x (128 + l) 0) (get_or t (128 + l) 0) (power_of3 (64 * 2 * m)) ec))
-        (same-product d (get_or x (192 + l) 0) (get_or t (192 + l) 0) (power_of3 (64 * 3 * m)) ed)
+        (same-sums _ _ _ _ 257 (same-product a (get_or x l 0) (get_or t l 0) (power_of3 (64 * 0 * m)) ea.same ∙ first)
+        (same-product b (get_or x (64 + l) 0) (get_or t (64 + l) 0) (power_of3 (64 * 1 * m)) eb.same))
+        (same-product c (get_or x (128 + l) 0) (get_or t (128 + l) 0) (power_of3 (64 * 2 * m)) ec.same))
+        (same-product d (get_or x (192 + l) 0) (get_or t (192 + l) 0) (power_of3 (64 * 3 * m)) ed.same)
         ∙ ap (λ (r : ℕ). r % 257) (sym (four (λ j. get_or x (64 * j + l) 0 * (get_or t (64 * j + l) 0 * power_of3 (64 * j * m)))))
       where
         first : (get_or x l 0 * (get_or t l 0 * power_of3 (64 * 0 * m))) % 257
@@ -57,9 +53,6 @@ module _ (t x : List ℕ) where
   pub record Written (n : ℕ) (y : List ℕ) : Type 0 where
     pub size : length y ≡ 256
     pub ready : (l m : ℕ) → m < 4 → 4 * l + m < n → get_or y (4 * l + m) 0 % 257 ≡ butterfly t x l m % 257
-
-  pub written_none : (y : List ℕ) → length y ≡ 256 → Written 0 y
-  written_none y e = record { size = e; ready = λ l m h less. absurd (let z : ⊥ = omega arith in z) }
 
   written-more : (n l m v : ℕ) (y : List ℕ) → Written n y → n ≡ 4 * l + m → m < 4 → l < 64 → v % 257 ≡ butterfly t x l m % 257
       → Written (n + 1) (set y n v)
@@ -92,6 +85,3 @@ module _ (t x : List ℕ) where
 
       next : (n k : ℕ) {z : List ℕ} → n + 1 ≡ k → Written (n + 1) z → Written k z
       next n k {z} same c = subst (λ (i : ℕ). Written i z) same c
-
-  pub written_all : (n : ℕ) (y : List ℕ) → Written n y → 256 ≤ n → Butterflies t x y
-  written_all n y a le = record { size = a.size; entries = λ l m less digit. a.ready l m digit (omega arith) }

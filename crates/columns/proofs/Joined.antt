@@ -1,7 +1,7 @@
 -- The columns of either of two sets: its marks, its four words, and its size by inclusion and exclusion; two sets are apart where the sizes add up.
 use mathlib.Core.Path.{◌≡◌, refl, sym, ap, ap₂, ◌∙◌, subst⁻¹}
 use mathlib.Core.Bool.{Bool, true, false, ◌&&◌, ◌||◌, or-true, or-false, false≢true}
-use mathlib.Core.List.{[], ◌∷◌}
+use mathlib.Core.List.{List, [], ◌∷◌}
 use mathlib.Core.Logic.{◌⊎◌, inl, inr}
 use Prim.Native.Nat.{ℕ, zero, suc, ◌+◌, ◌/◌, ◌%◌, ◌^◌, ◌≤◌, ◌<◌, zero-le}
 use native.Mathlib.Decide.{dec_lt}
@@ -11,7 +11,9 @@ use lib.Dec.{lit<}
 use lib.ListN.{length, get_or, get_or-eq_default}
 use Rattle.columns.specs.declared.Columns.{Columns}
 use Rattle.columns.specs.Listed.{count}
-use Rattle.columns.specs.Columns.{Apart, bit, has, members, either, Sound}
+use Rattle.lists.specs.Tabulate.{tabulate}
+use Rattle.lists.proofs.Filling.{by_entries}
+use Rattle.columns.specs.Columns.{Apart, bit, has, marking, members, either, Sound}
 use Rattle.columns.proofs.Bits.{bit-or}
 use Rattle.columns.proofs.Listing.{by-test, count-zero, count-pass, count_fail, count_skip, count-lt, length-listed}
 use Rattle.columns.proofs.Marks.{has-columns_of, has-past, columns_of-sound, columns_of_ext, columns_of-has, members-columns_of}
@@ -77,6 +79,11 @@ module _ (a b : Columns) where
   word-joined (suc (suc zero)) h = refl
   word-joined (suc (suc (suc zero))) h = refl
   word-joined (suc (suc (suc (suc w)))) h = absurd (let z : ⊥ = omega arith in z)
+
+  -- four words, each the `or` of the words there
+  pub joined-words : (l : List ℕ) → length l ≡ 4 → ((w : ℕ) → w < 4 → get_or l w 0 ≡ bit_or (get_or a.words w 0) (get_or b.words w 0)) → marking l ≡ joined a b
+  unfolding tabulate
+  joined-words l e each = ap marking (by_entries 4 (λ w. bit_or (get_or a.words w 0) (get_or b.words w 0)) l e each)
 
   joined-sound : Sound a → Sound b → Sound (joined a b)
   joined-sound s t = record { four = refl; small = λ w. small w (dec_lt w 4) }

@@ -1,4 +1,5 @@
 pub mod Bits
+pub mod Coming
 pub mod FirstOutside
 pub mod Joined
 pub mod Least

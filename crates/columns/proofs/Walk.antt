@@ -47,7 +47,13 @@ module _ (c : Columns) where
       at (inl e) = omega arith
       at (inr h) = leb-true from (next_at from) (mark from h).0
 
-  arrived : (from : ℕ) → from ≤ 256 → Walk (count from (has c)) (next_at from)
+  pub next_within : (from : ℕ) → next_at from ≤ 256
+  next_within from = (found from).within
+
+  pub before-next : (from i : ℕ) → i ≡ next_at from → i < 256 → from ≤ i
+  before-next from i e h = rw e (leb-true from (next_at from) (mark from (rw (sym e) h)).0)
+
+  pub arrived : (from : ℕ) → from ≤ 256 → Walk (count from (has c)) (next_at from)
   arrived from l = record {
     within = (found from).within;
     marked = λ h. (mark from h).1;

@@ -9,16 +9,16 @@ use native.Mathlib.Omega.{arith}
 use lib.Dec.{eqb, leb}
 use lib.Bits.{bit_and, bit_or, and_mask, or_lt}
 use lib.Count.{count_trailing_zeros}
-use lib.ListN.{length, get_or, set, length-set}
+use lib.ListN.{get_or, set, length-set}
 use lib.Seq.{get_or-set_same, get_or-set_other}
 use lib.Pow.{shl_exact, shr_lt, pow-lt}
 use borrow.Author.Tests.{le-leb, lt-leb, eq-eqb, ne_eqb}
 use Rattle.columns.specs.declared.Columns.{Columns}
 use Rattle.columns.specs.Listed.{count, least}
-use Rattle.columns.specs.Columns.{bit, has, columns_of, members, Sound}
+use Rattle.columns.specs.Columns.{bit, has, columns_of, Sound}
 use Rattle.columns.proofs.Bits.{bit_shr, bit_of_zero, bit-or, bit-power, least_lt, trailing_least}
 use Rattle.columns.proofs.Least.{Least, least-is, least_unique}
-use Rattle.columns.proofs.Listing.{count-zero, count_ext, count-split, length-listed}
+use Rattle.columns.proofs.Listing.{count_ext, count-split}
 use Rattle.columns.proofs.Marks.{columns_of_ext, columns_of-has, has_word}
 
 -- ---- testing a mark
@@ -80,16 +80,10 @@ module _ (c : Columns) (s : Sound c) (i : ℕ) (h : i < 256) where
 -- ---- counting marks
 
 -- one word further
-count_word : (c : Columns) (w : ℕ) → count (64 * w + 64) (has c) ≡ count (64 * w) (has c) + count 64 (bit (get_or c.words w 0))
+pub count_word : (c : Columns) (w : ℕ) → count (64 * (w + 1)) (has c) ≡ count (64 * w) (has c) + count 64 (bit (get_or c.words w 0))
 count_word c w =
-    count-split (64 * w) 64 (has c)
+    ap (λ (n : ℕ). count n (has c)) (let e : 64 * (w + 1) ≡ 64 * w + 64 = omega arith in e) ∙ count-split (64 * w) 64 (has c)
     ∙ ap (λ (n : ℕ). count (64 * w) (has c) + n) (count_ext 64 (λ k. has c (64 * w + k)) (bit (get_or c.words w 0)) (has_word c w))
-
-pub counted : (c : Columns)
-    → count 64 (bit (get_or c.words 0 0)) + count 64 (bit (get_or c.words 1 0)) + count 64 (bit (get_or c.words 2 0))
-    + count 64 (bit (get_or c.words 3 0)) ≡ length (members c)
-counted c =
-    omega (arith, length-listed 256 (has c), count_word c 3, count_word c 2, count_word c 1, count_word c 0, count-zero (has c))
 
 -- ---- the next mark
 

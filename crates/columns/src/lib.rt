@@ -1,9 +1,13 @@
 // A set of columns: 256 marks in four 64-bit words, column 0 lowest. Column i is bit i mod 64 of word i / 64.
 #![tactic(auto)]
 
-ghost use Rattle.std.specs.Prelude.{◌≡◌, false, ◌&&◌, ◌||◌, ◌<◌, ◌≤◌, eqb, leb, length};
-ghost use Rattle.columns.specs.Columns.{bit, has, marking, columns_of, members, either, Sound};
-ghost use Rattle.columns.specs.Listed.{count, least};
+pub mod rising;
+
+ghost use Rattle.std.specs.Prelude.{◌≡◌, false, ◌&&◌, ◌||◌, ◌<◌, eqb, leb, length};
+ghost use Rattle.columns.specs.Columns.{has, marking, columns_of, members, either, Sound};
+ghost use Rattle.columns.specs.Listed.{least};
+
+use std::array;
 
 #[derive(Clone, Copy)]
 pub struct Columns {
@@ -14,8 +18,7 @@ pub struct Columns {
 pub fn empty() -> Columns
     ensures { result ≡ columns_of (λ k. false) }
 {
-    let words = [0u64; 4];
-    Columns { words }
+    Columns { words: [0; 4] }
 }
 
 // Column i is marked. No column from 256 on is.
@@ -33,35 +36,27 @@ pub fn mark(words: &mut [u64; 4], i: usize)
     requires { (i < 256) × Sound (marking words.old) }
     ensures { marking words.new ≡ columns_of (λ k. has (marking words.old) k || eqb k i) }
 {
-    let w = i / 64;
-    words[w] = words[w] | (1u64 << (i % 64));
+    words[i / 64] |= 1u64 << (i % 64);
 }
 
 // The columns of either set.
 pub fn either(a: Columns, b: Columns) -> Columns
     ensures { result ≡ either a b }
 {
-    let words = [
-        a.words[0] | b.words[0],
-        a.words[1] | b.words[1],
-        a.words[2] | b.words[2],
-        a.words[3] | b.words[3],
-    ];
-    Columns { words }
-}
-
-// The set bits of one word.
-fn ones(x: u64) -> usize
-    ensures { (result ≡ count 64 (bit x)) × (result ≤ 64) }
-{
-    u64::count_ones(x) as usize
+    Columns {
+        words: array::from_fn(|w| a.words[w] | b.words[w]),
+    }
 }
 
 // How many columns are marked.
 pub fn size(c: Columns) -> usize
     ensures { result ≡ length (members c) }
 {
-    ones(c.words[0]) + ones(c.words[1]) + ones(c.words[2]) + ones(c.words[3])
+    let mut marked = 0;
+    for word in c.words {
+        marked += word.count_ones() as usize;
+    }
+    marked
 }
 
 // The least marked column at or after `from`, or 256 where there is none: what is left of a word is shifted down,
@@ -70,13 +65,12 @@ pub fn next(c: Columns, from: usize) -> usize
     ensures { result ≡ least 256 (λ k. leb from k && has c k) }
 {
     let mut at = from;
-    while at < 256 {
-        let k = at % 64;
-        let left = c.words[at / 64] >> k;
+    for w in from / 64..4 {
+        let left = c.words[w] >> (at % 64);
         if left != 0 {
-            return at + u64::trailing_zeros(left) as usize;
+            return at + left.trailing_zeros() as usize;
         }
-        at += 64 - k;
+        at = 64 * (w + 1);
     }
     256
 }

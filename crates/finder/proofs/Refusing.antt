@@ -3,6 +3,7 @@ use mathlib.Core.Path.{◌≡◌, sym}
 use mathlib.Core.List.{List}
 use Prim.Native.Nat.{ℕ}
 use lib.ListN.{length}
+use Rattle.std.specs.Prelude.{Err}
 use Rattle.refusal.proofs.Outcomes.{given-refused}
 use Rattle.refusal.specs.Number.{number}
 use Rattle.refusal.specs.Outcome.{outcome}
@@ -10,10 +11,9 @@ use Rattle.refusal.specs.Outcome as Outcome
 use Rattle.refusal.specs.declared.Refusal.{Refusal}
 use Rattle.sequences.specs.Tests.{tests}
 use Rattle.finder.specs.Finder.{refused, answer, taps_left, Finds}
-use Rattle.finder.specs.declared.Found.TheVariants.{Refused}
 
 pub refuses : (p : ℕ) (lengths symbols buffer : List ℕ) (r : Refusal) →
-    outcome (tests p lengths symbols (length buffer)) ≡ Outcome.refused (number r) → Finds p lengths symbols buffer buffer (Refused r)
+    outcome (tests p lengths symbols (length buffer)) ≡ Outcome.refused (number r) → Finds p lengths symbols buffer buffer (Err r)
 unfolding answer taps_left
 refuses p lengths symbols buffer r e =
     let ts = tests p lengths symbols (length buffer) in

@@ -7,11 +7,13 @@ use Prim.Native.Nat.{ℕ, suc, ◌+◌, ◌-◌, ◌*◌, ◌≤◌, ◌<◌}
 use native.Mathlib.Omega.{arith}
 use lib.ListN.{length, get_or, take, drop}
 use lib.Seq.{length-take-le}
+use Rattle.std.specs.Prelude.{Result, Ok}
 use Rattle.lists.proofs.Totals.{total-bound}
 use Rattle.field.proofs.Modulus.{odd-prime}
 use Rattle.lists.proofs.Entries.{get_d_part}
 use Rattle.refusal.proofs.Outcomes.{given-passed}
 use Rattle.refusal.specs.Outcome.{passed, outcome}
+use Rattle.refusal.specs.declared.Refusal.{Refusal}
 use Rattle.register.proofs.Ordering.{longest-ordered}
 use Rattle.register.specs.Algorithm4.{State, rounds, is_alone, found, found_alone}
 use Rattle.register.specs.Sequences.{largest, longest, ordered, split}
@@ -23,8 +25,7 @@ use Rattle.discrepancy.specs.Modulus.{Taken}
 use Rattle.register_step.specs.Parts.{Parts, state_of}
 use Rattle.ends.specs.Ends.{Startable, alone_mark}
 use Rattle.rounds.specs.Rounds.{Reached, Running, sequences_in}
-use Rattle.finder.specs.declared.Found.{Found}
-use Rattle.finder.specs.declared.Found.TheVariants.{Register}
+use Rattle.finder.specs.declared.Register.{Register}
 use Rattle.sequences.specs.declared.Order.{Order}
 use Rattle.finder.proofs.Accepted.{Accepted}
 use Rattle.sequences.proofs.Reversing.{backwards_in}
@@ -130,7 +131,7 @@ module _ {p : ℕ} {lengths symbols : List ℕ} {room : ℕ} (fine : Accepted p 
         -- w taps are copied to the buffer
         pub finds : {buffer : List ℕ} → outcome (tests p lengths symbols (length buffer)) ≡ passed → {mark : Bool} (w : ℕ) {copied : List ℕ} →
             mark ≡ alone_mark N o.lengths k x.length x.places x.sizes → w ≡ suc x.length → copied ≡ take w x.taps →
-            Finds p lengths symbols buffer (copied ++ drop w buffer) (Register x.length mark)
+            Finds p lengths symbols buffer (copied ++ drop w buffer) (Ok (record { length = x.length; alone = mark }))
         unfolding answer taps_left
         finds {buffer} ok w {copied} marked width all =
             let ts = tests p lengths symbols (length buffer) in
@@ -144,6 +145,6 @@ module _ {p : ℕ} {lengths symbols : List ℕ} {room : ℕ} (fine : Accepted p 
             }
 
 -- by another name of the modulus
-pub finds-same : {p q : ℕ} {lengths symbols buffer left : List ℕ} {r : Found} →
+pub finds-same : {p q : ℕ} {lengths symbols buffer left : List ℕ} {r : Result Register Refusal} →
     q ≡ p → Finds q lengths symbols buffer left r → Finds p lengths symbols buffer left r
 finds-same {p} {q} {lengths} {symbols} {buffer} {left} {r} = subst (λ (x : ℕ). Finds x lengths symbols buffer left r)

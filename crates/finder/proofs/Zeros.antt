@@ -7,6 +7,7 @@ use native.Mathlib.Decide.{dec_lt}
 use native.Mathlib.Omega.{arith}
 use borrow.Author.Tests.{eqb-true}
 use lib.ListN.{length, get_or, drop, set, get_or-eq_default}
+use Rattle.std.specs.Prelude.{Ok}
 use Rattle.lists.proofs.Tabulated.{every-at}
 use Rattle.refusal.proofs.Outcomes.{given-passed}
 use Rattle.refusal.specs.Outcome.{passed, outcome}
@@ -16,7 +17,6 @@ use Rattle.register.specs.Sequences.{longest, split}
 use Rattle.sequences.specs.Tests.{tests}
 use Rattle.sequences.specs.Zeros.{all_zero}
 use Rattle.finder.specs.Finder.{register, refused, answer, taps_left, Finds}
-use Rattle.finder.specs.declared.Found.TheVariants.{Register}
 
 all-zeros : (s : List ℕ) → all_zero s ≡ true → Zeros s
 all-zeros s e i = pick (dec_lt i (length s))
@@ -30,7 +30,7 @@ first-set [] l = absurd (let z : ⊥ = omega arith in z)
 first-set (x ∷ xs) l = refl
 
 pub finds-none : {p : ℕ} {lengths symbols buffer : List ℕ} → outcome (tests p lengths symbols (length buffer)) ≡ passed → 0 < length buffer →
-    all_zero symbols ≡ true → Finds p lengths symbols buffer (set buffer 0 1) (Register 0 true)
+    all_zero symbols ≡ true → Finds p lengths symbols buffer (set buffer 0 1) (Ok (record { length = 0; alone = true }))
 unfolding answer taps_left start
 finds-none {p} {lengths} {symbols} {buffer} ok room e =
     let ss : List (List ℕ) = split lengths symbols in

@@ -1,5 +1,5 @@
 -- What is owed of the finder: demands 1 and 2. Proved in proofs/Demands.antt.
-use Rattle.std.specs.Prelude.{◌≡◌, ◌⊎◌, Bool, true, List, [], ◌∷◌, ℕ, suc, ◌-◌, ◌≤◌, ◌<◌, length, get_or, take, drop}
+use Rattle.std.specs.Prelude.{◌≡◌, ◌⊎◌, Bool, List, [], ◌∷◌, ℕ, suc, ◌≤◌, ◌<◌, length, get_or, take, drop}
 use Rattle.field.specs.Prime.{Prime}
 use Rattle.lists.specs.Total.{total}
 use Rattle.refusal.specs.Order.{Reason, First}

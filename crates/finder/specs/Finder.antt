@@ -1,9 +1,9 @@
 -- What the finder answers and leaves in the lent tap buffer, for every input (SPECIFICATION.md, "Registers" and the refusals 1, 2, 3, 8, 4 in this order).
-use Rattle.std.specs.Prelude.{◌≡◌, Bool, List, ◌++◌, ℕ, length, drop}
+use Rattle.std.specs.Prelude.{◌≡◌, Bool, List, ◌++◌, ℕ, Result, Ok, Err, length, drop}
 use Rattle.refusal.specs.Number.{number}
 use Rattle.refusal.specs.Order.{first_of}
-use Rattle.finder.specs.declared.Found.{Found}
-use Rattle.finder.specs.declared.Found.TheVariants.{Register, Refused}
+use Rattle.refusal.specs.declared.Refusal.{Refusal}
+use Rattle.finder.specs.declared.Register.{Register}
 use Rattle.register.specs.Algorithm4.{found, found_alone}
 use Rattle.register.specs.Sequences.{longest, split}
 use Rattle.sequences.specs.Tests.{tests}
@@ -13,9 +13,9 @@ pub data Answer : Type 0 where
   register : ℕ → Bool → Answer
   refused : ℕ → Answer
 
-abbrev pub answer_of : Found → Answer
-answer_of (Register l a) = register l a
-answer_of (Refused r) = refused (number r)
+abbrev pub answer_of : Result Register Refusal → Answer
+answer_of (Ok r) = register r.length r.alone
+answer_of (Err r) = refused (number r)
 
 unfoldable pub answer : (p : ℕ) (lengths symbols : List ℕ) (room : ℕ) → Answer
 answer p lengths symbols room =
@@ -30,6 +30,6 @@ taps_left p lengths symbols buffer =
     first_of (λ k. buffer) (tests p lengths symbols (length buffer)) (taps ++ drop (length taps) buffer)
 
 -- what the finder does: its answer, and the tap buffer that it leaves
-pub record Finds (p : ℕ) (lengths symbols buffer left : List ℕ) (r : Found) : Type 0 where
+pub record Finds (p : ℕ) (lengths symbols buffer left : List ℕ) (r : Result Register Refusal) : Type 0 where
   pub answers : answer_of r ≡ answer p lengths symbols (length buffer)
   pub leaves : left ≡ taps_left p lengths symbols buffer

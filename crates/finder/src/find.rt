@@ -4,11 +4,11 @@ ghost use Rattle.refusal.specs.Outcome.{passed, outcome};
 ghost use Rattle.sequences.specs.Tests.{tests};
 ghost use Rattle.finder.specs.Finder.{Finds};
 
-use crate::Found;
+use crate::Register;
 use discrepancy::worked_out::worked_out;
 use ends::{alone, start};
-use reduction::copy::copy;
-use refusal::Checked;
+use refusal::Refusal;
+use register_step::{Problem, State};
 use rounds::rounds;
 use sequences::backwards::all_backwards;
 use sequences::check::{check, longest};
@@ -16,9 +16,9 @@ use sequences::sort::by_length;
 use sequences::zeros::all_zero;
 
 // The rounds, and what they leave.
-fn shortest(p: u32, lengths: &[u16], symbols: &[u16], taps: &mut [u16]) -> Found
+fn shortest(p: u32, lengths: &[u16], symbols: &[u16], taps: &mut [u16]) -> Register
     requires { outcome (tests p lengths.now symbols.now (length taps.old)) ≡ passed }
-    ensures { Finds p lengths.now symbols.now taps.old taps.new result }
+    ensures { Finds p lengths.now symbols.now taps.old taps.new (Ok result) }
 {
     let f = worked_out(p);
     let moduli = [p as u16; 144];
@@ -27,45 +27,43 @@ fn shortest(p: u32, lengths: &[u16], symbols: &[u16], taps: &mut [u16]) -> Found
     let order = by_length(lengths, symbols);
     let mut backwards = [0u16; 1152];
     all_backwards(order, count, symbols, &mut backwards);
-    let sorted = order.lengths;
-    let mut places = start(most, &sorted, count);
-    let mut sizes = [0u16; 8];
-    let mut discs = [1u16; 8];
-    let mut quotients = [f.unit as u16; 8];
-    let mut sigma = [0u16; 144];
-    sigma[0] = 1;
-    let mut saved = [0u16; 1152];
-    let l = rounds(
+    let problem = Problem {
         f,
-        &moduli,
-        most,
-        &backwards,
-        &sorted,
+        moduli: &moduli,
+        longest: most,
+        symbols: &backwards,
+        lengths: &order.lengths,
         count,
-        &mut places,
-        &mut sizes,
-        &mut discs,
-        &mut quotients,
-        &mut sigma,
-        &mut saved,
-    );
+    };
+    let mut state = State {
+        length: 0,
+        places: start(most, &order.lengths, count),
+        sizes: [0; 8],
+        discs: [1; 8],
+        quotients: [f.unit as u16; 8],
+        taps: [0; 144],
+        saved: [0; 1152],
+    };
+    state.taps[0] = 1;
+    rounds(&problem, &mut state);
+    let l = state.length;
     let e = l + 1;
-    copy(&mut taps[0..e], &sigma[0..e]);
-    Found::Register {
+    taps[..e].copy_from_slice(&state.taps[..e]);
+    Register {
         length: l,
-        alone: alone(most, &sorted, count, l, &places, &sizes),
+        alone: alone(most, &order.lengths, count, l, &state.places, &state.sizes),
     }
 }
 
 // The search itself, on input that no test refuses: for callers who know that of theirs. Where all symbols are 0, as for the check sums of a legal frame,
 // no round finds anything to change.
-pub fn synthesize(p: u32, lengths: &[u16], symbols: &[u16], taps: &mut [u16]) -> Found
+pub fn synthesize(p: u32, lengths: &[u16], symbols: &[u16], taps: &mut [u16]) -> Register
     requires { outcome (tests p lengths.now symbols.now (length taps.old)) ≡ passed }
-    ensures { Finds p lengths.now symbols.now taps.old taps.new result }
+    ensures { Finds p lengths.now symbols.now taps.old taps.new (Ok result) }
 {
     if all_zero(symbols) {
         taps[0] = 1;
-        return Found::Register {
+        return Register {
             length: 0,
             alone: true,
         };
@@ -74,12 +72,9 @@ pub fn synthesize(p: u32, lengths: &[u16], symbols: &[u16], taps: &mut [u16]) ->
 }
 
 // For any input at all: the sequences of the given lengths stand one after the other in `symbols`, and the taps 0 to l go to the front of `taps`.
-pub fn find(p: u32, lengths: &[u16], symbols: &[u16], taps: &mut [u16]) -> Found
+pub fn find(p: u32, lengths: &[u16], symbols: &[u16], taps: &mut [u16]) -> Result<Register, Refusal>
     ensures { Finds p lengths.now symbols.now taps.old taps.new result }
 {
-    let checked = check(p, lengths, symbols, taps.len());
-    match checked {
-        Checked::Refuse(why) => Found::Refused(why),
-        Checked::Pass => synthesize(p, lengths, symbols, taps),
-    }
+    check(p, lengths, symbols, taps.len())?;
+    Ok(synthesize(p, lengths, symbols, taps))
 }

@@ -3,11 +3,9 @@
 
 pub mod find;
 
-use refusal::Refusal;
-
-// What the finder answers: the length of the shortest register and whether it is alone, or why it refuses.
+// The shortest register: its length, and whether it is alone.
 #[derive(Clone, Copy)]
-pub enum Found {
-    Register { length: usize, alone: bool },
-    Refused(Refusal),
+pub struct Register {
+    pub length: usize,
+    pub alone: bool,
 }

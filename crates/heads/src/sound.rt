@@ -23,66 +23,37 @@ pub fn rows_reach(s: Shape, c: usize) -> bool
     requires { is_shape s ≡ true }
     ensures { result ≡ rows_reach s c }
 {
-    let rows = s.rows;
-    let mut h = 0;
-    while h < rows {
-        if (s.checks[h] as usize) < c {
-            return false;
-        }
-        h += 1;
-    }
-    true
+    s.checks[..s.rows]
+        .iter()
+        .all(|count| usize::from(*count) >= c)
 }
 
 // What a located job of length c and the given alone mark must hold.
+#[tactic(auto, unfolding(job::specs::Job::findings_sound))]
 fn is_findings(s: Shape, marks: Columns, c: usize, alone: bool) -> bool
     requires { is_shape s ≡ true }
     ensures { result ≡ findings_sound s marks c alone }
 {
-    if !alone {
-        return false;
-    }
-    if !marks_below(marks, s.columns) {
-        return false;
-    }
-    if columns::size(marks) != c {
-        return false;
-    }
-    rows_reach(s, c)
+    alone && marks_below(marks, s.columns) && columns::size(marks) == c && rows_reach(s, c)
 }
 
+#[tactic(auto, unfolding(job::specs::Job::head_sound, job::specs::Job::phase_sound))]
 pub fn is_sound(j: Head) -> bool
     ensures { result ≡ head_sound j }
 {
-    let phase = j.phase;
-    match phase {
+    match j.phase {
         Phase::Empty => true,
-        Phase::Shaped => is_shape(j.shape),
-        Phase::Unfinished => is_shape(j.shape),
+        Phase::Shaped | Phase::Unfinished => is_shape(j.shape),
         Phase::Located { length, alone } => {
-            if !is_shape(j.shape) {
-                return false;
-            }
-            is_findings(j.shape, j.columns, length, alone)
+            is_shape(j.shape) && is_findings(j.shape, j.columns, length, alone)
         }
     }
 }
 
 // The job is empty, or counts as empty since it is not sound.
+#[tactic(auto, unfolding(job::specs::Job::counts_empty))]
 pub fn counts_as_empty(j: Head) -> bool
     ensures { result ≡ counts_empty j }
 {
-    if !is_sound(j) {
-        return true;
-    }
-    let phase = j.phase;
-    match phase {
-        Phase::Empty => true,
-        Phase::Shaped => false,
-        Phase::Unfinished => false,
-        Phase::Located {
-            length: _,
-            alone: _,
-        } => false,
-    }
+    !is_sound(j) || matches!(j.phase, Phase::Empty)
 }

@@ -1,51 +1,49 @@
 // The forms of a job's head, as calls leave it.
+#![tactic(auto, unfolding(job::specs::Job::no_columns))]
+
 ghost use Rattle.std.specs.Prelude.{◌≡◌};
 ghost use Rattle.job.specs.Job.{empty_head, shaped_head, unfinished_head, is_located_phase, is_unfinished_phase, length_of};
 ghost use Rattle.heads.specs.Answered.{found, refusal, repair};
 
 use columns::Columns;
 use frame::Shape;
-use job::{Answered, Head, Phase, Reply};
+use job::{Answered, Head, Phase, Progress};
 use refusal::Refusal;
 
 // The head that the first call gets.
 pub fn empty() -> Head
     ensures { result ≡ empty_head }
 {
-    let checks = [0u16; 8];
     let shape = Shape {
         rows: 0,
         columns: 0,
-        checks,
+        checks: [0; 8],
         exponent: 0,
     };
-    let columns = columns::empty();
     Head {
         phase: Phase::Empty,
         shape,
-        columns,
+        columns: columns::empty(),
     }
 }
 
 pub fn shaped(s: Shape) -> Head
     ensures { result ≡ shaped_head s }
 {
-    let columns = columns::empty();
     Head {
         phase: Phase::Shaped,
         shape: s,
-        columns,
+        columns: columns::empty(),
     }
 }
 
 pub fn unfinished(s: Shape) -> Head
     ensures { result ≡ unfinished_head s }
 {
-    let columns = columns::empty();
     Head {
         phase: Phase::Unfinished,
         shape: s,
-        columns,
+        columns: columns::empty(),
     }
 }
 
@@ -62,7 +60,7 @@ pub fn located(s: Shape, c: usize, columns: Columns, tried: usize) -> Answered
         columns,
     };
     Answered {
-        reply: Reply::Count(c),
+        reply: Ok(Progress::Columns(c)),
         columns,
         tried,
         head,
@@ -73,10 +71,9 @@ pub fn located(s: Shape, c: usize, columns: Columns, tried: usize) -> Answered
 pub fn refuse(j: Head, why: Refusal) -> Answered
     ensures { result ≡ refusal j why }
 {
-    let columns = columns::empty();
     Answered {
-        reply: Reply::Refused(why),
-        columns,
+        reply: Err(why),
+        columns: columns::empty(),
         tried: 0,
         head: j,
     }
@@ -86,50 +83,31 @@ pub fn refuse(j: Head, why: Refusal) -> Answered
 pub fn mended(s: Shape, c: usize, columns: Columns) -> Answered
     ensures { result ≡ repair s c columns }
 {
-    let head = shaped(s);
     Answered {
-        reply: Reply::Count(c),
+        reply: Ok(Progress::Columns(c)),
         columns,
         tried: 0,
-        head,
+        head: shaped(s),
     }
 }
 
 pub fn is_located(phase: Phase) -> bool
     ensures { result ≡ is_located_phase phase }
 {
-    match phase {
-        Phase::Empty => false,
-        Phase::Shaped => false,
-        Phase::Unfinished => false,
-        Phase::Located {
-            length: _,
-            alone: _,
-        } => true,
-    }
+    matches!(phase, Phase::Located { .. })
 }
 
 pub fn is_unfinished(phase: Phase) -> bool
     ensures { result ≡ is_unfinished_phase phase }
 {
-    match phase {
-        Phase::Empty => false,
-        Phase::Shaped => false,
-        Phase::Unfinished => true,
-        Phase::Located {
-            length: _,
-            alone: _,
-        } => false,
-    }
+    matches!(phase, Phase::Unfinished)
 }
 
 pub fn length_of(phase: Phase) -> usize
     ensures { result ≡ length_of phase }
 {
     match phase {
-        Phase::Empty => 0,
-        Phase::Shaped => 0,
-        Phase::Unfinished => 0,
-        Phase::Located { length, alone: _ } => length,
+        Phase::Located { length, .. } => length,
+        _ => 0,
     }
 }

@@ -3,7 +3,7 @@
 
 use columns::Columns;
 use frame::Shape;
-use refusal::{Checked, Refusal};
+use refusal::Refusal;
 
 // Where a job stands. An unfinished one was started to locate in slices. What a located one has found carries the length of the register, which is the number
 // of columns to mend, and whether the register is alone.
@@ -25,33 +25,18 @@ pub struct Head {
     pub columns: Columns,
 }
 
-// What start, step, locate and repair answer: the number of columns; that the locate is unfinished, as start and step do; or why they refuse.
+// What start, step, locate and repair answer where they do not refuse: the number of columns; or that the locate is unfinished, as start and step do.
 #[derive(Clone, Copy)]
-pub enum Reply {
-    Count(usize),
+pub enum Progress {
+    Columns(usize),
     Unfinished,
-    Refused(Refusal),
 }
 
-// What peek answers: the length of the register after the last finished round, or why it refuses.
-#[derive(Clone, Copy)]
-pub enum Peeked {
-    Length(usize),
-    Refused(Refusal),
-}
-
-// What shape returns.
-#[derive(Clone, Copy)]
-pub struct Reshaped {
-    pub checked: Checked,
-    pub head: Head,
-}
-
-// What start, step, locate and repair return: the answer, the columns, none where it refuses, how many columns were tried in a search for them, and the job's head as the
-// call leaves it.
+// What start, step, locate and repair return: the answer, the columns, none where it refuses, how many columns were tried in a search for them, and the job's
+// head as the call leaves it.
 #[derive(Clone, Copy)]
 pub struct Answered {
-    pub reply: Reply,
+    pub reply: Result<Progress, Refusal>,
     pub columns: Columns,
     pub tried: usize,
     pub head: Head,

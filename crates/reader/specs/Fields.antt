@@ -1,16 +1,14 @@
 -- The fields of a record's bytes: 16 bits each, little-endian (SPECIFICATION.md, "Records and lines").
-use Rattle.std.specs.Prelude.{◌≡◌, cond, List, ℕ, ◌+◌, ◌*◌, ◌/◌, ltb, length, get_or, take, drop}
+use Rattle.std.specs.Prelude.{◌≡◌, cond, List, ℕ, ◌+◌, ◌*◌, ◌/◌, ltb, length, get_or, take, drop, Option, Some, None}
 use Rattle.lists.specs.Tabulate.{tabulate}
-use Rattle.reader.specs.declared.Field.{Field}
-use Rattle.reader.specs.declared.Field.TheVariants.{Value, End}
 
 -- the two bytes from `at` on as a number, the low byte first
 abbrev pub value_at : List ℕ → (at : ℕ) → ℕ
 value_at bytes at = get_or bytes at 0 + 256 * get_or bytes (at + 1) 0
 
--- what a reader at the place `at` hands out: the field's value, or the end where two bytes are not left
-abbrev pub field_at : List ℕ → (at : ℕ) → Field
-field_at bytes at = cond (ltb (at + 1) (length bytes)) (Value (value_at bytes at)) End
+-- what a reader at the place `at` hands out: the field's value, or none where two bytes are not left
+abbrev pub field_at : List ℕ → (at : ℕ) → Option ℕ
+field_at bytes at = cond (ltb (at + 1) (length bytes)) (Some (value_at bytes at)) None
 
 -- field number k, counted from 0
 unfoldable pub field_of : List ℕ → (k : ℕ) → ℕ

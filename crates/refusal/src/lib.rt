@@ -1,62 +1,44 @@
-// The refusals that the calls of the library answer, one name for each number (SPECIFICATION.md, "Refusals").
+// The refusals that the calls of the library answer, each with its number (SPECIFICATION.md, "Refusals").
 #![tactic(auto)]
 
-ghost use Rattle.std.specs.Prelude.{◌≡◌};
+ghost use Rattle.std.specs.Prelude.{◌≡◌, cond};
 ghost use Rattle.refusal.specs.Number.{number};
+ghost use Rattle.refusal.specs.Outcome.{outcome_of, passed, refused};
 
-#[derive(Clone, Copy)]
+#[derive(Clone, Copy, PartialEq, Eq)]
 pub enum Refusal {
-    Modulus,
-    Count,
-    Lengths,
-    Symbol,
-    Columns,
-    Checks,
-    FrameSize,
-    TapBuffer,
-    BadRecord,
-    Empty,
-    NotLocated,
-    SumsDiffer,
-    NotAlone,
-    ShortRow,
-    NoFrame,
-    BadCells,
-    Exponent,
-    NotUnfinished,
-    UniformFrame,
+    Modulus = 1,
+    Count = 2,
+    Lengths = 3,
+    Symbol = 4,
+    Columns = 5,
+    Checks = 6,
+    FrameSize = 7,
+    TapBuffer = 8,
+    BadRecord = 9,
+    Empty = 21,
+    NotLocated = 22,
+    SumsDiffer = 23,
+    NotAlone = 24,
+    ShortRow = 25,
+    NoFrame = 26,
+    BadCells = 31,
+    Exponent = 32,
+    NotUnfinished = 33,
+    UniformFrame = 34,
 }
 
-// What a test of the input finds: nothing to refuse, or the refusal.
-#[derive(Clone, Copy)]
-pub enum Checked {
-    Pass,
-    Refuse(Refusal),
-}
+impl From<Refusal> for u32 {
+    ghost from_gives = { λ r n. n ≡ number r };
 
-// The number of a refusal (SPECIFICATION.md, "Refusals").
-pub fn number_of(r: Refusal) -> u32
-    ensures { result ≡ number r }
-{
-    match r {
-        Refusal::Modulus => 1,
-        Refusal::Count => 2,
-        Refusal::Lengths => 3,
-        Refusal::Symbol => 4,
-        Refusal::Columns => 5,
-        Refusal::Checks => 6,
-        Refusal::FrameSize => 7,
-        Refusal::TapBuffer => 8,
-        Refusal::BadRecord => 9,
-        Refusal::Empty => 21,
-        Refusal::NotLocated => 22,
-        Refusal::SumsDiffer => 23,
-        Refusal::NotAlone => 24,
-        Refusal::ShortRow => 25,
-        Refusal::NoFrame => 26,
-        Refusal::BadCells => 31,
-        Refusal::Exponent => 32,
-        Refusal::NotUnfinished => 33,
-        Refusal::UniformFrame => 34,
+    fn from(r: Refusal) -> u32 {
+        r as u32
     }
+}
+
+// A test of the input: it passes where `holds` is true, and else refuses for the reason `why`.
+pub fn require(holds: bool, why: Refusal) -> Result<(), Refusal>
+    ensures { outcome_of result ≡ cond holds passed (refused (number why)) }
+{
+    if holds { Ok(()) } else { Err(why) }
 }

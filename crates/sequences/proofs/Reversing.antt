@@ -127,34 +127,30 @@ module _ (f : ℕ → List ℕ) (old : List ℕ) (h : ℕ) (few : h < 8) (short 
 
 module _ (o : Order) (k h : ℕ) (symbols old blocks : List ℕ) (r : Reversible o k symbols) (less : h < k)
     (turned : blocks ≡ backwards_over (sequences_at o h symbols) old) where
-  abbrev size : ℕ
-  size = get_or o.lengths h 0
-
-  abbrev start : ℕ
-  start = get_or o.starts h 0
-
-  -- the part of the symbols that is lent for sequence h
-  abbrev part : List ℕ
-  part = take (start + size - start) (drop start symbols)
-
-  part-is : part ≡ sequence_at o symbols h
-  part-is = ap (λ (n : ℕ). take n (drop start symbols)) (add-sub_cancel_left start size)
-
-  length-sequence : length (sequence_at o symbols h) ≡ size
-  length-sequence = length-within start size symbols (r.within h less)
-
   pub still-whole : length blocks ≡ 1152
   still-whole = ap length turned ∙ length_backwards (sequences_at o h symbols) old
 
-  pub same-lengths : length (take (h * 144 + size - h * 144) (drop (h * 144) blocks)) ≡ length part
-  same-lengths =
-      ap (λ (n : ℕ). length (take n (drop (h * 144) blocks))) (add-sub_cancel_left (h * 144) size)
-      ∙ length-within (h * 144) size blocks (omega (arith, r.short h less, r.count, still-whole)) ∙ sym (ap length part-is ∙ length-sequence)
+  -- the place of sequence h, as the code reads it
+  module _ {start size : ℕ} (first : start ≡ get_or o.starts h 0) (long : size ≡ get_or o.lengths h 0) where
+    -- the part of the symbols that is lent for it
+    abbrev part : List ℕ
+    part = take (start + size - start) (drop start symbols)
 
-  -- sequence h is put into its block
-  pub one_backwards : {written : List ℕ} → written ≡ tabulate (length part) (λ i. get_or part (length part - suc i) 0) →
-      replaced (h * 144) (h * 144 + size - h * 144) blocks written ≡ backwards_over (sequences_at o (h + 1) symbols) old
-  one_backwards {written} ew =
-      ap₂ (λ (n : ℕ) (l : List ℕ). replaced (h * 144) n l written) (add-sub_cancel_left (h * 144) size ∙ sym length-sequence) turned
-      ∙ one-over (sequence_at o symbols) old h (omega (arith, r.count)) (omega (arith, length-sequence, r.short h less))
-      (ew ∙ ap (λ (l : List ℕ). tabulate (length l) (λ i. get_or l (length l - suc i) 0)) part-is)
+    part-is : part ≡ sequence_at o symbols h
+    part-is = ap (λ (n : ℕ). take n (drop start symbols)) (add-sub_cancel_left start size) ∙ ap₂ (λ (n a : ℕ). take n (drop a symbols)) long first
+
+    length-sequence : length (sequence_at o symbols h) ≡ size
+    length-sequence = length-within (get_or o.starts h 0) (get_or o.lengths h 0) symbols (r.within h less) ∙ sym long
+
+    pub same-lengths : length (take (h * 144 + size - h * 144) (drop (h * 144) blocks)) ≡ length part
+    same-lengths =
+        ap (λ (n : ℕ). length (take n (drop (h * 144) blocks))) (add-sub_cancel_left (h * 144) size)
+        ∙ length-within (h * 144) size blocks (omega (arith, r.short h less, r.count, still-whole)) ∙ sym (ap length part-is ∙ length-sequence)
+
+    -- sequence h is put into its block
+    pub one_backwards : {written : List ℕ} → written ≡ tabulate (length part) (λ i. get_or part (length part - suc i) 0) →
+        replaced (h * 144) (h * 144 + size - h * 144) blocks written ≡ backwards_over (sequences_at o (h + 1) symbols) old
+    one_backwards {written} ew =
+        ap₂ (λ (n : ℕ) (l : List ℕ). replaced (h * 144) n l written) (add-sub_cancel_left (h * 144) size ∙ sym length-sequence) turned
+        ∙ one-over (sequence_at o symbols) old h (omega (arith, r.count)) (omega (arith, length-sequence, r.short h less))
+        (ew ∙ ap (λ (l : List ℕ). tabulate (length l) (λ i. get_or l (length l - suc i) 0)) part-is)

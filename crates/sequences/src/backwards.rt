@@ -10,11 +10,8 @@ fn backwards(to: &mut [u16], s: &[u16])
     requires { length to.old ≡ length s.now }
     ensures { to.new ≡ tabulate (length s.now) (λ k. get_or s.now (length s.now - suc k) 0) }
 {
-    let mut k = 0;
-    while k < s.len() {
-        to[k] = s[s.len() - 1 - k];
-        k += 1;
-    }
+    to.copy_from_slice(s);
+    to.reverse();
 }
 
 // Each of the first sequences in its block.
@@ -22,14 +19,12 @@ pub fn all_backwards(order: Order, count: usize, symbols: &[u16], blocks: &mut [
     requires { Reversible order count symbols.now × (length blocks.old ≡ 1152) }
     ensures { blocks.new ≡ backwards_over (sequences_at order count symbols.now) blocks.old }
 {
-    let mut h = 0;
-    while h < count {
-        let a = order.starts[h] as usize;
-        let size = order.lengths[h] as usize;
+    for h in 0..count {
+        let a = usize::from(order.starts[h]);
+        let size = usize::from(order.lengths[h]);
         let e = a + size;
         let at = h * 144;
         let to = at + size;
         backwards(&mut blocks[at..to], &symbols[a..e]);
-        h += 1;
     }
 }

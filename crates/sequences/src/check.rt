@@ -5,41 +5,26 @@ ghost use Rattle.refusal.specs.Outcome.{outcome_of, outcome};
 ghost use Rattle.register.specs.Sequences.{largest};
 ghost use Rattle.sequences.specs.Tests.{is_counted, is_short, is_measured, is_below, tests};
 
-use refusal::{Checked, Refusal};
+use crate::every::every;
+use refusal::{Refusal, require};
 
 fn counted(n: usize) -> bool
     ensures { result ≡ is_counted n }
 {
-    if n < 1 {
-        return false;
-    }
-    n <= 8
+    (1..=8).contains(&n)
 }
 
 fn short(lengths: &[u16]) -> bool
     ensures { result ≡ is_short lengths.now }
 {
-    let mut h = 0;
-    while h < lengths.len() {
-        if lengths[h] > 128 {
-            return false;
-        }
-        h += 1;
-    }
-    true
+    every(lengths, |n| n <= 128)
 }
 
 fn sum(lengths: &[u16]) -> usize
     requires { length lengths.now ≤ 8 }
     ensures { result ≡ total (length lengths.now) (λ h. get_or lengths.now h 0) }
 {
-    let mut all = 0;
-    let mut h = 0;
-    while h < lengths.len() {
-        all += lengths[h] as usize;
-        h += 1;
-    }
-    all
+    lengths.iter().map(|n| usize::from(*n)).sum()
 }
 
 // Lengths above 128 and lengths that do not add up are one refusal.
@@ -47,60 +32,33 @@ fn measured(lengths: &[u16], count: usize) -> bool
     requires { length lengths.now ≤ 8 }
     ensures { result ≡ is_measured lengths.now count }
 {
-    if !short(lengths) {
-        return false;
-    }
-    sum(lengths) == count
+    short(lengths) && sum(lengths) == count
 }
 
 pub fn longest(lengths: &[u16]) -> usize
     ensures { result ≡ largest lengths.now }
 {
     let mut most = 0;
-    let mut h = 0;
-    while h < lengths.len() {
-        let n = lengths[h] as usize;
-        if n > most {
-            most = n;
-        }
-        h += 1;
+    for n in lengths {
+        most = usize::max(most, usize::from(*n));
     }
     most
 }
 
-// No early return, so that many symbols are compared at once.
 fn below(symbols: &[u16], p: u32) -> bool
     ensures { result ≡ is_below p symbols.now }
 {
-    let mut all = true;
-    let mut i = 0;
-    while i < symbols.len() {
-        if symbols[i] as u32 >= p {
-            all = false;
-        }
-        i += 1;
-    }
-    all
+    every(symbols, |x| u32::from(x) < p)
 }
 
 // The refusal of the first test that fails.
-pub fn check(p: u32, lengths: &[u16], symbols: &[u16], room: usize) -> Checked
+#[tactic(auto, unfolding(crate::specs::Tests::tests))]
+pub fn check(p: u32, lengths: &[u16], symbols: &[u16], room: usize) -> Result<(), Refusal>
     ensures { outcome_of result ≡ outcome (tests p lengths.now symbols.now room) }
 {
-    if !field::prime::is_modulus(p) {
-        return Checked::Refuse(Refusal::Modulus);
-    }
-    if !counted(lengths.len()) {
-        return Checked::Refuse(Refusal::Count);
-    }
-    if !measured(lengths, symbols.len()) {
-        return Checked::Refuse(Refusal::Lengths);
-    }
-    if room <= longest(lengths) {
-        return Checked::Refuse(Refusal::TapBuffer);
-    }
-    if !below(symbols, p) {
-        return Checked::Refuse(Refusal::Symbol);
-    }
-    Checked::Pass
+    require(field::prime::is_modulus(p), Refusal::Modulus)?;
+    require(counted(lengths.len()), Refusal::Count)?;
+    require(measured(lengths, symbols.len()), Refusal::Lengths)?;
+    require(longest(lengths) < room, Refusal::TapBuffer)?;
+    require(below(symbols, p), Refusal::Symbol)
 }

@@ -3,6 +3,7 @@
 
 pub mod backwards;
 pub mod check;
+pub mod every;
 pub mod sort;
 pub mod zeros;
 

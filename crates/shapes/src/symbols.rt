@@ -1,42 +1,42 @@
 // Which cells of a frame hold symbols.
-ghost use Rattle.std.specs.Prelude.{◌≡◌, true, ◌*◌, ltb, length, get_or};
+ghost use Rattle.std.specs.Prelude.{◌≡◌, true, ◌+◌, ◌*◌, ◌<◌, ltb, length, get_or, slice_range};
 ghost use Rattle.frame.specs.Encode.{data_below};
 ghost use Rattle.frame.specs.Frame.{frame_tests};
-ghost use Rattle.frame.specs.Shape.{is_shape};
+ghost use Rattle.frame.specs.Shape.{checks_of, is_shape};
 ghost use Rattle.lists.specs.Tabulate.{every};
 ghost use Rattle.refusal.specs.Outcome.{outcome, outcome_of};
 
-use field257::powers::wide;
 use frame::Shape;
-use refusal::{Checked, Refusal};
+use refusal::{Refusal, require};
 
 // Whether every cell holds a symbol. All cells are read, with no way out between, so that several are compared at once.
 pub fn all_below(cells: &[u16]) -> bool
     ensures { result ≡ every (length cells.now) (λ k. ltb (get_or cells.now k 0) 257) }
 {
     let mut all = true;
-    let mut k = 0;
-    while k < cells.len() {
-        if cells[k] > 256 {
-            all = false;
-        }
-        k += 1;
+    for cell in cells {
+        all &= *cell < 257;
     }
     all
 }
 
 // The refusals of a frame that is not well-formed.
-pub fn check_frame(s: Shape, frame: &[u16]) -> Checked
+#[tactic(auto, unfolding(frame::specs::Frame::frame_tests))]
+pub fn check_frame(s: Shape, frame: &[u16]) -> Result<(), Refusal>
     requires { is_shape s ≡ true }
     ensures { outcome_of result ≡ outcome (frame_tests s frame.now) }
 {
-    if frame.len() != s.rows * s.columns {
-        return Checked::Refuse(Refusal::FrameSize);
-    }
-    if all_below(frame) {
-        return Checked::Pass;
-    }
-    Checked::Refuse(Refusal::Symbol)
+    require(frame.len() == s.rows * s.columns, Refusal::FrameSize)?;
+    require(all_below(frame), Refusal::Symbol)
+}
+
+// The data cells of row h.
+pub fn data_cells(s: Shape, frame: &[u16], h: usize) -> &[u16]
+    requires { (is_shape s ≡ true) × (length frame.now ≡ s.rows * s.columns) × (h < s.rows) }
+    ensures { result.now ≡ slice_range frame.now (h * s.columns + checks_of s h) (h * s.columns + s.columns) }
+{
+    let row = h * s.columns;
+    &frame[row + usize::from(s.checks[h])..row + s.columns]
 }
 
 // Whether every data cell holds a symbol.
@@ -44,16 +44,10 @@ pub fn data_below(s: Shape, frame: &[u16]) -> bool
     requires { (is_shape s ≡ true) × (length frame.now ≡ s.rows * s.columns) }
     ensures { result ≡ data_below s frame.now }
 {
-    let rows = s.rows;
-    let columns = s.columns;
-    let mut h = 0;
-    while h < rows {
-        let from = h * columns + wide(s.checks[h]) as usize;
-        let to = h * columns + columns;
-        if !all_below(&frame[from..to]) {
+    for h in 0..s.rows {
+        if !all_below(data_cells(s, frame, h)) {
             return false;
         }
-        h += 1;
     }
     true
 }

@@ -1,17 +1,10 @@
 -- `find` answers and leaves what the definitions say.
-use mathlib.Core.Path.{sym, ap, ◌∙◌}
-use Rattle.refusal.specs.Outcome.{outcome_of}
+use mathlib.Core.Path.{sym}
+use Rattle.std.proofs.lemmas.Result.{err_from_is_err_and}
 use Rattle.finder.proofs.Refusing.{refuses}
 use Rattle.finder.proofs.find.find.Goals as goal
 
-pub synthesize-requires : goal.synthesize-requires
-synthesize-requires c = sym c.check-checked.ensures ∙ ap outcome_of c.in-Pass.is
-
-pub returns-in-Refuse : goal.returns-in-Refuse
-returns-in-Refuse c =
-    let args = c.args in
-    refuses args.p args.lengths.now args.symbols.now args.taps.now _
-    (sym c.check-checked.ensures ∙ ap outcome_of c.in-Refuse.is)
-
-pub returns-in-Pass : goal.returns-in-Pass
-returns-in-Pass c = c.synthesize.ensures
+pub returns-in_err-check : goal.returns-in_err-check
+returns-in_err-check c =
+    let e = err_from_is_err_and c.from_residual.result c.from_residual.ensures.1 in
+    rw (e.1, e.2) (refuses _ _ _ _ _ (sym c.in_err-check.ensures))

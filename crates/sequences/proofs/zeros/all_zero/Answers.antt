@@ -1,18 +1,5 @@
-use borrow.Author.Tests.{eq-eqb, ne_eqb}
-use Rattle.lists.proofs.Testing.{tested-none, tested-pass, tested_fail, tested-all}
+use Rattle.std.proofs.Common.{rules, eqb}
 use Rattle.sequences.proofs.zeros.all_zero.Goals as goal
-use Rattle.sequences.proofs.zeros.all_zero.Goals.{then-symbols-i-ne0, else-symbols-i-ne0}
-
-pub loop-i-init : goal.loop-i-init
-loop-i-init c = tested-none _ _
-
-pub loop-i-preserved : goal.loop-i-preserved
-loop-i-preserved c =
-    let at = c.loop-i in
-    elim c.if-symbols-i-ne0.branch [
-      | then-symbols-i-ne0 w ↦ tested_fail _ _ at.i at.all at.invariant c.loop-i-test.true _ w.all-is (ne_eqb _ _ w.if-symbols-i-ne0.true)
-      | else-symbols-i-ne0 w ↦ tested-pass _ _ at.i at.all at.invariant c.loop-i-test.true _ w.all-is (eq-eqb _ _ w.if-symbols-i-ne0.false)
-    ]
 
 pub returns : goal.returns
-returns c = tested-all _ _ _ _ c.loop-i.invariant c.loop-i-test.false
+returns c = c.every.ensures (λ v. eqb v 0) (λ v r b p. search rules)

@@ -1,18 +1,8 @@
 -- `shapes::symbols::all_below` meets its contract.
-use mathlib.Core.Bool.{Bool}
-use mathlib.Core.List.{List}
-use Prim.Native.Nat.{ℕ, ◌-◌}
+use Rattle.std.proofs.Common.{◌≡◌, get_or}
 use lib.Dec.{ltb}
-use lib.ListN.{length, get_or}
-use Rattle.lists.proofs.Testing.{Tested}
+use Rattle.lists.specs.Tabulate.{every}
 use Rattle.shapes.proofs.symbols.all_below.Given as goal
 
--- whether cell k holds a symbol
-abbrev pub symbol : List ℕ → ℕ → Bool
-symbol cells k = ltb (get_or cells k 0) 257
-
-abbrev pub invariant-loop-k : goal.invariant-loop-k
-invariant-loop-k l = Tested (length l.cells) (symbol l.cells) l.k l.all
-
-abbrev pub decreases-loop-k : goal.decreases-loop-k
-decreases-loop-k l = length l.cells - l.k
+abbrev pub invariant-loop-cell : goal.invariant-loop-cell
+invariant-loop-cell l = l.all ≡ every l.cell-index (λ k. ltb (get_or l.cells k 0) 257)

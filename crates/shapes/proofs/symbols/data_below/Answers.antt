@@ -1,63 +1,22 @@
 use mathlib.Core.Path.{◌≡◌, refl, ◌∙◌}
 use mathlib.Core.Bool.{true}
 use native.Mathlib.Omega.{arith}
-use lib.ListN.{length}
 use Rattle.frame.specs.Encode.{data_below}
 use Rattle.frame.proofs.FrameTests.{row_test, row-tested}
+use Rattle.frame.proofs.RowPlace.{row-place}
 use Rattle.lists.proofs.Testing.{tested-none, tested_out, tested-pass, tested-all}
-use Rattle.frame.proofs.RowPlace.{RowPlace, row-place}
-use Rattle.shapes.proofs.symbols.data_below.Goals as goal
 use Rattle.shapes.proofs.symbols.data_below.Invariants.{symbol}
-use Rattle.shapes.proofs.symbols.data_below.Goals.{After-all_below, In-loop-h}
-
-place : (c : In-loop-h) →
-    RowPlace c.args.s (length c.args.frame.now) c.loop-h.h
-place c =
-    row-place c.args.s (length c.args.frame.now) c.loop-h.h c.requires.0 c.requires.1 c.loop-h-test.true
+use Rattle.shapes.proofs.symbols.data_below.Goals as goal
+use Rattle.shapes.proofs.symbols.data_below.Goals.{After-all_below}
 
 -- what the test of the data cells says of the row
-tested : (c : After-all_below) →
-    let args = c.args in
-    row_test symbol args.s args.frame.now c.loop-h.h ≡ c.all_below.result
+tested : (c : After-all_below) → row_test symbol c.args.s c.args.frame.now c.loop-h.h ≡ c.all_below.result
 tested c =
-    row-tested symbol _ _ _ c.wide.result _
-    (row-place c.args.s (length c.args.frame.now) c.loop-h.h c.requires.0 c.requires.1 c.loop-h-test.true) c.wide.ensures.equals c.all_below.ensures
+    row-tested symbol _ _ _ _ _ (row-place _ _ c.loop-h.h c.requires.0 c.requires.1 c.loop-h-test.true) refl
+    (rw c.data_cells.ensures at c.all_below.ensures)
 
 pub loop-h-init : goal.loop-h-init
 loop-h-init c = tested-none _ _
-
-pub overflow_mul-from : goal.overflow_mul-from
-overflow_mul-from c = let p = place c in omega arith
-
-pub offset_bounds-s-h : goal.offset_bounds-s-h
-offset_bounds-s-h c = let p = place c in omega arith
-
-pub bounds-s-h : goal.bounds-s-h
-bounds-s-h c = let p = place c in omega arith
-
-pub overflow_cast-from : goal.overflow_cast-from
-overflow_cast-from c = let p = place (goal.at.overflow_cast-from c).In-loop-h in let w = c.wide.ensures in omega arith
-
-pub overflow_add-from : goal.overflow_add-from
-overflow_add-from c = let p = place (goal.at.overflow_add-from c).In-loop-h in let w = c.wide.ensures in omega arith
-
-pub overflow_mul-to : goal.overflow_mul-to
-overflow_mul-to c = let p = place (goal.at.overflow_mul-to c).In-loop-h in let w = c.wide.ensures in omega arith
-
-pub overflow_add-to : goal.overflow_add-to
-overflow_add-to c = let p = place (goal.at.overflow_add-to c).In-loop-h in let w = c.wide.ensures in omega arith
-
-pub offset_bounds-frame-from : goal.offset_bounds-frame-from
-offset_bounds-frame-from c = let p = place (goal.at.offset_bounds-frame-from c).In-loop-h in let w = c.wide.ensures in omega arith
-
-pub slice_bounds-all_below-count : goal.slice_bounds-all_below-count
-slice_bounds-all_below-count c = let p = place (goal.at.slice_bounds-all_below-count c).In-loop-h in let w = c.wide.ensures in omega arith
-
-pub slice_bounds-all_below-start : goal.slice_bounds-all_below-start
-slice_bounds-all_below-start c = let p = place (goal.at.slice_bounds-all_below-start c).In-loop-h in let w = c.wide.ensures in omega arith
-
-pub slice_bounds-all_below-end : goal.slice_bounds-all_below-end
-slice_bounds-all_below-end c = let p = place (goal.at.slice_bounds-all_below-end c).In-loop-h in let w = c.wide.ensures in omega arith
 
 pub returns-then-not-all_below : goal.returns-then-not-all_below
 unfolding data_below
@@ -66,9 +25,9 @@ returns-then-not-all_below c =
 
 pub loop-h-preserved : goal.loop-h-preserved
 loop-h-preserved c =
-    let at = c.loop-h in
-    tested-pass _ _ at.h true at.invariant c.loop-h-test.true true refl (tested (goal.at.loop-h-preserved c).After-all_below ∙ c.if-not-all_below.false)
+    tested-pass _ _ c.loop-h.h true c.loop-h.invariant c.loop-h-test.true true refl
+    (tested (goal.at.loop-h-preserved c).After-all_below ∙ c.if-not-all_below.false)
 
 pub returns : goal.returns
 unfolding data_below
-returns c = tested-all _ _ _ _ c.loop-h.invariant c.loop-h-test.false
+returns c = tested-all _ _ _ _ c.loop-h.invariant (omega arith)

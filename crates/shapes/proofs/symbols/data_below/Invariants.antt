@@ -1,6 +1,6 @@
 -- `shapes::symbols::data_below` meets its contract.
 use mathlib.Core.Bool.{Bool, true}
-use Prim.Native.Nat.{ℕ, ◌-◌}
+use Prim.Native.Nat.{ℕ}
 use lib.Dec.{ltb}
 use Rattle.frame.proofs.FrameTests.{row_test}
 use Rattle.lists.proofs.Testing.{Tested}
@@ -11,7 +11,4 @@ abbrev pub symbol : ℕ → Bool
 symbol x = ltb x 257
 
 abbrev pub invariant-loop-h : goal.invariant-loop-h
-invariant-loop-h l = Tested l.rows (row_test symbol l.s l.frame) l.h true
-
-abbrev pub decreases-loop-h : goal.decreases-loop-h
-decreases-loop-h l = l.rows - l.h
+invariant-loop-h l = Tested l.s.rows (row_test symbol l.s l.frame) l.h true

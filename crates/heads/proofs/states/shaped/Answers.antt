@@ -1,7 +1,0 @@
--- `heads::states::shaped` meets its contract.
-use Rattle.job.specs.Job.{no_columns}
-use Rattle.heads.proofs.states.shaped.Goals as goal
-
-pub returns : goal.returns
-unfolding no_columns
-returns c = cc
