@@ -2,7 +2,7 @@
 use crate::model;
 use crate::model::{Found, Model, Phase, Planted, Step};
 use plain::values::{copy, part};
-use plain_frames::answers::{of_checked, of_reply};
+use plain_frames::answers::{numbered, of_reply};
 use plain_frames::compare::{differ_in, same, same_columns, same_data};
 use plain_frames::uniform::legal;
 use whole_job::{Answered, Job};
@@ -53,10 +53,14 @@ fn agreed(refused: Option<u32>, job: Job, model: Model) -> Option<Pair> {
 pub fn shape(pair: Pair, columns: u16, checks: &[u16], exponent: u32) -> Option<Pair> {
     let due = pair.model.shape(columns, checks, exponent);
     let answer = whole_job::shape(pair.job, usize::from(columns), checks, exponent);
-    if of_checked(answer.checked) != due.map(|_| ()) {
-        return None;
+    match (numbered(answer), due) {
+        (Ok(job), Ok(model)) => agreed(None, job, model),
+        (Err(number), Err(reason)) if number == reason => Some(Pair {
+            refused: Some(number),
+            ..pair
+        }),
+        _ => None,
     }
-    agreed(due.err(), answer.job, due.unwrap_or(pair.model))
 }
 
 // Encoding leaves the data and makes the frame legal. A refused encode leaves the frame.
@@ -73,7 +77,7 @@ pub fn encode(pair: Pair, frame: &mut [u16]) -> Option<Pair> {
     let due = pair.model.encode(frame);
     let mut room = [0u16; 2048];
     copy(frame, &mut room, 0);
-    let answer = of_checked(whole_job::encode(pair.job, frame));
+    let answer = numbered(whole_job::encode(pair.job, frame));
     let before = part(&room, 0, frame.len());
     if answer != due || !encoded(&pair.model, due.is_err(), before, frame) {
         return None;

@@ -5,6 +5,11 @@ use plain_frames::compare::same;
 use std::io;
 use whole_job::Job;
 
+// The job with another shape. A refused shape leaves it.
+pub fn reshaped(job: Job, columns: usize, checks: &[u16], exponent: u32) -> Job {
+    whole_job::shape(job, columns, checks, exponent).unwrap_or(job)
+}
+
 // A legal frame of the job, whose data are 0 but for two places. It has 8, 12 or 4 symbols, and an encode of another size is refused.
 fn sent(job: Job, second: usize) -> [u16; 16] {
     let mut room = [0u16; 16];

@@ -3,25 +3,25 @@
 ghost use Rattle.std.specs.Prelude.{◌≡◌};
 ghost use Rattle.plain_frames.specs.Answers.{told, told_columns};
 
-use job::Reply;
-use refusal::{Checked, number_of};
+use job::Progress;
+use refusal::Refusal;
 
-pub fn of_checked(checked: Checked) -> Result<(), u32>
-    ensures { result ≡ told checked }
+pub fn numbered<T>(answer: Result<T, Refusal>) -> Result<T, u32>
+    ensures { result ≡ told answer }
 {
-    match checked {
-        Checked::Pass => Ok(()),
-        Checked::Refuse(why) => Err(number_of(why)),
+    match answer {
+        Ok(x) => Ok(x),
+        Err(why) => Err(u32::from(why)),
     }
 }
 
 // The number of columns; 0 where the locate is unfinished.
-pub fn of_reply(reply: Reply) -> Result<usize, u32>
+pub fn of_reply(reply: Result<Progress, Refusal>) -> Result<usize, u32>
     ensures { result ≡ told_columns reply }
 {
     match reply {
-        Reply::Count(n) => Ok(n),
-        Reply::Unfinished => Ok(0),
-        Reply::Refused(why) => Err(number_of(why)),
+        Ok(Progress::Columns(n)) => Ok(n),
+        Ok(Progress::Unfinished) => Ok(0),
+        Err(why) => Err(u32::from(why)),
     }
 }

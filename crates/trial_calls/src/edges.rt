@@ -1,11 +1,11 @@
 // Calls on a job in each of its states at the edges (SPECIFICATION.md, "Examples"): what is just taken and what is just refused, which of two reasons comes
 // first, and the state that is left. Frames have n symbols, the first k of which are v, and the others 0: to encode, or as a dead line and damage to it. Else
 // they are damage to a legal frame: v is added to its first k symbols, or put there where it is above 256.
-use lost::edges::{received, show};
+use lost::edges::{received, reshaped, show};
 use lost::tallies::Tallies;
 use plain::tally::count;
 use plain::values::{first, part, put, set};
-use plain_frames::answers::{of_checked, of_reply};
+use plain_frames::answers::{numbered, of_reply};
 use plain_frames::compare::same;
 use std::io;
 use whole_job::Job;
@@ -18,7 +18,7 @@ fn shapes(rows: usize, columns: usize, checks: u16, last: u16, exponent: u32) ->
     let mut room = [checks; 9];
     put(&mut room, rows.saturating_sub(1), last);
     let checks = part(&room, 0, rows);
-    of_checked(whole_job::shape(whole_job::empty(), columns, checks, exponent).checked)
+    numbered(whole_job::shape(whole_job::empty(), columns, checks, exponent)).map(|_| ())
 }
 
 fn shape_edge(i: usize) -> bool {
@@ -54,7 +54,7 @@ fn shape_edge(i: usize) -> bool {
 
 fn shape(job: Job, columns: usize, upper: u16, lower: u16, exponent: u32) -> Job {
     let checks = [upper, lower];
-    whole_job::shape(job, columns, &checks, exponent).job
+    reshaped(job, columns, &checks, exponent)
 }
 
 fn shaped() -> Job {
@@ -105,7 +105,7 @@ fn locates_dead(job: Job, n: usize, v: u16, k: usize) -> Result<(), u32> {
 fn encodes(job: Job, n: usize, v: u16, k: usize) -> Result<(), u32> {
     let lent = dead(v, k);
     let mut room = lent;
-    let answer = of_checked(whole_job::encode(job, first(&mut room, n)));
+    let answer = numbered(whole_job::encode(job, first(&mut room, n)));
     if answer.is_err() && !same(&lent, &room, 0) {
         return Err(100);
     }

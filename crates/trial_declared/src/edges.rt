@@ -2,11 +2,11 @@
 // and the state that is left. The shape has four columns, the checks 3 and 2 and mostly the exponent 1. A frame is a legal one, to whose first k symbols
 // v is added, or put there where it is above 256; or, as a dead line, zeros with v at the first k places. The cell of column i in row h has mark 256·h + i.
 use lost::cells::declare;
-use lost::edges::{received, show};
+use lost::edges::{received, reshaped, show};
 use lost::tallies::Tallies;
 use plain::tally::count;
 use plain::values::{part, set};
-use plain_frames::answers::{of_checked, of_reply};
+use plain_frames::answers::{numbered, of_reply};
 use std::io;
 use whole_job::Job;
 
@@ -76,7 +76,7 @@ fn locates_dead(job: Job, cells: Cells, lent: Lent) -> Result<usize, u32> {
 }
 
 fn shaped(exponent: u32) -> Job {
-    whole_job::shape(whole_job::empty(), 4, &[3, 2], exponent).job
+    reshaped(whole_job::empty(), 4, &[3, 2], exponent)
 }
 
 // A job located with a declared cell and damage in the column after it.
@@ -167,7 +167,7 @@ fn past() -> Job {
 // It still encodes.
 fn still_encodes() -> bool {
     let mut room = [0u16, 0, 0, 1, 0, 0, 0, 0];
-    of_checked(whole_job::encode(past(), &mut room)) == Ok(())
+    numbered(whole_job::encode(past(), &mut room)) == Ok(())
 }
 
 // It still locates.
@@ -178,7 +178,7 @@ fn still_locates() -> bool {
 // The smallest frame whose register names as many columns as it is long, while no legal frame lies so near: the column that is named is declared in the second
 // row, where another one is damaged.
 fn smallest_refused() -> bool {
-    let job = whole_job::shape(whole_job::empty(), 3, &[2, 2], 1).job;
+    let job = reshaped(whole_job::empty(), 3, &[2, 2], 1);
     let frame = [1u16, 0, 0, 65535, 1, 0];
     locates_frame(job, cells(0, 256, 1), &frame) == Err(26)
 }
@@ -198,7 +198,7 @@ fn dead_edge(i: usize) -> bool {
 
 // A line of fives whose lost cells, the first and the last, hold anything. 3^64 is a fourth root of 1, so that for the exponent 64 fives are a codeword.
 fn fives(exponent: u32, lost: u16) -> Result<usize, u32> {
-    let job = whole_job::shape(whole_job::empty(), 4, &[1, 1], exponent).job;
+    let job = reshaped(whole_job::empty(), 4, &[1, 1], exponent);
     let frame = [lost, 5, 5, 5, 5, 5, 5, lost];
     locates_frame(job, cells(1, 259, 1), &frame)
 }
