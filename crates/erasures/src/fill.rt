@@ -8,7 +8,7 @@ use crate::cells::cells_of;
 use crate::reading::clear_rows;
 use columns::{Columns, either};
 use completion::row::mend_row;
-use field257::powers::{powers, wide};
+use field257::powers::powers;
 use frame::Shape;
 
 // Each row of a frame as read completed at its marked and declared columns, given the check sums that are held of it. Each row is lent on as its own part.
@@ -17,14 +17,11 @@ fn fill_rows(s: Shape, declared: &[u64; 32], marked: Columns, sums: &[u16], fram
     ensures { frame.new ≡ mended s (declared_by declared.now) marked frame.old }
 {
     let powers = powers();
-    let rows = s.rows;
-    let columns = s.columns;
-    let mut at: usize = 0;
-    let mut h = 0;
-    while h < rows {
-        let to = at + wide(s.checks[h]) as usize;
-        let a = h * columns;
-        let e = a + columns;
+    let mut at = 0;
+    for h in 0..s.rows {
+        let to = at + usize::from(s.checks[h]);
+        let a = h * s.columns;
+        let e = a + s.columns;
         mend_row(
             &powers,
             s.exponent,
@@ -33,7 +30,6 @@ fn fill_rows(s: Shape, declared: &[u64; 32], marked: Columns, sums: &[u16], fram
             &mut frame[a..e],
         );
         at = to;
-        h += 1;
     }
 }
 

@@ -11,10 +11,12 @@ use crate::cells::{cells_of, is_declarable};
 use codec::sums::frame_sums;
 use columns::{Columns, next};
 use frame::Shape;
-use refusal::{Checked, Refusal};
+use lists::arrays::padded;
+use refusal::{Refusal, require};
 use shapes::symbols::all_below;
 
 // 0 in the columns of the set.
+// Kept as a while: it goes from one marked column to the next, and not by one.
 fn clear(set: Columns, row: &mut [u16])
     requires { length row.old ≤ 256 }
     ensures { row.new ≡ cleared (length row.old) set row.old }
@@ -31,29 +33,11 @@ pub fn clear_rows(s: Shape, declared: &[u64; 32], frame: &mut [u16])
     requires { ReadableFrame s frame.old }
     ensures { frame.new ≡ as_read s (declared_by declared.now) frame.old }
 {
-    let rows = s.rows;
-    let columns = s.columns;
-    let mut h = 0;
-    while h < rows {
-        let a = h * columns;
-        let e = a + columns;
+    for h in 0..s.rows {
+        let a = h * s.columns;
+        let e = a + s.columns;
         clear(cells_of(declared, h), &mut frame[a..e]);
-        h += 1;
     }
-}
-
-// The frame with zeros after it.
-fn copied(frame: &[u16]) -> [u16; 2048]
-    requires { length frame.now ≤ 2048 }
-    ensures { take (length frame.now) result ≡ frame.now }
-{
-    let mut copy = [0u16; 2048];
-    let mut k = 0;
-    while k < frame.len() {
-        copy[k] = frame[k];
-        k += 1;
-    }
-    copy
 }
 
 // A copy of the frame with 0 in the declared cells.
@@ -62,28 +46,20 @@ fn as_read(s: Shape, declared: &[u64; 32], frame: &[u16]) -> [u16; 2048]
     ensures { take (length frame.now) result ≡ as_read s (declared_by declared.now) frame.now }
 {
     let n = frame.len();
-    let mut copy = copied(frame);
-    clear_rows(s, declared, &mut copy[0..n]);
+    let mut copy = padded::<2048>(frame);
+    clear_rows(s, declared, &mut copy[..n]);
     copy
 }
 
 // The refusals of a frame of which cells are declared.
-pub fn check_read(s: Shape, declared: &[u64; 32], frame: &[u16]) -> Checked
+pub fn check_read(s: Shape, declared: &[u64; 32], frame: &[u16]) -> Result<(), Refusal>
     requires { is_shape s ≡ true }
     ensures { outcome_of result ≡ outcome (read_tests s (declared_by declared.now) frame.now) }
 {
-    let n = frame.len();
-    if n != s.rows * s.columns {
-        return Checked::Refuse(Refusal::FrameSize);
-    }
-    if !is_declarable(s, declared) {
-        return Checked::Refuse(Refusal::BadCells);
-    }
+    require(frame.len() == s.rows * s.columns, Refusal::FrameSize)?;
+    require(is_declarable(s, declared), Refusal::BadCells)?;
     let read = as_read(s, declared, frame);
-    if all_below(&read[0..n]) {
-        return Checked::Pass;
-    }
-    Checked::Refuse(Refusal::Symbol)
+    require(all_below(&read[..frame.len()]), Refusal::Symbol)
 }
 
 // The check sums of the frame as read, row after row, and zeros after them.
@@ -91,7 +67,6 @@ pub fn sums_read(s: Shape, declared: &[u64; 32], frame: &[u16]) -> [u16; 512]
     requires { (is_shape s ≡ true) × WellFormedRead s (declared_by declared.now) frame.now }
     ensures { result ≡ held_sums s (as_read s (declared_by declared.now) frame.now) }
 {
-    let n = frame.len();
     let read = as_read(s, declared, frame);
-    frame_sums(s, &read[0..n])
+    frame_sums(s, &read[..frame.len()])
 }

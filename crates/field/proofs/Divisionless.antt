@@ -46,7 +46,7 @@ module _ {b p v m : ℕ} (base : 0 < b) (pos : 0 < p) (within : v ≤ b) (recipr
       let part : m * p ≤ b = rw reciprocal (div-mul-le_self b p) in
       le_of_mul-le-mul_right (let scaled : t * p * b ≤ v * b = omega (arith, mul-le-mul_right p low, mul-le-mul_right v part) in scaled) base
 
-  one-short : v < t * p + 2 * p
+  pub one-short : v < t * p + 2 * p
   one-short =
       let rest : ℕ = b % p in
       let high : m * v < t * b + b = lt-div-mul-add {a = m * v} {b = b} base in

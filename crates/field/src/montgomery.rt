@@ -21,7 +21,7 @@ pub fn bottom(a: u16, b: u16) -> u16
 fn better(p: u16, v: u16) -> u16
     ensures { (p * result) % 65536 ≡ ((p * v) % 65536 * (65538 - (p * v) % 65536)) % 65536 }
 {
-    bottom(v, ((65538 - (bottom(p, v) as u32)) % 65536) as u16)
+    bottom(v, ((65538 - u32::from(bottom(p, v))) % 65536) as u16)
 }
 
 // The inverse of an odd p modulo 2^16: 1 is right modulo 2, then 4, 16, 256 and 65536.

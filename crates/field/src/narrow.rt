@@ -6,7 +6,7 @@ ghost use Rattle.field.specs.Residue.{minus};
 pub fn product(a: u16, b: u16) -> u32
     ensures { result ≡ a * b }
 {
-    (a as u32) * (b as u32)
+    u32::from(a) * u32::from(b)
 }
 
 pub fn difference(a: u16, b: u16, p: u16) -> u16

@@ -15,12 +15,13 @@ pub fn is_modulus(p: u32) -> bool
     if p % 2 == 0 {
         return p == 2;
     }
-    let mut d: u32 = 3;
-    while d * d <= p {
+    for d in (3..256).step_by(2) {
+        if d * d > p {
+            break;
+        }
         if p % d == 0 {
             return false;
         }
-        d += 2;
     }
     true
 }

@@ -1,4 +1,3 @@
-pub mod Answered
 pub mod Digits
 pub mod Lines
 pub mod Numbers

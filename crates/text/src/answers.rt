@@ -5,15 +5,15 @@ ghost use Rattle.job.specs.Answers.{reply_answer};
 ghost use Rattle.job.specs.Calls.{columns as Calls·columns};
 ghost use Rattle.refusal.specs.Number.{number};
 ghost use Rattle.text.specs.Answered.{found_line, column_count, FewColumns, FewTaps, TapsHeld};
-ghost use Rattle.text.specs.Line.{refusal_line, mark_of, register_line, columns_line};
+ghost use Rattle.text.specs.Line.{refusal_line, register_line, columns_line};
 ghost use Rattle.text.specs.Text.{spaced};
 ghost use Rattle.text.specs.Written.{Written};
 
 use crate::writers::{put_byte, put_columns, put_number, put_numbers};
 use columns::Columns;
-use finder::Found;
-use job::Reply;
-use refusal::{Refusal, number_of};
+use finder::Register;
+use job::Progress;
+use refusal::Refusal;
 
 // A letter and the first number.
 fn put_head(out: &mut [u8], at: usize, letter: u8, n: u16) -> usize
@@ -30,7 +30,7 @@ pub fn refusal_line(out: &mut [u8], at: usize, k: Refusal) -> usize
     ensures written { Written out.old at (refusal_line (number k)) out.new result }
     ensures upper_bound { result ≤ at + 1024 }
 {
-    let end = put_head(out, at, b'E', number_of(k) as u16);
+    let end = put_head(out, at, b'E', u32::from(k) as u16);
     put_byte(out, end, b'\n')
 }
 
@@ -45,22 +45,21 @@ fn columns_line(out: &mut [u8], at: usize, count: usize, marks: Columns) -> usiz
 }
 
 // Nothing is written of a locate that is unfinished.
-pub fn reply_line(out: &mut [u8], at: usize, reply: Reply, marks: Columns) -> usize
+pub fn reply_line(
+    out: &mut [u8],
+    at: usize,
+    reply: Result<Progress, Refusal>,
+    marks: Columns,
+) -> usize
     requires { FewColumns out.old at (column_count reply) marks }
     ensures written { Written out.old at (columns_line (reply_answer reply) marks) out.new result }
     ensures upper_bound { result ≤ at + 1024 }
 {
     match reply {
-        Reply::Refused(k) => refusal_line(out, at, k),
-        Reply::Count(c) => columns_line(out, at, c, marks),
-        Reply::Unfinished => at,
+        Ok(Progress::Columns(c)) => columns_line(out, at, c, marks),
+        Ok(Progress::Unfinished) => at,
+        Err(k) => refusal_line(out, at, k),
     }
-}
-
-fn mark_of(alone: bool) -> u16
-    ensures { result ≡ mark_of alone }
-{
-    if alone { 1 } else { 0 }
 }
 
 fn taps_line(out: &mut [u8], at: usize, size: usize, alone: bool, taps: &[u16]) -> usize
@@ -69,21 +68,23 @@ fn taps_line(out: &mut [u8], at: usize, size: usize, alone: bool, taps: &[u16]) 
     ensures upper_bound { result ≤ at + 1024 }
 {
     let head = put_head(out, at, b'R', size as u16);
-    let mark = put_number(out, head, mark_of(alone));
+    let mark = put_number(out, head, u16::from(alone));
     let end = put_numbers(out, mark, taps);
     put_byte(out, end, b'\n')
 }
 
-pub fn found_line(out: &mut [u8], at: usize, found: Found, taps: &[u16]) -> usize
+pub fn found_line(
+    out: &mut [u8],
+    at: usize,
+    found: Result<Register, Refusal>,
+    taps: &[u16],
+) -> usize
     requires { TapsHeld out.old at found taps.now }
     ensures written { Written out.old at (found_line found taps.now) out.new result }
     ensures upper_bound { result ≤ at + 1024 }
 {
     match found {
-        Found::Refused(k) => refusal_line(out, at, k),
-        Found::Register { length, alone } => {
-            let end = length + 1;
-            taps_line(out, at, length, alone, &taps[0..end])
-        }
+        Ok(Register { length, alone }) => taps_line(out, at, length, alone, &taps[..length + 1]),
+        Err(k) => refusal_line(out, at, k),
     }
 }

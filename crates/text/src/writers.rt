@@ -50,10 +50,8 @@ pub fn put_numbers(out: &mut [u8], at: usize, xs: &[u16]) -> usize
     ensures upper_bound { result ≤ at + 6 * length xs.now }
 {
     let mut end = at;
-    let mut i = 0;
-    while i < xs.len() {
-        end = put_number(out, end, xs[i]);
-        i += 1;
+    for x in xs {
+        end = put_number(out, end, *x);
     }
     end
 }
@@ -65,10 +63,8 @@ pub fn put_columns(out: &mut [u8], at: usize, c: Columns) -> usize
     ensures upper_bound { result ≤ at + 6 * length (members c) }
 {
     let mut end = at;
-    let mut i = columns::next(c, 0);
-    while i < 256 {
+    for i in c.members() {
         end = put_number(out, end, i as u16);
-        i = columns::next(c, i + 1);
     }
     end
 }

@@ -11,5 +11,4 @@ abbrev of_words : List ℕ → Columns
 of_words words = record { words = words }
 
 pub returns : goal.returns
-returns c =
-    ap of_words (four-entries c.args.declared.now (4 * c.args.h) (let l = c.w-1.given in let r = c.requires in omega arith))
+returns c = ap of_words (four-entries c.args.declared.now (4 * c.args.h) (omega arith))

@@ -1,7 +1,7 @@
 -- `erasures::cells::is_declarable` meets its contract.
 use mathlib.Core.Bool.{Bool, true}
 use mathlib.Core.List.{List}
-use Prim.Native.Nat.{ℕ, ◌-◌}
+use Prim.Native.Nat.{ℕ}
 use Rattle.frame.specs.DeclaredCells.{declared_by}
 use Rattle.frame.specs.declared.Shape.{Shape}
 use Rattle.lists.proofs.Testing.{Tested}
@@ -14,6 +14,3 @@ row s words h = row_declarable s (declared_by words h) h
 
 abbrev pub invariant-loop-h : goal.invariant-loop-h
 invariant-loop-h l = Tested 8 (row l.s l.declared) l.h true
-
-abbrev pub decreases-loop-h : goal.decreases-loop-h
-decreases-loop-h l = 8 - l.h

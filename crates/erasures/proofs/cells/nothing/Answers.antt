@@ -1,18 +1,15 @@
-use borrow.Author.Tests.{eq-eqb, ne_eqb}
+use native.Mathlib.Numerals.{add-one}
+use native.Mathlib.Nat.{le_antisymm}
 use Rattle.frame.specs.DeclaredCells.{nothing_declared}
-use Rattle.lists.proofs.Testing.{tested-none, tested-pass, tested_fail, tested-all}
+use Rattle.lists.proofs.Tabulated.{every-zero, every-suc}
 use Rattle.erasures.proofs.cells.nothing.Goals as goal
-use Rattle.erasures.proofs.cells.nothing.Invariants.{unmarked}
-use Rattle.erasures.proofs.cells.nothing.Goals.{else-declared-k-ne0, then-declared-k-ne0}
 
-pub loop-k-init : goal.loop-k-init
-loop-k-init c = tested-none _ _
+pub loop-word-init : goal.loop-word-init
+loop-word-init c = rw every-zero
 
-pub loop-k-preserved : goal.loop-k-preserved
-loop-k-preserved c =
-    let test = unmarked c.args.declared.now in
-    elim c.if-declared-k-ne0.branch [ then-declared-k-ne0 w ↦ tested_fail 32 test c.loop-k.k c.loop-k.none c.loop-k.invariant c.loop-k-test.true c.if-declared-k-ne0.none w.none-is (ne_eqb _ _ w.if-declared-k-ne0.true) | else-declared-k-ne0 w ↦ tested-pass 32 test c.loop-k.k c.loop-k.none c.loop-k.invariant c.loop-k-test.true c.if-declared-k-ne0.none w.none-is (eq-eqb _ _ w.if-declared-k-ne0.false) ]
+pub loop-word-preserved : goal.loop-word-preserved
+loop-word-preserved c = rw (add-one, every-suc, c.loop-word.invariant)
 
 pub returns : goal.returns
 unfolding nothing_declared
-returns c = tested-all _ _ _ _ c.loop-k.invariant c.loop-k-test.false
+returns c = rw (c.loop-word.invariant, le_antisymm c.loop-word.auto.word-index-end c.loop-word-test.false)

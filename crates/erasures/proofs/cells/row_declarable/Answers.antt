@@ -15,12 +15,6 @@ use Rattle.erasures.proofs.cells.row_declarable.Goals as goal
 pub returns-then-h-s : goal.returns-then-h-s
 returns-then-h-s c = ap (λ (k : ℕ). eqb k 256) c.next.ensures ∙ past-rows c.args.s c.args.set c.args.h c.if-h-s.true
 
-pub returns-then-next-ne256 : goal.returns-then-next-ne256
-returns-then-next-ne256 c =
-    let few = leb (length (members c.args.set)) (checks_of c.args.s c.args.h) in
-    ap (λ (b : Bool). b && few) (sym (ne_eqb _ 256 c.if-next-ne256.true) ∙ ap (λ (k : ℕ). eqb k 256) c.next-2.ensures)
-    ∙ within-rows c.args.s c.args.set c.args.h c.if-h-s.false
-
 pub offset_bounds-s-h : goal.offset_bounds-s-h
 offset_bounds-s-h c =
     let r = shape-ranges _ c.requires in
@@ -33,9 +27,16 @@ bounds-s-h c =
     let l = c.if-h-s.false in
     omega arith
 
-pub returns : goal.returns
-returns c =
-    ap₂ leb c.size.ensures c.wide.ensures.equals
-    ∙ ap (λ (b : Bool). b && leb (length (members c.args.set)) (checks_of c.args.s c.args.h))
-    (sym (eq-eqb _ 256 c.if-next-ne256.false) ∙ ap (λ (k : ℕ). eqb k 256) c.next-2.ensures)
+pub returns-then-next-eq256 : goal.returns-then-next-eq256
+returns-then-next-eq256 c =
+    let few = leb (length (members c.args.set)) (checks_of c.args.s c.args.h) in
+    ap₂ leb c.size.ensures c.from.ensures
+    ∙ ap (λ (b : Bool). b && few) (sym (eq-eqb _ 256 c.if-next-eq256.true) ∙ ap (λ (k : ℕ). eqb k 256) c.next-2.ensures)
+    ∙ within-rows c.args.s c.args.set c.args.h c.if-h-s.false
+
+pub returns-else-next-eq256 : goal.returns-else-next-eq256
+returns-else-next-eq256 c =
+    let few = leb (length (members c.args.set)) (checks_of c.args.s c.args.h) in
+    ne_eqb _ 256 c.if-next-eq256.false
+    ∙ ap (λ (b : Bool). b && few) (sym (ne_eqb _ 256 c.if-next-eq256.false) ∙ ap (λ (k : ℕ). eqb k 256) c.next-2.ensures)
     ∙ within-rows c.args.s c.args.set c.args.h c.if-h-s.false

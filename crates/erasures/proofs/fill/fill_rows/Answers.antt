@@ -7,7 +7,7 @@ use Rattle.frame.specs.DeclaredCells.{declared_by}
 use Rattle.frame.proofs.RowPlace.{RowPlace}
 use Rattle.erasures.proofs.RowsFilled.{filled_none, filled_more, filled-all, place_of, sums-end, sums-long, row_mendable}
 use Rattle.erasures.proofs.fill.fill_rows.Goals as goal
-use Rattle.erasures.proofs.fill.fill_rows.Goals.{After-either, After-wide, In-loop-h}
+use Rattle.erasures.proofs.fill.fill_rows.Goals.{After-either, After-from, In-loop-h}
 
 place : (c : In-loop-h) →
     let args = c.args in
@@ -15,11 +15,11 @@ place : (c : In-loop-h) →
 place c = place_of _ _ _ _ _ c.requires _ _ _ c.loop-h.invariant c.loop-h-test.true
 
 -- the sums of the row end within those that are lent
-ends : (c : After-wide) → c.loop-h.at + c.wide.result ≤ length c.args.sums.now
+ends : (c : After-from) → c.loop-h.at + c.from.result ≤ length c.args.sums.now
 ends c =
     let room = sums-end _ _ _ _ _ c.requires _ _ _ c.loop-h.invariant c.loop-h-test.true in
     let long = sums-long _ _ _ _ _ c.requires _ _ _ c.loop-h.invariant c.loop-h-test.true in
-    let count = c.wide.ensures.equals in
+    let count = c.from.ensures in
     omega arith
 
 -- the set at which the row is completed
@@ -51,13 +51,13 @@ pub cells_of-requires : goal.cells_of-requires
 cells_of-requires c = let p = place (goal.at.cells_of-requires c).In-loop-h in omega arith
 
 pub offset_bounds-sums-at : goal.offset_bounds-sums-at
-offset_bounds-sums-at c = omega (arith, ends (goal.at.offset_bounds-sums-at c).After-wide)
+offset_bounds-sums-at c = omega (arith, ends (goal.at.offset_bounds-sums-at c).After-from)
 
 pub slice_bounds-mend_row-start : goal.slice_bounds-mend_row-start
-slice_bounds-mend_row-start c = omega (arith, ends (goal.at.slice_bounds-mend_row-start c).After-wide)
+slice_bounds-mend_row-start c = omega (arith, ends (goal.at.slice_bounds-mend_row-start c).After-from)
 
 pub slice_bounds-mend_row-end : goal.slice_bounds-mend_row-end
-slice_bounds-mend_row-end c = omega (arith, ends (goal.at.slice_bounds-mend_row-end c).After-wide)
+slice_bounds-mend_row-end c = omega (arith, ends (goal.at.slice_bounds-mend_row-end c).After-from)
 
 pub offset_bounds-frame-a : goal.offset_bounds-frame-a
 offset_bounds-frame-a c = let p = place (goal.at.offset_bounds-frame-a c).In-loop-h in omega arith
@@ -75,22 +75,16 @@ pub mend_row-requires : goal.mend_row-requires
 mend_row-requires c =
     let at = c.loop-h in
     let mendable =
-    row_mendable _ _ _ _ _ c.requires at.h at.at at.frame at.invariant c.loop-h-test.true c.wide.result
-    c.wide.ensures.equals c.either.result (set_is (goal.at.mend_row-requires c).After-either)
+    row_mendable _ _ _ _ _ c.requires at.h at.at at.frame at.invariant c.loop-h-test.true c.from.result
+    c.from.ensures c.either.result (set_is (goal.at.mend_row-requires c).After-either)
     in
     (c.powers-powers.ensures, mendable)
-
-pub overflow_add-h : goal.overflow_add-h
-overflow_add-h c = let p = place (goal.at.overflow_add-h c).In-loop-h in omega arith
-
-pub loop-h-smaller : goal.loop-h-smaller
-loop-h-smaller c = let t = c.loop-h-test.true in omega arith
 
 pub loop-h-preserved : goal.loop-h-preserved
 loop-h-preserved c =
     let at = c.loop-h in
-    filled_more _ _ _ _ _ c.requires at.h at.at at.frame at.invariant c.loop-h-test.true c.wide.result
-    c.wide.ensures.equals c.either.result (set_is (goal.at.loop-h-preserved c).After-either) _ c.mend_row.ensures
+    filled_more _ _ _ _ _ c.requires at.h at.at at.frame at.invariant c.loop-h-test.true c.from.result
+    c.from.ensures c.either.result (set_is (goal.at.loop-h-preserved c).After-either) _ c.mend_row.ensures
 
 pub shape_of-frame : goal.shape_of-frame
 shape_of-frame c = c.loop-h.invariant.rows.size

@@ -1,45 +1,37 @@
 -- `erasures::reading::check_read` meets its contract.
-use mathlib.Core.Path.{◌≡◌, refl, sym, ◌∙◌}
-use mathlib.Core.Bool.{true, false}
-use native.Mathlib.Omega.{arith}
-use lib.ListN.{length}
-use borrow.Author.Tests.{eq-eqb, ne_eqb}
-use Rattle.frame.specs.DeclaredCells.{declared_by, undeclared_below}
-use Rattle.frame.proofs.ReadTests.{by-read-tests}
+use Rattle.std.proofs.Common.{◌≡◌, ◌∙◌, ◌*◌, ap, sym, arith, rules, length}
+use Rattle.std.proofs.lemmas.Grind.{common_steps}
+use Rattle.frame.specs.DeclaredCells.{declared_by, read_tests}
 use Rattle.frame.proofs.RowPlace.{frame_small}
-use Rattle.refusal.specs.Outcome.{passed, refused}
-use Rattle.frame.proofs.ReadCopy.{first-lent, symbols_copied}
+use Rattle.frame.proofs.ReadCopy.{symbols_copied}
+use Rattle.frame.proofs.ReadFrames.{length-read}
 use Rattle.erasures.proofs.reading.check_read.Goals as goal
-use Rattle.erasures.proofs.reading.check_read.Goals.{After-all_below}
-
--- what the test of the copy says
-tested : (c : After-all_below) →
-    let args = c.args in
-    undeclared_below args.s (declared_by args.declared.now) args.frame.now ≡ c.all_below.result
-tested c =
-    let frame = c.args.frame.now in
-    symbols_copied _ _ _ c.if-n-s.false _ _ (first-lent (length frame) c.as_read-read.result ∙ c.as_read-read.ensures) c.all_below.ensures
+use Rattle.erasures.proofs.reading.check_read.Goals.{After-as_read-read}
 
 pub overflow_mul-s : goal.overflow_mul-s
 overflow_mul-s c = omega (arith, frame_small _ c.requires)
 
-pub returns-then-n-s : goal.returns-then-n-s
-returns-then-n-s c = by-read-tests refused passed _ _ _ false _ _ (ne_eqb _ _ c.if-n-s.true) refl refl
+pub returns-in_err-require : goal.returns-in_err-require
+unfolding read_tests
+returns-in_err-require c = search rules
 
-pub returns-then-not-is_declarable : goal.returns-then-not-is_declarable
-returns-then-not-is_declarable c =
-    by-read-tests refused passed _ _ _ true false _ (eq-eqb _ _ c.if-n-s.false)
-    (sym c.is_declarable.ensures ∙ c.if-not-is_declarable.true) refl
+pub returns-in_err-require-2 : goal.returns-in_err-require-2
+unfolding read_tests
+returns-in_err-require-2 c = search rules
+
+whole : (c : After-as_read-read) → length c.args.frame.now ≡ c.args.s.rows * c.args.s.columns
+whole c = grind (arith, common_steps)
+
+pub slice_bounds-read-end : goal.slice_bounds-read-end
+slice_bounds-read-end c = omega (arith, frame_small _ c.requires, whole c)
 
 pub slice_bounds-all_below-end : goal.slice_bounds-all_below-end
-slice_bounds-all_below-end c = omega (arith, frame_small _ c.requires, c.if-n-s.false)
-
-pub returns-then-all_below : goal.returns-then-all_below
-returns-then-all_below c =
-    by-read-tests refused passed _ _ _ true true true (eq-eqb _ _ c.if-n-s.false)
-    (sym c.is_declarable.ensures ∙ c.if-not-is_declarable.false) (tested (goal.at.returns-then-all_below c).After-all_below ∙ c.if-all_below.true)
+slice_bounds-all_below-end c =
+    let whole = whole (goal.at.slice_bounds-all_below-end c).After-as_read-read in
+    whole ∙ sym (ap length c.as_read-read.ensures ∙ length-read c.args.s (declared_by c.args.declared.now) c.args.frame.now whole)
 
 pub returns : goal.returns
+unfolding read_tests
 returns c =
-    by-read-tests refused passed _ _ _ true true false (eq-eqb _ _ c.if-n-s.false)
-    (sym c.is_declarable.ensures ∙ c.if-not-is_declarable.false) (tested (goal.at.returns c).After-all_below ∙ c.if-all_below.false)
+    let whole = whole (goal.at.returns c).After-as_read-read in
+    rw (symbols_copied _ _ _ whole _ _ c.as_read-read.ensures c.all_below.ensures) (grind (arith, common_steps))

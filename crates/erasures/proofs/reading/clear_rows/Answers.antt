@@ -19,13 +19,13 @@ pub loop-h-init : goal.loop-h-init
 loop-h-init c = changed-none _ _ _ _
 
 pub overflow_mul-a : goal.overflow_mul-a
-overflow_mul-a c = let p = place c in omega arith
+overflow_mul-a c = let p = place (goal.at.overflow_mul-a c).In-loop-h in omega arith
 
 pub overflow_add-e : goal.overflow_add-e
-overflow_add-e c = let p = place c in omega arith
+overflow_add-e c = let p = place (goal.at.overflow_add-e c).In-loop-h in omega arith
 
 pub cells_of-requires : goal.cells_of-requires
-cells_of-requires c = let p = place c in omega arith
+cells_of-requires c = let p = place (goal.at.cells_of-requires c).In-loop-h in omega arith
 
 pub offset_bounds-frame-a : goal.offset_bounds-frame-a
 offset_bounds-frame-a c = let p = place (goal.at.offset_bounds-frame-a c).In-loop-h in omega arith
@@ -40,12 +40,6 @@ pub clear-requires : goal.clear-requires
 clear-requires c =
     let p = place (goal.at.clear-requires c).In-loop-h in
     omega (arith, length_part _ _ _ _ _ _ c.loop-h.invariant p.inside)
-
-pub overflow_add-h : goal.overflow_add-h
-overflow_add-h c = let p = place (goal.at.overflow_add-h c).In-loop-h in omega arith
-
-pub loop-h-smaller : goal.loop-h-smaller
-loop-h-smaller c = let t = c.loop-h-test.true in omega arith
 
 pub loop-h-preserved : goal.loop-h-preserved
 loop-h-preserved c =

@@ -1,5 +1,4 @@
 -- `erasures::reading::clear_rows` meets its contract.
-use Prim.Native.Nat.{◌-◌}
 use Rattle.frame.specs.DeclaredCells.{declared_by}
 use Rattle.frame.specs.Completion.{cleared}
 use Rattle.frame.proofs.ReadFrames.{length-cleared}
@@ -7,7 +6,4 @@ use Rattle.frame.proofs.RowsAtSets.{RowsAtSets}
 use Rattle.erasures.proofs.reading.clear_rows.Given as goal
 
 abbrev pub invariant-loop-h : goal.invariant-loop-h
-invariant-loop-h l = RowsAtSets cleared length-cleared l.columns l.rows (declared_by l.declared) l.initial.frame l.h l.frame
-
-abbrev pub decreases-loop-h : goal.decreases-loop-h
-decreases-loop-h l = l.rows - l.h
+invariant-loop-h l = RowsAtSets cleared length-cleared l.s.columns l.s.rows (declared_by l.declared) l.initial.frame l.h l.frame

@@ -12,9 +12,6 @@ first-within c =
     let below = top_below c.ranges.y.fits (let e : c.args.u ≤ c.args.p = omega (arith, c.requires.1) in e) (omega (arith, c.requires.0)) in
     omega (arith, c.top.ensures, below)
 
-pub difference-rest-requires : goal.difference-rest-requires
-difference-rest-requires c = (c.requires.0, first-within c)
-
 -- and so is the second
 second-within : (c : After-top-2) → c.top-2.result ≤ c.args.p
 second-within c =
@@ -23,20 +20,11 @@ second-within c =
     let below = top_below {x = c.bottom.result} {y = p} {p = p} (omega (arith, small)) (omega arith) (omega (arith, c.requires.0)) in
     omega (arith, c.top-2.ensures, below)
 
-pub overflow_sub-p : goal.overflow_sub-p
-overflow_sub-p c = second-within c
-
-pub difference-requires : goal.difference-requires
-difference-requires c = (c.difference-rest.ensures.below, omega arith)
-
-pub returns : goal.returns
-returns c =
+pub returns-clause-equals : goal.returns-clause-equals
+returns-clause-equals c =
     let second = c.before in
     let rest = second.before.before in
     let first = rest.before in
     let companion : (first.args.v * first.args.p) % 65536 ≡ first.args.u % 65536 = omega (arith, first.requires.2) in
-    record {
-      equals = less-product-is first.args.y first.args.u first.args.v first.args.p second.bottom.ensures companion first.args.x first.top.ensures
-          second.top-2.ensures (first-within first) (second-within second) rest.difference-rest.ensures.equals c.difference.ensures.equals;
-      below = c.difference.ensures.below;
-    }
+    less-product-is first.args.y first.args.u first.args.v first.args.p second.bottom.ensures companion first.args.x first.top.ensures
+    second.top-2.ensures (first-within first) (second-within second) rest.difference-rest.ensures.equals c.difference.ensures.equals

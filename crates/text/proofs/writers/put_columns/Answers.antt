@@ -1,41 +1,23 @@
 use native.Mathlib.Omega.{arith}
-use Rattle.columns.proofs.Walk.{walk_start, walk-next, walk-rises, walk-member, walk_end}
-use Rattle.text.proofs.Spacing as Spacing
-use Rattle.text.proofs.Spacing.{spaced-none, spaced-room, spaced-next, spaced-all}
+use lib.ListN.{length-append}
+use Rattle.columns.proofs.Coming.{split-next, next-place, next-member, next-below}
+use Rattle.text.proofs.Spacing.{spaced-none, spaced-next}
 use Rattle.text.proofs.writers.put_columns.Goals as goal
 
-pub next-i-requires : goal.next-i-requires
-next-i-requires c = tt
-
 pub loop-i-init : goal.loop-i-init
-loop-i-init c = (0, walk_start _ _ c.next-i.ensures, spaced-none _ _ _)
+loop-i-init c = (tt, tt, (cc), spaced-none _ _ _)
 
-pub put_number-end-requires : goal.put_number-end-requires
-put_number-end-requires c =
-    let v = c.loop-i.invariant in
-    spaced-room _ _ _ c.requires _ _ _ v.2 (walk-member _ _ _ v.1 (omega arith)).0
-
-pub next-i-requires-in-loop-i : goal.next-i-requires-in-loop-i
-next-i-requires-in-loop-i c = tt
-
-pub loop-i-smaller : goal.loop-i-smaller
-loop-i-smaller c = let r = walk-rises _ _ _ c.loop-i.invariant.1 _ (omega arith) c.next-i-in-loop-i.ensures in omega arith
+pub overflow_cast-i : goal.overflow_cast-i
+overflow_cast-i c = omega (arith, next-below _ _ _ c.loop-i.invariant.2 _ _ c.in-Some.ensures.steps)
 
 pub loop-i-preserved : goal.loop-i-preserved
 loop-i-preserved c =
-    let v = c.loop-i.invariant in
-    let m = walk-member _ _ _ v.1 (omega arith) in (
-      _,
-      walk-next _ _ _ v.1 _ (omega arith) c.next-i-in-loop-i.ensures,
-      spaced-next _ _ _ c.requires _ _ _ v.2 _ _ _ m.0 m.1 (omega arith)
-          c.put_number-end.ensures.written,
+    let (can, ends, split, spaced) = c.loop-i.invariant in
+    let next = c.in-Some.ensures.steps in (
+      can,
+      ends,
+      split-next _ _ _ split _ _ next,
+      rw length-append
+          (spaced-next _ _ _ c.requires _ _ _ spaced _ _ _ (next-place _ _ _ split _ _ next) (next-member _ _ _ split _ _ next)
+          (omega (arith, next-below _ _ _ split _ _ next)) c.put_number-end.ensures.written),
     )
-
-pub shape_of-out : goal.shape_of-out
-shape_of-out c = Spacing.same_length _ _ _ c.requires _ _ _ c.loop-i.invariant.2
-
-pub returns : goal.returns
-returns c =
-    let v = c.loop-i.invariant in
-    let all = walk_end _ _ _ v.1 (omega arith) in
-    record { written = spaced-all _ _ _ c.requires _ _ _ v.2 all; upper_bound = omega (arith, v.2.near) }
