@@ -11,7 +11,7 @@ use Rattle.lists.specs.Total.{total}
 use Rattle.lists.proofs.Totals.{total-zero, total-suc}
 use Rattle.field.proofs.Remainders.{mod-mul-mod, same-sums}
 use Rattle.field257.specs.Powers.{power_of3}
-use Rattle.butterflies.specs.Butterflies.{Butterflies, butterfly}
+use Rattle.butterflies.specs.Butterflies.{Butterflies, Weighed, butterfly}
 
 four : (f : ℕ → ℕ) → total 4 f ≡ f 0 + f 1 + f 2 + f 3
 four f =
@@ -23,11 +23,7 @@ same-product a u v p e =
     sym (mod-mul-mod a 257 p) ∙ ap (λ (r : ℕ). (r * p) % 257) e ∙ mod-mul-mod (u * v) 257 p ∙ ap (λ (r : ℕ). r % 257) (mul_assoc u v p)
 
 module _ (t x : List ℕ) where
-  -- k holds column i times its factor
-  abbrev Weighed : (i k : ℕ) → Type 0
-  Weighed i k = k % 257 ≡ (get_or x i 0 * get_or t i 0) % 257
-
-  module _ (l a b c d : ℕ) (ea : Weighed l a) (eb : Weighed (64 + l) b) (ec : Weighed (128 + l) c) (ed : Weighed (192 + l) d) where
+  module _ (l a b c d : ℕ) (ea : Weighed t x l a) (eb : Weighed t x (64 + l) b) (ec : Weighed t x (128 + l) c) (ed : Weighed t x (192 + l) d) where
     -- the four with their powers of 3^(64 m)
     pub butterfly-four : (m v : ℕ)
         → v % 257 ≡ (a * power_of3 (64 * 0 * m) + b * power_of3 (64 * 1 * m) + c * power_of3 (64 * 2 * m) + d * power_of3 (64 * 3 * m)) % 257
@@ -37,10 +33,10 @@ module _ (t x : List ℕ) where
         e
         ∙ same-sums _ _ _ _ 257
         (same-sums _ _ _ _ 257
-        (same-sums _ _ _ _ 257 (same-product a (get_or x l 0) (get_or t l 0) (power_of3 (64 * 0 * m)) ea ∙ first)
-        (same-product b (get_or x (64 + l) 0) (get_or t (64 + l) 0) (power_of3 (64 * 1 * m)) eb))
-        (same-product c (get_or x (128 + l) 0) (get_or t (128 + l) 0) (power_of3 (64 * 2 * m)) ec))
-        (same-product d (get_or x (192 + l) 0) (get_or t (192 + l) 0) (power_of3 (64 * 3 * m)) ed)
+        (same-sums _ _ _ _ 257 (same-product a (get_or x l 0) (get_or t l 0) (power_of3 (64 * 0 * m)) ea.same ∙ first)
+        (same-product b (get_or x (64 + l) 0) (get_or t (64 + l) 0) (power_of3 (64 * 1 * m)) eb.same))
+        (same-product c (get_or x (128 + l) 0) (get_or t (128 + l) 0) (power_of3 (64 * 2 * m)) ec.same))
+        (same-product d (get_or x (192 + l) 0) (get_or t (192 + l) 0) (power_of3 (64 * 3 * m)) ed.same)
         ∙ ap (λ (r : ℕ). r % 257) (sym (four (λ j. get_or x (64 * j + l) 0 * (get_or t (64 * j + l) 0 * power_of3 (64 * j * m)))))
       where
         first : (get_or x l 0 * (get_or t l 0 * power_of3 (64 * 0 * m))) % 257

@@ -16,3 +16,8 @@ pub record Butterflies (t x y : List ℕ) : Type 0 where
 pub record Factors (t : List ℕ) : Type 0 where
   pub size : length t ≡ 256
   pub small : (k : ℕ) → k < 256 → get_or t k 0 ≤ 257
+
+-- v stands for column k times its factor: not reduced, and so small that sums of four with signs fit
+pub record Weighed (t x : List ℕ) (k v : ℕ) : Type 0 where
+  pub same : v % 257 ≡ (get_or x k 0 * get_or t k 0) % 257
+  pub bounded : v ≤ 513

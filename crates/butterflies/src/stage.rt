@@ -1,15 +1,14 @@
 // One stage of a transform: of every four columns that lie 64 apart, each times its factor, four others.
-ghost use Rattle.std.specs.Prelude.{◌≡◌, ◌+◌, ◌*◌, ◌%◌, ◌≤◌, ◌<◌, length, get_or};
+ghost use Rattle.std.specs.Prelude.{◌≡◌, ◌+◌, ◌*◌, ◌%◌, ◌≤◌, ◌<◌, get_or};
 ghost use Rattle.lists.specs.Tabulate.{tabulate};
-ghost use Rattle.butterflies.specs.Butterflies.{Butterflies, Factors, butterfly};
+ghost use Rattle.butterflies.specs.Butterflies.{Butterflies, Factors, Weighed, butterfly};
 
 use field257::montgomery::{companion, product};
 
 // Column k times its factor, modulo 257 and not reduced.
 fn weighed(t: &[u16], x: &[u16; 256], k: usize) -> u16
     requires { Factors t.now × (k < 256) }
-    ensures same { result % 257 ≡ (get_or x.now k 0 * get_or t.now k 0) % 257 }
-    ensures bounded { result ≤ 513 }
+    ensures { Weighed t.now x.now k result }
 {
     let w = t[k];
     product(x[k], w, companion(w))
@@ -39,23 +38,32 @@ fn alternating(a: u16, b: u16, c: u16, d: u16) -> u16
     (a + c + 1028) - (b + d)
 }
 
+// The columns l, 64 + l, 128 + l and 192 + l, each times its factor.
+fn four(t: &[u16], x: &[u16; 256], l: usize) -> (u16, u16, u16, u16)
+    requires { Factors t.now × (l < 64) }
+    ensures { Weighed t.now x.now l result.0 × Weighed t.now x.now (64 + l) result.1
+        × Weighed t.now x.now (128 + l) result.2 × Weighed t.now x.now (192 + l) result.3 }
+{
+    (
+        weighed(t, x, l),
+        weighed(t, x, 64 + l),
+        weighed(t, x, 128 + l),
+        weighed(t, x, 192 + l),
+    )
+}
+
 // One stage, of 64 butterflies: the columns l, 64 + l, 128 + l and 192 + l become the four from 4 l on. So the loop is the same in each stage, and several
 // butterflies are worked out at once.
 pub fn butterflies(t: &[u16], x: &[u16; 256], y: &mut [u16; 256])
-    requires { Factors t.now × (length y.old ≡ 256) }
+    requires { Factors t.now }
     ensures { Butterflies t.now x.now y.new }
 {
-    let mut l = 0;
-    while l < 64 {
-        let a = weighed(t, x, l);
-        let b = weighed(t, x, 64 + l);
-        let c = weighed(t, x, 128 + l);
-        let d = weighed(t, x, 192 + l);
+    for l in 0..64 {
+        let (a, b, c, d) = four(t, x, l);
         y[4 * l] = together(a, b, c, d);
         y[4 * l + 1] = turned(a, b, c, d);
         y[4 * l + 2] = alternating(a, b, c, d);
         y[4 * l + 3] = turned(a, d, c, b);
-        l += 1;
     }
 }
 
@@ -65,14 +73,9 @@ pub fn last(t: &[u16], x: &[u16; 256]) -> [u16; 64]
     ensures { result ≡ tabulate 64 (λ l. butterfly t.now x.now l 0 % 257) }
 {
     let mut y = [0u16; 64];
-    let mut l = 0;
-    while l < 64 {
-        let a = weighed(t, x, l);
-        let b = weighed(t, x, 64 + l);
-        let c = weighed(t, x, 128 + l);
-        let d = weighed(t, x, 192 + l);
-        y[l] = together(a, b, c, d) % 257;
-        l += 1;
+    for (l, sum) in y.iter_mut().enumerate() {
+        let (a, b, c, d) = four(t, x, l);
+        *sum = together(a, b, c, d) % 257;
     }
     y
 }

@@ -1,5 +1,5 @@
 // Check sums of a row and of a frame.
-ghost use Rattle.std.specs.Prelude.{◌≡◌, ◌≤◌, length, replicate, true};
+ghost use Rattle.std.specs.Prelude.{◌≡◌, length, replicate, true, IfSome};
 ghost use Rattle.factors.specs.Table.{Weights};
 ghost use Rattle.codec.specs.Summable.{Summable};
 ghost use Rattle.frame.specs.Frame.{WellFormed, check_sums, held_sums};
@@ -17,43 +17,35 @@ fn plain_sums(powers: &[u16; 256], b: u32, x: &[u16], sums: &mut [u16])
     requires { Summable powers.now b x.now sums.old }
     ensures { sums.new ≡ check_sums b (length x.now) (length sums.old) x.now }
 {
-    let mut k = 0;
-    while k < sums.len() {
-        sums[k] = value_at(powers, x, b + k as u32);
-        k += 1;
+    for (k, sum) in sums.iter_mut().enumerate() {
+        *sum = value_at(powers, x, b + k as u32);
     }
 }
 
 // The same, in stages where the table for them is lent.
-fn row_sums(powers: &[u16; 256], b: u32, t: &[u16], x: &[u16], sums: &mut [u16])
-    requires { Summable powers.now b x.now sums.old × (1024 ≤ length t.now → Weights b t.now) }
+fn row_sums(powers: &[u16; 256], b: u32, t: Option<&[u16; 1024]>, x: &[u16], sums: &mut [u16])
+    requires { Summable powers.now b x.now sums.old × IfSome t (λ w. Weights b w.now) }
     ensures { sums.new ≡ check_sums b (length x.now) (length sums.old) x.now }
 {
-    if t.len() < 1024 {
-        plain_sums(powers, b, x, sums);
-        return;
+    match t {
+        Some(t) => staged_sums(t, x, sums),
+        None => plain_sums(powers, b, x, sums),
     }
-    staged_sums(t, x, sums);
 }
 
 // The check sums of the rows of a frame, row after row, written over zeros.
-fn sum_rows(s: Shape, t: &[u16], frame: &[u16], sums: &mut [u16])
-    requires { (is_shape s ≡ true) × WellFormed s frame.now
-        × (1024 ≤ length t.now → Weights s.exponent t.now) × (sums.old ≡ replicate 512 0) }
+fn sum_rows(s: Shape, t: Option<&[u16; 1024]>, frame: &[u16], sums: &mut [u16])
+    requires { (is_shape s ≡ true) × WellFormed s frame.now × IfSome t (λ w. Weights s.exponent w.now) × (sums.old ≡ replicate 512 0) }
     ensures { sums.new ≡ held_sums s frame.now }
 {
     let powers = powers();
-    let rows = s.rows;
-    let columns = s.columns;
-    let mut at: usize = 0;
-    let mut h = 0;
-    while h < rows {
-        let a = h * columns;
-        let e = a + columns;
-        let to = at + s.checks[h] as usize;
+    let mut at = 0;
+    for h in 0..s.rows {
+        let a = h * s.columns;
+        let e = a + s.columns;
+        let to = at + usize::from(s.checks[h]);
         row_sums(&powers, s.exponent, t, &frame[a..e], &mut sums[at..to]);
         at = to;
-        h += 1;
     }
 }
 
@@ -62,11 +54,9 @@ fn sum_rows(s: Shape, t: &[u16], frame: &[u16], sums: &mut [u16])
 fn is_little(s: Shape) -> bool
     requires { is_shape s ≡ true }
 {
-    let mut checks: usize = 0;
-    let mut h = 0;
-    while h < 8 {
-        checks += s.checks[h] as usize;
-        h += 1;
+    let mut checks = 0;
+    for count in &s.checks {
+        checks += usize::from(*count);
     }
     checks * s.columns < 512 * (s.rows + 1)
 }
@@ -79,12 +69,10 @@ pub fn write_sums(s: Shape, frame: &[u16], sums: &mut [u16; 512])
 {
     *sums = [0u16; 512];
     if is_little(s) {
-        let none = [0u16; 1];
-        sum_rows(s, &none, frame, sums);
-        return;
+        sum_rows(s, None, frame, sums);
+    } else {
+        sum_rows(s, Some(&weights(s.exponent)), frame, sums);
     }
-    let t = weights(s.exponent);
-    sum_rows(s, &t, frame, sums);
 }
 
 // The same, returned.

@@ -61,10 +61,8 @@ pub fn weights(b: u32) -> [u16; 1024]
 {
     let powers = powers();
     let mut t = factors();
-    let mut i: usize = 0;
-    while i < 256 {
+    for i in 0..256 {
         t[i] = entry(&powers, b * i as u32);
-        i += 1;
     }
     t
 }

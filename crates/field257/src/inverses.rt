@@ -3,8 +3,6 @@ ghost use Rattle.std.specs.Prelude.{◌≡◌, ◌<◌};
 ghost use Rattle.field257.specs.Inverses.{inverse_table};
 ghost use Rattle.field.specs.Residue.{inverse as inverseOf};
 
-use crate::powers::wide;
-
 // Entry a is a to the power 255, modulo 257.
 const INVERSES: [u16; 257] = [
     0, 1, 129, 86, 193, 103, 43, 147, 225, 200, 180, 187, 150, 178, 202, 120, 241, 121, 100, 230,
@@ -34,5 +32,5 @@ pub fn inverse(a: u32) -> u32
     ensures below { result < 257 }
 {
     let table = inverses();
-    wide(table[a as usize])
+    u32::from(table[a as usize])
 }

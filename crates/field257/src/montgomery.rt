@@ -18,10 +18,8 @@ pub fn companions(x: &[u16]) -> [u16; 64]
     ensures { result ≡ tabulate 64 (λ k. companionOf (get_or x.now k 0)) }
 {
     let mut z = [0u16; 64];
-    let mut k = 0;
-    while k < 64 {
-        z[k] = companion(x[k]);
-        k += 1;
+    for (k, y) in x.iter().enumerate() {
+        z[k] = companion(*y);
     }
     z
 }

@@ -7,8 +7,8 @@ ghost use Rattle.finder.specs.Finder.{Finds};
 use crate::Register;
 use discrepancy::worked_out::worked_out;
 use ends::{alone, start};
-use reduction::copy::copy;
 use refusal::Refusal;
+use register_step::{Problem, State};
 use rounds::rounds;
 use sequences::backwards::all_backwards;
 use sequences::check::{check, longest};
@@ -27,33 +27,31 @@ fn shortest(p: u32, lengths: &[u16], symbols: &[u16], taps: &mut [u16]) -> Regis
     let order = by_length(lengths, symbols);
     let mut backwards = [0u16; 1152];
     all_backwards(order, count, symbols, &mut backwards);
-    let sorted = order.lengths;
-    let mut places = start(most, &sorted, count);
-    let mut sizes = [0u16; 8];
-    let mut discs = [1u16; 8];
-    let mut quotients = [f.unit as u16; 8];
-    let mut sigma = [0u16; 144];
-    sigma[0] = 1;
-    let mut saved = [0u16; 1152];
-    let l = rounds(
+    let problem = Problem {
         f,
-        &moduli,
-        most,
-        &backwards,
-        &sorted,
+        moduli: &moduli,
+        longest: most,
+        symbols: &backwards,
+        lengths: &order.lengths,
         count,
-        &mut places,
-        &mut sizes,
-        &mut discs,
-        &mut quotients,
-        &mut sigma,
-        &mut saved,
-    );
+    };
+    let mut state = State {
+        length: 0,
+        places: start(most, &order.lengths, count),
+        sizes: [0; 8],
+        discs: [1; 8],
+        quotients: [f.unit as u16; 8],
+        taps: [0; 144],
+        saved: [0; 1152],
+    };
+    state.taps[0] = 1;
+    rounds(&problem, &mut state);
+    let l = state.length;
     let e = l + 1;
-    copy(&mut taps[0..e], &sigma[0..e]);
+    taps[..e].copy_from_slice(&state.taps[..e]);
     Register {
         length: l,
-        alone: alone(most, &sorted, count, l, &places, &sizes),
+        alone: alone(most, &order.lengths, count, l, &state.places, &state.sizes),
     }
 }
 

@@ -6,7 +6,7 @@ ghost use Rattle.field257.specs.LocatorPolynomial.{locator_polynomial};
 
 use crate::factor::multiply;
 use columns::{Columns, next};
-use field257::powers::{entry, wide};
+use field257::powers::entry;
 
 // The coefficients, and zeros after them. Only those that a factor can change are multiplied.
 pub fn locator_polynomial(powers: &[u16; 256], set: Columns) -> [u16; 65]
@@ -19,7 +19,7 @@ pub fn locator_polynomial(powers: &[u16; 256], set: Columns) -> [u16; 65]
     let mut i = next(set, 0);
     while i < 256 {
         e += 1;
-        multiply(&mut f[0..e], 257 - wide(entry(powers, i as u32)), 1);
+        multiply(&mut f[0..e], 257 - u32::from(entry(powers, i as u32)), 1);
         i = next(set, i + 1);
     }
     f

@@ -5,26 +5,21 @@ ghost use Rattle.field.specs.Coefficients.{value};
 ghost use Rattle.lists.specs.Total.{total};
 ghost use Rattle.field257.specs.Powers.{power_of3};
 
+use field::narrow::product;
 use field257::powers::entry;
 
 // The whole product.
 pub fn times(a: u16, b: u16) -> u32
     ensures { result ≡ a * b }
 {
-    (a as u32) * (b as u32)
-}
-
-fn long(x: u16) -> u64
-    ensures { result ≡ x }
-{
-    x as u64
+    u32::from(a) * u32::from(b)
 }
 
 // Two coefficients in one number, the second in the upper half.
 fn beside(a: u16, b: u16) -> u64
     ensures { result ≡ a + 4294967296 * b }
 {
-    long(a) + 4294967296 * long(b)
+    u64::from(a) + 4294967296 * u64::from(b)
 }
 
 // The values at y of the polynomials of the two coefficients from k on and, beside it, from j on: one product for both.
@@ -42,18 +37,16 @@ fn fours(powers: &[u16; 256], f: &[u16], e: u32) -> u64
     ensures equals { result % 257 ≡ total (4 * (length f.now / 4)) (λ k. get_or f.now k 0 * power_of3 e ^ k) % 257 }
     ensures bounded { result ≤ 4 * (length f.now / 4) * 562949953421312 }
 {
-    let y = long(entry(powers, e));
+    let y = u64::from(entry(powers, e));
     let blocks = f.len() / 4;
     let half = 2 * blocks;
     let mut total: u64 = 0;
     let mut exponent: u32 = 0;
-    let mut b = 0;
-    while b < blocks {
-        total += linear(f, 2 * b, half + 2 * b, y) * long(entry(powers, exponent));
+    for b in 0..blocks {
+        total += linear(f, 2 * b, half + 2 * b, y) * u64::from(entry(powers, exponent));
         exponent += 2 * e;
-        b += 1;
     }
-    total % 4294967296 + total / 4294967296 * long(entry(powers, exponent))
+    total % 4294967296 + total / 4294967296 * u64::from(entry(powers, exponent))
 }
 
 // The value at 3^e of the polynomial with the coefficients f. The sum fits 64 bits, so that it is reduced once.
@@ -63,12 +56,11 @@ pub fn value_at(powers: &[u16; 256], f: &[u16], e: u32) -> u16
     ensures below { result < 257 }
 {
     let mut total = fours(powers, f, e);
-    let mut k = 4 * (f.len() / 4);
-    let mut exponent = (k as u32) * e;
-    while k < f.len() {
-        total += times(f[k], entry(powers, exponent)) as u64;
+    let start = 4 * (f.len() / 4);
+    let mut exponent = (start as u32) * e;
+    for k in start..f.len() {
+        total += u64::from(product(f[k], entry(powers, exponent)));
         exponent += e;
-        k += 1;
     }
     (total % 257) as u16
 }

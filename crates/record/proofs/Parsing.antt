@@ -9,25 +9,25 @@ use lib.Dec.{leb, eqb}
 use lib.ListN.{length, get_or, take, drop, length-drop, take-append-drop}
 use lib.Seq.{take_all}
 use borrow.Author.Tests.{le-leb, lt-leb, eq-eqb, ne_eqb, eqb-true}
+use Rattle.std.specs.Prelude.{Some, None}
 use Rattle.reader.specs.Fields.{field_at, field_of, fields_of, Filled}
-use Rattle.reader.specs.declared.Field.TheVariants.{Value, End}
 use Rattle.reader.proofs.Filling.{length_fields}
-use Rattle.reader.proofs.Handed.{value_means, end_means}
+use Rattle.reader.proofs.Handed.{value_means, none_means}
 use Rattle.text.specs.Line.{refusal_line}
 use Rattle.record.specs.Line.{output_of, line_of}
 use Rattle.record.specs.Record.{Record, bad, sequences, frame, claimed_by, is_whole, of_kind, counted_of, body_of, record_of, fields_left}
 
 module _ (bytes : List ℕ) where
-  pub claims : (n : ℕ) → Value n ≡ field_at bytes (2 * 0) → n ≡ claimed_by bytes
+  pub claims : (n : ℕ) → Some n ≡ field_at bytes (2 * 0) → n ≡ claimed_by bytes
   unfolding claimed_by
   claims n e =
       let m = value_means bytes 0 n e in
       m.1 ∙ sym (ap (λ (b : Bool). cond b (field_of bytes 0) 0) (le-leb 2 (length bytes) (let h = m.0 in omega arith)))
 
-  pub claims-nothing : End ≡ field_at bytes (2 * 0) → 0 ≡ claimed_by bytes
+  pub claims-nothing : None ≡ field_at bytes (2 * 0) → 0 ≡ claimed_by bytes
   unfolding claimed_by
   claims-nothing e =
-      let m = end_means bytes 0 e in
+      let m = none_means bytes 0 e in
       sym (ap (λ (b : Bool). cond b (field_of bytes 0) 0) (lt-leb 2 (length bytes) (omega arith)))
 
   module _ (n : ℕ) (claim : n ≡ claimed_by bytes) where

@@ -10,7 +10,7 @@ use calls::shape::shape;
 use finder::find::find;
 use heads::states::empty;
 use reader::fields;
-use refusal::{Checked, Refusal};
+use refusal::Refusal;
 use text::answers::{found_line, refusal_line, reply_line};
 
 // The finder's tap buffer has room for the longest length that it takes.
@@ -20,7 +20,7 @@ fn register_line(out: &mut [u8], at: usize, p: u16, lengths: &[u16], symbols: &[
     ensures upper_bound { result ≤ at + 1024 }
 {
     let mut taps = [0u16; 129];
-    let found = find(p as u32, lengths, symbols, &mut taps);
+    let found = find(u32::from(p), lengths, symbols, &mut taps);
     found_line(out, at, found, &taps)
 }
 
@@ -30,18 +30,16 @@ fn frame_line(out: &mut [u8], at: usize, n: u16, checks: &[u16], symbols: &[u16]
     ensures written { Written out.old at (output_of (frame n checks.now symbols.now)) out.new result }
     ensures upper_bound { result ≤ at + 1024 }
 {
-    let shaped = shape(empty(), n as usize, checks, 1);
-    let checked = shaped.checked;
-    if let Checked::Refuse(k) = checked {
-        return refusal_line(out, at, k);
-    }
+    let head = match shape(empty(), usize::from(n), checks, 1) {
+        Ok(head) => head,
+        Err(why) => return refusal_line(out, at, why),
+    };
     let mut sums = [0u16; 512];
     let mut taps = [0u16; 65];
     let mut held = [0u64; 32];
     let none = [0u64; 32];
-    let located = locate(shaped.head, &mut sums, &mut taps, &mut held, &none, symbols);
-    let reply = located.reply;
-    reply_line(out, at, reply, located.columns)
+    let located = locate(head, &mut sums, &mut taps, &mut held, &none, symbols);
+    reply_line(out, at, located.reply, located.columns)
 }
 
 // A record by its kind, of the two that there are.
@@ -70,7 +68,7 @@ fn counted_line(out: &mut [u8], at: usize, xs: &[u16], n: u16, count: u16) -> us
         out.new result }
     ensures upper_bound { result ≤ at + 1024 }
 {
-    let end = 3 + count as usize;
+    let end = 3 + usize::from(count);
     if xs.len() < end {
         return refusal_line(out, at, Refusal::BadRecord);
     }

@@ -2,16 +2,16 @@
 ghost use Rattle.std.specs.Prelude.{true, ◌≡◌, ◌≤◌, ◌<◌, length};
 ghost use Rattle.record.specs.Record.{claimed_by, is_whole};
 
-use reader::{Field, nth};
+use reader::nth;
 
 // How many bytes a record claims after its length.
 pub fn claimed(bytes: &[u8]) -> usize
     ensures { (result ≡ claimed_by bytes.now) × (result < 65536) }
 {
-    let Field::Value(n) = nth(bytes, 0) else {
+    let Some(n) = nth(bytes, 0) else {
         return 0;
     };
-    n as usize
+    usize::from(n)
 }
 
 // The bytes are all that the length claims, two or more of them and even.

@@ -33,8 +33,8 @@ pub fn change(
         ≡ changed_parts f.p n h d
         (parts l places.old sizes.old discs.old quotients.old taps.old saved.old) }
 {
-    let place = places[h] as usize;
-    let size = sizes[h] as usize;
+    let place = usize::from(places[h]);
+    let size = usize::from(sizes[h]);
     let e = n - place;
     if n + size <= place + l {
         reduce(f, moduli, taps, sum, quotients[h], e, size, saved, h);

@@ -1,44 +1,53 @@
 // A step (n, h) of Algorithm 4 on what is kept of its state, one of many.
-ghost use Rattle.std.specs.Prelude.{◌≡◌};
+ghost use Rattle.std.specs.Prelude.{◌≡◌, get_or};
 ghost use Rattle.discrepancy.specs.Discrepancies.{sequence_in};
 ghost use Rattle.discrepancy.specs.Modulus.{WorkedOut, Moduli};
-ghost use Rattle.register_step.specs.Parts.{Steppable, parts, step_parts};
+ghost use Rattle.register_step.specs.Held.{parts_of};
+ghost use Rattle.register_step.specs.Parts.{Steppable, step_parts};
 
 use crate::changing::change;
-use discrepancy::Modulus;
+use crate::{Problem, State};
 use discrepancy::due::due;
 use discrepancy::sums::residue;
 
-// The step, and the length of the register after it. Sequence h, `long` symbols, stands backwards in its block of the symbols.
-pub fn step(
-    f: Modulus,
-    moduli: &[u16; 144],
-    longest: usize,
-    symbols: &[u16; 1152],
-    h: usize,
-    long: usize,
-    n: usize,
-    l: usize,
-    places: &mut [u16; 8],
-    sizes: &mut [u16; 8],
-    discs: &mut [u16; 8],
-    quotients: &mut [u16; 8],
-    taps: &mut [u16; 144],
-    saved: &mut [u16; 1152],
-) -> usize
-    requires worked_out { WorkedOut f }
-    requires moduli { Moduli f.p moduli.now }
-    requires steppable { Steppable f.p longest h long n symbols.now (parts l places.old sizes.old discs.old quotients.old taps.old saved.old) }
-    ensures { parts result places.new sizes.new discs.new quotients.new taps.new saved.new
-        ≡ step_parts f.p longest (sequence_in symbols.now h long) n h
-        (parts l places.old sizes.old discs.old quotients.old taps.old saved.old) }
+pub fn step(problem: &Problem, n: usize, h: usize, state: &mut State)
+    requires worked_out { WorkedOut problem.now.f }
+    requires moduli { Moduli problem.now.f.p problem.now.moduli.now }
+    requires steppable { Steppable problem.now.f.p problem.now.longest h (get_or problem.now.lengths.now h 0) n problem.now.symbols.now
+        (parts_of state.old) }
+    ensures { parts_of state.new
+        ≡ step_parts problem.now.f.p problem.now.longest (sequence_in problem.now.symbols.now h (get_or problem.now.lengths.now h 0)) n h
+        (parts_of state.old) }
 {
-    let sum = due(f, longest, l, taps, symbols, h, long, n);
+    let f = problem.f;
+    let long = usize::from(problem.lengths[h]);
+    let sum = due(
+        f,
+        problem.longest,
+        state.length,
+        &state.taps,
+        problem.symbols,
+        h,
+        long,
+        n,
+    );
     let d = residue(f, sum);
     if d == 0 {
-        return l;
+        return;
     }
-    change(
-        f, moduli, n, h, d, sum, l, places, sizes, discs, quotients, taps, saved,
-    )
+    state.length = change(
+        f,
+        problem.moduli,
+        n,
+        h,
+        d,
+        sum,
+        state.length,
+        &mut state.places,
+        &mut state.sizes,
+        &mut state.discs,
+        &mut state.quotients,
+        &mut state.taps,
+        &mut state.saved,
+    );
 }

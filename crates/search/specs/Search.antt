@@ -1,12 +1,13 @@
 -- What the search answers for any taps and any number of columns (SPECIFICATION.md, "Search", and the refusals 5, 4 in this order).
-use Rattle.std.specs.Prelude.{false, List, [], ◌∷◌, ℕ}
+use Rattle.std.specs.Prelude.{false, List, [], ◌∷◌, ℕ, Result, Ok, Err}
 use Rattle.columns.specs.Columns.{columns_of}
 use Rattle.decoding.specs.Search.{tried_for, sought_columns}
 use Rattle.frame.specs.Frame.{symbols_test}
 use Rattle.frame.specs.Shape.{columns_test}
+use Rattle.refusal.specs.Number.{number}
 use Rattle.refusal.specs.Order.{Test, first_of}
-use Rattle.refusal.specs.Outcome.{Outcome, passed, refused, outcome_of}
-use Rattle.search.specs.declared.Searched.{Searched}
+use Rattle.refusal.specs.Outcome.{Outcome, passed, refused}
+use Rattle.refusal.specs.declared.Refusal.{Refusal}
 use Rattle.search.specs.declared.Sought.{Sought}
 
 -- passed or the number of a refusal, and what is found
@@ -14,12 +15,13 @@ pub record Answer : Type 0 where
   pub outcome : Outcome
   pub sought : Sought
 
-abbrev pub answer_of : Searched → Answer
-answer_of r = record { outcome = outcome_of r.checked; sought = r.sought }
-
 -- no column found, none tried
 abbrev pub nothing : Sought
 nothing = record { columns = columns_of (λ i. false); tried = 0 }
+
+abbrev pub answer_of : Result Sought Refusal → Answer
+answer_of (Ok s) = record { outcome = passed; sought = s }
+answer_of (Err why) = record { outcome = refused (number why); sought = nothing }
 
 -- what a search for the columns that the taps σ name finds among n columns
 abbrev pub sought : (n : ℕ) (σ : List ℕ) → Sought

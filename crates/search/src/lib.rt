@@ -6,18 +6,10 @@ pub mod roots;
 mod values;
 
 use columns::Columns;
-use refusal::Checked;
 
 // The columns found, and how many columns were tried.
 #[derive(Clone, Copy)]
 pub struct Sought {
     pub columns: Columns,
     pub tried: usize,
-}
-
-// What the search returns: whether it refuses, and what it found, nothing where it does.
-#[derive(Clone, Copy)]
-pub struct Searched {
-    pub checked: Checked,
-    pub sought: Sought,
 }

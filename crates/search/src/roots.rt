@@ -3,11 +3,11 @@ ghost use Rattle.std.specs.Prelude.{◌≡◌, ◌≤◌};
 ghost use Rattle.refusal.specs.Outcome.{outcome_of, outcome};
 ghost use Rattle.search.specs.Search.{nothing, sought, search_tests, answer_of, answer};
 
+use crate::Sought;
 use crate::blocks::try_block;
-use crate::{Searched, Sought};
 use columns::Columns;
 use field257::powers::powers;
-use refusal::{Checked, Refusal};
+use refusal::{Refusal, require};
 use shapes::shape::columns_in_range;
 use shapes::symbols::all_below;
 
@@ -51,31 +51,17 @@ pub fn sought_columns(columns: usize, taps: &[u16]) -> Sought
 }
 
 // The refusals of the search.
-fn check(columns: usize, taps: &[u16]) -> Checked
+fn check(columns: usize, taps: &[u16]) -> Result<(), Refusal>
     ensures { outcome_of result ≡ outcome (search_tests columns taps.now) }
 {
-    if !columns_in_range(columns) {
-        return Checked::Refuse(Refusal::Columns);
-    }
-    if all_below(taps) {
-        return Checked::Pass;
-    }
-    Checked::Refuse(Refusal::Symbol)
+    require(columns_in_range(columns), Refusal::Columns)?;
+    require(all_below(taps), Refusal::Symbol)
 }
 
 // For any taps and any number of columns.
-pub fn search(columns: usize, taps: &[u16]) -> Searched
+pub fn search(columns: usize, taps: &[u16]) -> Result<Sought, Refusal>
     ensures { answer_of result ≡ answer columns taps.now }
 {
-    let checked = check(columns, taps);
-    match checked {
-        Checked::Refuse(_) => {
-            let sought = nothing();
-            Searched { checked, sought }
-        }
-        Checked::Pass => {
-            let sought = sought_columns(columns, taps);
-            Searched { checked, sought }
-        }
-    }
+    check(columns, taps)?;
+    Ok(sought_columns(columns, taps))
 }

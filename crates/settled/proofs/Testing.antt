@@ -4,7 +4,7 @@ use mathlib.Core.Bool.{Bool}
 use mathlib.Core.List.{List}
 use Prim.Native.Nat.{ℕ, ◌+◌, ◌-◌, ◌*◌, ◌%◌, ◌≤◌, ◌<◌, min}
 use native.Mathlib.Decide.{ℕ_discrete}
-use native.Mathlib.Nat.{mod-eq_of_lt, sub-zero, zero-mod}
+use native.Mathlib.Nat.{mod-eq_of_lt, zero-mod}
 use native.Mathlib.Omega.{arith}
 use borrow.Author.Tests.{eq-eqb, ne_eqb}
 use lib.Dec.{eqb}
@@ -30,12 +30,11 @@ module _ (p v : ℕ) (inverse : (p * v) % 65536 ≡ 1) where
           ∙ sym (ne_eqb (s % p) 0 (λ none. some
           (sym (mod-eq_of_lt less) ∙ cancel p v inverse c 0 (sym (mod-add-zero (65536 * c) s p none) ∙ sum ∙ sym (zero-mod p)) ∙ zero-mod p)))
 
-  -- the slice of the cells that is tested begins with entry 0
   pub settled_where : {l count : ℕ} {taps symbols cells : List ℕ} (h long left : ℕ) → Ahead p l taps symbols (h * 144) count cells →
-      count ≡ min left (long - l) → count ≤ 144 → {b : Bool} → b ≡ all_zero (take (count - 0) cells) → b ≡ settled_in p l taps symbols h long left
+      count ≡ min left (long - l) → count ≤ 144 → {b : Bool} → b ≡ all_zero (take count cells) → b ≡ settled_in p l taps symbols h long left
   unfolding settled_in
   settled_where {l} {count} {taps} {symbols} {cells} h long left a all small told =
-      told ∙ ap (λ (n : ℕ). all_zero (take n cells)) (sub-zero count)
+      told
       ∙ ap (λ (n : ℕ). every n (λ k. eqb (get_or (take count cells) k 0) 0)) (length-take-le count cells (omega (arith, a.width)))
       ∙ every_ext count (λ k. eqb (get_or (take count cells) k 0) 0) (λ k. eqb (sum_at l taps symbols (h * 144 + k) % p) 0)
       (λ k inside.

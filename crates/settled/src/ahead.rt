@@ -2,39 +2,29 @@
 ghost use Rattle.std.specs.Prelude.{◌*◌};
 ghost use Rattle.settled.specs.Ahead.{Foreseeable, Ahead};
 
-use discrepancy::Modulus;
 use discrepancy::padded::padded;
 use reduction::taking::take_off;
+use register_step::{Problem, State};
 
 // The discrepancies at the last `count` symbols of sequence h, which stands backwards in its block: each over −2^16.
-pub fn ahead(
-    f: Modulus,
-    moduli: &[u16; 144],
-    l: usize,
-    taps: &[u16; 144],
-    symbols: &[u16; 1152],
-    h: usize,
-    count: usize,
-) -> [u16; 144]
-    requires { Foreseeable f moduli.now l taps.now h count }
-    ensures { Ahead f.p l taps.now symbols.now (h * 144) count result }
+pub fn ahead(problem: &Problem, state: &State, h: usize, count: usize) -> [u16; 144]
+    requires { Foreseeable problem.now.f problem.now.moduli.now state.now.length state.now.taps h count }
+    ensures { Ahead problem.now.f.p state.now.length state.now.taps problem.now.symbols.now (h * 144) count result }
 {
     let mut cells = [0u16; 144];
     let end = padded(count);
     let at = h * 144;
-    let mut i = 0;
-    while i <= l {
+    for i in 0..=state.length {
         take_off(
-            f,
-            moduli,
+            problem.f,
+            problem.moduli,
             &mut cells,
             0,
-            taps[i] as u32,
-            symbols,
+            u32::from(state.taps[i]),
+            problem.symbols,
             at + i,
             end,
         );
-        i += 1;
     }
     cells
 }

@@ -8,6 +8,7 @@ use lists::arrays::padded;
 use refusal::{Refusal, require};
 
 // Whether there are 1 to 8 rows.
+#[tactic(auto, unfolding(frame::specs::Shape::rows_in_range))]
 fn rows_in_range(rows: usize) -> bool
     ensures { result ≡ rows_in_range rows }
 {
@@ -15,6 +16,7 @@ fn rows_in_range(rows: usize) -> bool
 }
 
 // Whether there are 2 to 256 columns.
+#[tactic(auto, unfolding(frame::specs::Shape::columns_in_range))]
 pub fn columns_in_range(columns: usize) -> bool
     ensures { result ≡ columns_in_range columns }
 {
@@ -39,6 +41,7 @@ fn checks_in_range(columns: usize, rows: usize, checks: &[u16]) -> bool
 }
 
 // Whether an exponent is 0 to 255.
+#[tactic(auto, unfolding(frame::specs::Shape::exponent_in_range))]
 fn exponent_in_range(exponent: u32) -> bool
     ensures { result ≡ exponent_in_range exponent }
 {
@@ -46,6 +49,7 @@ fn exponent_in_range(exponent: u32) -> bool
 }
 
 // The refusals of a shape.
+#[tactic(auto, unfolding(frame::specs::Shape::shape_tests))]
 pub fn check_shape(columns: usize, checks: &[u16], exponent: u32) -> Result<(), Refusal>
     ensures { outcome_of result ≡ outcome (shape_tests columns checks.now exponent) }
 {
@@ -57,6 +61,7 @@ pub fn check_shape(columns: usize, checks: &[u16], exponent: u32) -> Result<(), 
 }
 
 // The shape of the columns, check counts and exponent given; there are not too many check counts.
+#[tactic(auto, unfolding(frame::specs::Shape::shape_of))]
 pub fn shape_of(columns: usize, checks: &[u16], exponent: u32) -> Shape
     requires { length checks.now ≤ 8 }
     ensures { result ≡ shape_of columns checks.now exponent }
@@ -70,6 +75,7 @@ pub fn shape_of(columns: usize, checks: &[u16], exponent: u32) -> Shape
 }
 
 // Whether rows, columns, check counts and exponent are those of a shape.
+#[tactic(auto, unfolding(frame::specs::Shape::is_shape, frame::specs::Shape::rows_in_range))]
 pub fn in_range(rows: usize, columns: usize, checks: &[u16; 8], exponent: u32) -> bool
     ensures { result ≡ is_shape (record { rows = rows; columns = columns; checks = checks.now; exponent = exponent }) }
 {

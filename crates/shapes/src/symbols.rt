@@ -21,6 +21,7 @@ pub fn all_below(cells: &[u16]) -> bool
 }
 
 // The refusals of a frame that is not well-formed.
+#[tactic(auto, unfolding(frame::specs::Frame::frame_tests))]
 pub fn check_frame(s: Shape, frame: &[u16]) -> Result<(), Refusal>
     requires { is_shape s ≡ true }
     ensures { outcome_of result ≡ outcome (frame_tests s frame.now) }

@@ -1,25 +1,11 @@
 // Check sums of a row in four stages: a number-theoretic transform to base 4 of 256 points, of which the first 64 are asked. In each stage every four columns
 // that lie 64 apart, each times its factor, become four others, for four classes of exponents. A row of 256 columns and 64 sums takes 1,024 products instead
 // of 16,384.
-ghost use Rattle.std.specs.Prelude.{◌≡◌, ℕ, ◌≤◌, ◌<◌, length, get_or};
+ghost use Rattle.std.specs.Prelude.{◌≡◌, ◌≤◌, ◌<◌, length};
 ghost use Rattle.transform.specs.Stages.{Staging, reversal, weighed_sums};
 
 use butterflies::stage::{butterflies, last};
-
-// The row with zeros after it.
-fn padded(x: &[u16]) -> [u16; 256]
-    requires { length x.now ≤ 256 }
-    ensures entries { (k : ℕ) → get_or result k 0 ≡ get_or x.now k 0 }
-    ensures size { length result ≡ 256 }
-{
-    let mut y = [0u16; 256];
-    let mut i = 0;
-    while i < x.len() {
-        y[i] = x[i];
-        i += 1;
-    }
-    y
-}
+use lists::arrays::padded;
 
 // The digits of c to base 4 in the other order.
 fn reversed(c: usize) -> usize
@@ -35,15 +21,13 @@ pub fn staged_sums(t: &[u16], x: &[u16], sums: &mut [u16])
     requires { Staging t.now × (length x.now ≤ 256) × (length sums.old ≤ 64) }
     ensures { sums.new ≡ weighed_sums t.now (length sums.old) x.now }
 {
-    let mut y = padded(x);
+    let mut y = padded::<256>(x);
     let mut z = [0u16; 256];
     butterflies(&t[0..256], &y, &mut z);
     butterflies(&t[256..512], &z, &mut y);
     butterflies(&t[512..768], &y, &mut z);
     let v = last(&t[768..1024], &z);
-    let mut k = 0;
-    while k < sums.len() {
-        sums[k] = v[reversed(k)];
-        k += 1;
+    for (k, sum) in sums.iter_mut().enumerate() {
+        *sum = v[reversed(k)];
     }
 }

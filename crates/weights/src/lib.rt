@@ -12,7 +12,7 @@ ghost use Rattle.lists.specs.Tabulate.{tabulate};
 
 use field::residue::{difference, product};
 use field257::inverses::inverse;
-use field257::powers::{entry, wide};
+use field257::powers::entry;
 use polynomials::values::value_at;
 
 // The quotient of f by 1 - x z, by synthetic division, as many coefficients as there are places for.
@@ -20,12 +20,10 @@ fn divide(f: &[u16; 65], x: u32, quotient: &mut [u16])
     requires { (x < 257) × (length quotient.old ≤ 64) }
     ensures { quotient.new ≡ tabulate (length quotient.old) (λ k. carried f.now x (suc k)) }
 {
-    let mut carry: u32 = 0;
-    let mut k = 0;
-    while k < quotient.len() {
-        carry = (wide(f[k]) + x * carry) % 257;
-        quotient[k] = carry as u16;
-        k += 1;
+    let mut carry = 0;
+    for (k, coefficient) in quotient.iter_mut().enumerate() {
+        carry = (u32::from(f[k]) + x * carry) % 257;
+        *coefficient = carry as u16;
     }
 }
 
@@ -34,10 +32,8 @@ fn scale(row: &mut [u16], c: u32)
     requires { c < 257 }
     ensures { row.new ≡ tabulate (length row.old) (λ k. times 257 (get_or row.old k 0) c) }
 {
-    let mut k = 0;
-    while k < row.len() {
-        row[k] = ((wide(row[k]) * c) % 257) as u16;
-        k += 1;
+    for entry in row.iter_mut() {
+        *entry = (u32::from(*entry) * c % 257) as u16;
     }
 }
 
@@ -49,7 +45,7 @@ fn factor(powers: &[u16; 256], b: u32, others: &[u16], i: usize) -> u32
 {
     let there = value_at(powers, others, (256 - i) as u32);
     let weight = entry(powers, (i as u32) * (b + others.len() as u32 - 1));
-    let part = product(wide(weight), wide(there), 257);
+    let part = product(u32::from(weight), u32::from(there), 257);
     difference(0, inverse(part), 257)
 }
 
@@ -59,7 +55,7 @@ pub fn weigh(powers: &[u16; 256], b: u32, f: &[u16; 65], i: usize, row: &mut [u1
     ensures { row.new ≡ tabulate (length row.old)
         (read_off b (length row.old) i (tabulate (length row.old) (λ k. carried f.now (locator_of i) (suc k)))) }
 {
-    divide(f, wide(entry(powers, i as u32)), row);
+    divide(f, u32::from(entry(powers, i as u32)), row);
     let c = factor(powers, b, row, i);
     scale(row, c);
 }

@@ -12,10 +12,8 @@ pub fn read_off(coefficients: &[u16], sums: &[u16]) -> u16
 {
     let m = coefficients.len();
     let mut total: u32 = 0;
-    let mut k = 0;
-    while k < m {
-        total += times(coefficients[k], sums[m - 1 - k]);
-        k += 1;
+    for (k, coefficient) in coefficients.iter().enumerate() {
+        total += times(*coefficient, sums[m - 1 - k]);
     }
     (total % 257) as u16
 }

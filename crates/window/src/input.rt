@@ -18,10 +18,8 @@ fn move_down(buffer: &mut [u8], from: usize, n: usize)
     requires { from + n ≤ length buffer.old }
     ensures { take n buffer.new ≡ take n (drop from buffer.old) }
 {
-    let mut i = 0;
-    while i < n {
+    for i in 0..n {
         buffer[i] = buffer[from + i];
-        i += 1;
     }
 }
 
@@ -29,10 +27,7 @@ fn move_down(buffer: &mut [u8], from: usize, n: usize)
 fn read(mut input: Stdin, part: &mut [u8]) -> usize
     ensures { result ≤ length part.new }
 {
-    match input.read(part) {
-        Ok(n) => n,
-        Err(_) => 0,
-    }
+    input.read(part).unwrap_or(0)
 }
 
 fn refilled(input: Stdin, buffer: &mut [u8], w: Window) -> Window
@@ -69,10 +64,8 @@ pub fn filled(input: Stdin, buffer: &mut [u8], w: Window) -> Window
     ensures { Filled buffer.old w buffer.new result }
 {
     let mut r = w;
-    let mut short = lacking(buffer, r);
-    while short {
+    while lacking(buffer, r) {
         r = refilled(input, buffer, r);
-        short = lacking(buffer, r);
     }
     r
 }

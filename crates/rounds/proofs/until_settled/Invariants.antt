@@ -1,14 +1,10 @@
--- `until_settled` makes the rounds that may change something. The invariant: n rounds are made.
-use Prim.Native.Nat.{◌-◌, ◌≤◌}
-use Rattle.register.specs.Algorithm4.{rounds}
-use Rattle.register_step.specs.Parts.{parts}
-use Rattle.rounds.specs.Rounds.{Reached, sequences_in}
+-- `until_settled` makes the rounds that may change something. The invariant: n rounds are made, n being the number of rounds at the last look.
+use mathlib.Core.Path.{◌≡◌}
+use mathlib.Core.List.{List, [], ◌∷◌}
+use Prim.Native.Nat.{ℕ}
+use lib.ListN.{get_or}
+use Rattle.rounds.specs.Posed.{RoundsMade}
 use Rattle.rounds.proofs.until_settled.Given as goal
 
-abbrev pub invariant-loop-n : goal.invariant-loop-n
-invariant-loop-n l =
-    (l.n ≤ l.longest)
-    × Reached l.f.p l.count (rounds l.f.p l.longest (sequences_in l.lengths l.count l.symbols) l.n) (parts l.l l.places l.sizes l.discs l.quotients l.taps l.saved)
-
-abbrev pub decreases-loop-n : goal.decreases-loop-n
-decreases-loop-n l = l.longest - l.n
+abbrev pub invariant-loop-to : goal.invariant-loop-to
+invariant-loop-to l = (l.n ≡ get_or (0 ∷ 9 ∷ 17 ∷ l.problem.longest ∷ []) l.to-index 0) × RoundsMade l.problem l.n l.state

@@ -16,7 +16,7 @@ pub overflow_add-carry : goal.overflow_add-carry
 overflow_add-carry c = omega (arith, carry-fits _ _ _ _ _ _ c.loop-k.invariant c.requires.0)
 
 pub loop-k-preserved : goal.loop-k-preserved
-loop-k-preserved c = divided_more _ _ _ _ _ _ c.loop-k.invariant c.wide.result (omega arith) c.wide.ensures.equals
+loop-k-preserved c = divided_more _ _ _ _ _ _ c.loop-k.invariant c.from.result (omega arith) c.from.ensures
 
 pub returns : goal.returns
 returns c = filled-all _ _ _ _ c.loop-k.invariant.filled (omega arith)

@@ -1,11 +1,6 @@
 -- `weights::divide` meets its contract.
-use Prim.Native.Nat.{◌-◌}
-use lib.ListN.{length}
 use Rattle.weights.proofs.Division.{Divided}
 use Rattle.weights.proofs.divide.Given as goal
 
 abbrev pub invariant-loop-k : goal.invariant-loop-k
 invariant-loop-k l = Divided l.f l.x l.initial.quotient l.k l.carry l.quotient
-
-abbrev pub decreases-loop-k : goal.decreases-loop-k
-decreases-loop-k l = length l.initial.quotient - l.k

@@ -35,7 +35,7 @@ returns c =
     record {
       equals = factor-is c.args.b (length c.args.others.now) c.args.i _ there.result c.entry-weight.result c.product-part.result
           c.inverse.result c.difference.result (omega (arith, c.requires.0.column)) there.ensures.equals (weight (goal.at.returns c).After-entry-weight)
-          (c.product-part.ensures.equals ∙ ap₂ (times 257) c.wide.ensures.equals c.wide-2.ensures.equals)
+          (c.product-part.ensures.equals ∙ ap₂ (times 257) c.from.ensures c.from-2.ensures)
           c.inverse.ensures.equals c.difference.ensures.equals;
       below = c.difference.ensures.below;
     }

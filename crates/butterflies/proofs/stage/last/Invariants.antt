@@ -1,11 +1,8 @@
 -- `butterflies::stage::last` meets its contract.
-use Prim.Native.Nat.{◌-◌, ◌%◌}
+use Prim.Native.Nat.{◌%◌}
 use Rattle.lists.proofs.Filling.{Filled}
 use Rattle.butterflies.specs.Butterflies.{butterfly}
 use Rattle.butterflies.proofs.stage.last.Given as goal
 
 abbrev pub invariant-loop-l : goal.invariant-loop-l
-invariant-loop-l l = Filled (λ k. butterfly l.t l.x k 0 % 257) l.initial.y l.l l.y
-
-abbrev pub decreases-loop-l : goal.decreases-loop-l
-decreases-loop-l l = 64 - l.l
+invariant-loop-l l = Filled (λ k. butterfly l.t l.x k 0 % 257) l.initial.sum-items l.l l.sum-items

@@ -15,4 +15,4 @@ loop-k-preserved c =
 
 pub returns : goal.returns
 unfolding check_sums
-returns c = filled-all _ _ _ _ c.loop-k.invariant c.loop-k-test.false
+returns c = filled-all _ _ _ _ c.loop-k.invariant (omega arith)

@@ -2,5 +2,5 @@
 use Rattle.frame.proofs.Shapes.{shape-ranges}
 use Rattle.codec.proofs.sums.write_sums.Goals as goal
 
-pub weights-t-requires : goal.weights-t-requires
-weights-t-requires c = (shape-ranges c.args.s c.requires.0).exponent-most
+pub weights-requires : goal.weights-requires
+weights-requires c = (shape-ranges c.args.s c.requires.0).exponent-most

@@ -1,12 +1,9 @@
 -- `factors::table::weights` meets its contract.
-use Prim.Native.Nat.{◌-◌, ◌*◌, ◌≤◌}
+use Prim.Native.Nat.{◌*◌}
 use Rattle.lists.proofs.Filling.{Filled}
 use Rattle.field257.specs.Powers.{power_of3}
 use Rattle.factors.specs.Table.{factor_table}
 use Rattle.factors.proofs.table.weights.Given as goal
 
 abbrev pub invariant-loop-i : goal.invariant-loop-i
-invariant-loop-i l = (l.i ≤ 256) × Filled (λ k. power_of3 (l.b * k)) factor_table l.i l.t
-
-abbrev pub decreases-loop-i : goal.decreases-loop-i
-decreases-loop-i l = 256 - l.i
+invariant-loop-i l = Filled (λ k. power_of3 (l.b * k)) factor_table l.i l.t

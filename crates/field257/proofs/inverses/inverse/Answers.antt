@@ -9,13 +9,13 @@ use Rattle.field.specs.Residue.{inverse}
 use Rattle.lists.proofs.Tabulated.{get_d_tabulate}
 use Rattle.field257.specs.Inverses.{inverse_table}
 use Rattle.field257.proofs.inverses.inverse.Goals as goal
-use Rattle.field257.proofs.inverses.inverse.Goals.{After-wide}
+use Rattle.field257.proofs.inverses.inverse.Goals.{After-from}
 
 -- what is read is the inverse
-read : (c : After-wide) → c.wide.result ≡ inverse 257 c.args.a
+read : (c : After-from) → c.from.result ≡ inverse 257 c.args.a
 unfolding inverse_table
 read c =
-    c.wide.ensures.equals ∙ ap (λ (l : List ℕ). get_or l c.args.a 0) c.inverses-table.ensures
+    c.from.ensures ∙ ap (λ (l : List ℕ). get_or l c.args.a 0) c.inverses-table.ensures
     ∙ get_d_tabulate 257 (inverse 257) c.args.a 0 c.requires
 
 pub returns : goal.returns

@@ -8,9 +8,7 @@ loop-k-init c = filled_none _ (zeros 64)
 
 pub loop-k-preserved : goal.loop-k-preserved
 loop-k-preserved c =
-    let t = c.loop-k-test.true in
     filled_more _ (zeros 64) c.loop-k.k _ _ c.loop-k.invariant (let s = c.loop-k.invariant.size in omega arith) c.companion.ensures
 
 pub returns : goal.returns
-returns c =
-    filled-all _ (zeros 64) _ _ c.loop-k.invariant (let l = c.loop-k-test.false in let s = c.loop-k.invariant.size in omega arith)
+returns c = filled-all _ (zeros 64) _ _ c.loop-k.invariant (let s = c.loop-k.invariant.size in omega arith)

@@ -1,5 +1,4 @@
 -- `field257::montgomery::companions` meets its contract.
-use Prim.Native.Nat.{◌-◌}
 use lib.ListN.{get_or}
 use Rattle.field257.specs.Montgomery.{companion}
 use Rattle.lists.proofs.Filling.{Filled}
@@ -8,6 +7,3 @@ use Rattle.field257.proofs.montgomery.companions.Given as goal
 
 abbrev pub invariant-loop-k : goal.invariant-loop-k
 invariant-loop-k l = Filled (λ k. companion (get_or l.x k 0)) (zeros 64) l.k l.z
-
-abbrev pub decreases-loop-k : goal.decreases-loop-k
-decreases-loop-k l = 64 - l.k

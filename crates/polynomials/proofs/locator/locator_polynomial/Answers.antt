@@ -11,7 +11,7 @@ use Rattle.lists.specs.Tabulate.{tabulate}
 use Rattle.field257.specs.Powers.{locator_of}
 use Rattle.field257.proofs.LocatorBuilding.{building_none, building_more, building_all}
 use Rattle.polynomials.proofs.locator.locator_polynomial.Goals as goal
-use Rattle.polynomials.proofs.locator.locator_polynomial.Goals.{After-wide}
+use Rattle.polynomials.proofs.locator.locator_polynomial.Goals.{After-from}
 
 -- one coefficient more has its place
 room : (set : Columns) (i e d : ℕ) → e ≡ d + 1 → Walk set d i → i < 256 → length (members set) ≤ 64 → (1 ≤ e) × (e + 1 ≤ 65)
@@ -24,24 +24,12 @@ pub overflow_add-e : goal.overflow_add-e
 overflow_add-e c =
     let r = room _ _ _ _ c.loop-i.invariant.1 c.loop-i.invariant.2 c.loop-i-test.true c.requires.1 in omega arith
 
-pub slice_bounds-f-start : goal.slice_bounds-f-start
-slice_bounds-f-start c = let r = room _ _ _ _ c.loop-i.invariant.1 c.loop-i.invariant.2 c.loop-i-test.true c.requires.1 in omega arith
-
 pub slice_bounds-f-end : goal.slice_bounds-f-end
 slice_bounds-f-end c = let r = room _ _ _ _ c.loop-i.invariant.1 c.loop-i.invariant.2 c.loop-i-test.true c.requires.1 in omega arith
 
-pub overflow_cast-i : goal.overflow_cast-i
-overflow_cast-i c = let t = c.loop-i-test.true in omega arith
-
 -- the locator of the member
-looked-up : (c : After-wide) → c.wide.result ≡ locator_of c.loop-i.i
-looked-up c = c.wide.ensures.equals ∙ c.entry.ensures.power c.requires.0
-
-pub overflow_sub-wide : goal.overflow_sub-wide
-overflow_sub-wide c = omega (arith, looked-up c)
-
-pub multiply-requires : goal.multiply-requires
-multiply-requires c = (omega arith, omega arith)
+looked-up : (c : After-from) → c.from.result ≡ locator_of c.loop-i.i
+looked-up c = c.from.ensures ∙ c.entry.ensures.power c.requires.0
 
 pub loop-i-smaller : goal.loop-i-smaller
 loop-i-smaller c =
@@ -60,7 +48,7 @@ loop-i-preserved c =
       walk-next set d c.loop-i.i walk c.next-i-in-loop-i.result taken c.next-i-in-loop-i.ensures,
       building_more set d c.loop-i.f building c.loop-i.i (c.loop-i.e + 1) c.multiply.new.f
           c.requires.1 less here (omega arith)
-          (c.multiply.ensures ∙ ap (λ (x : ℕ). tabulate (length front) (made 257 (257 - x) 1 front)) (looked-up (goal.at.loop-i-preserved c).After-wide)),
+          (c.multiply.ensures ∙ ap (λ (x : ℕ). tabulate (length front) (made 257 (257 - x) 1 front)) (looked-up (goal.at.loop-i-preserved c).After-from)),
     )
 
 pub returns : goal.returns

@@ -1,12 +1,9 @@
 -- `polynomials::values::fours` meets its contract. The invariant: the terms of b blocks of two of each half are summed.
-use Prim.Native.Nat.{◌+◌, ◌-◌, ◌*◌, ◌≤◌}
+use Prim.Native.Nat.{◌+◌, ◌*◌}
 use lib.ListN.{get_or}
 use Rattle.field257.proofs.Halves.{Beside}
 use Rattle.polynomials.proofs.values.fours.Given as goal
 
 abbrev pub invariant-loop-b : goal.invariant-loop-b
 invariant-loop-b l =
-    (l.b ≤ l.blocks) × Beside (λ k. get_or l.f k 0) (λ k. get_or l.f (l.half + k) 0) l.e (2 * l.b) l.exponent l.total
-
-abbrev pub decreases-loop-b : goal.decreases-loop-b
-decreases-loop-b l = l.blocks - l.b
+    Beside (λ k. get_or l.f k 0) (λ k. get_or l.f (l.half + k) 0) l.e (2 * l.b) l.exponent l.total

@@ -8,4 +8,4 @@ pub returns-in_default : goal.returns-in_default
 returns-in_default c = (claims-nothing _ c.in_default.ensures, omega arith)
 
 pub returns : goal.returns
-returns c = (claims _ _ c.in-Value.ensures, search rules)
+returns c = (claims _ _ c.in-Some.ensures, search rules)

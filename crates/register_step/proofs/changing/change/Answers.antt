@@ -8,14 +8,8 @@ use Rattle.register_step.proofs.Change.{by-sum, over-less, reducible, changed-st
 use Rattle.register_step.proofs.changing.change.Goals as goal
 use Rattle.register_step.proofs.changing.change.Goals.{Start}
 
-pub overflow_cast-place : goal.overflow_cast-place
-overflow_cast-place c = let a = c.requires.changeable in record { fits = omega (arith, a.place, a.round) }
-
-pub overflow_cast-size : goal.overflow_cast-size
-overflow_cast-size c = let a = c.requires.changeable in record { fits = omega (arith, a.readable.saved-size, a.place, a.round) }
-
 pub overflow_sub-e : goal.overflow_sub-e
-overflow_sub-e c = c.requires.changeable.place
+overflow_sub-e c = rw c.from-place.ensures c.requires.changeable.place
 
 pub overflow_add-n : goal.overflow_add-n
 overflow_add-n c = let a = c.requires.changeable in record { fits = omega (arith, a.readable.saved-size, a.place, a.round) }
@@ -31,19 +25,21 @@ pub reduce-requires : goal.reduce-requires
 reduce-requires c =
     let pre = c.requires in
     let a = pre.changeable in
-    record { divided = record { modulus = pre.worked_out; lent = pre.moduli; loose = pre.loose.0; residue = over-less (positive-at (goal.at.reduce-requires c).Start) a }; reducible = reducible (positive-at (goal.at.reduce-requires c).Start) a }
+    rw (c.from-place.ensures, c.from-size.ensures)
+    (record { divided = record { modulus = pre.worked_out; lent = pre.moduli; loose = pre.loose.0; residue = over-less (positive-at (goal.at.reduce-requires c).Start) a }; reducible = reducible (positive-at (goal.at.reduce-requires c).Start) a })
 
 pub returns-then-n-size : goal.returns-then-n-size
 returns-then-n-size c =
     let a = c.requires.changeable in
-    changed-stays _ _ _ _ _ (by-sum (positive-at (goal.at.returns-then-n-size c).Start) a _ c.requires.loose.1 (c.reduce.ensures _ a.readable.quotient))
-    c.if-n-size.true
+    let reduced = rw (c.from-place.ensures, c.from-size.ensures) at (c.reduce.ensures _ a.readable.quotient) in
+    changed-stays _ _ _ _ _ (by-sum (positive-at (goal.at.returns-then-n-size c).Start) a _ c.requires.loose.1 reduced) (omega arith)
 
 pub reduce_keeping-requires : goal.reduce_keeping-requires
 reduce_keeping-requires c =
     let pre = c.requires in
     let a = pre.changeable in
-    record { divided = record { modulus = pre.worked_out; lent = pre.moduli; loose = pre.loose.0; residue = over-less (positive-at (goal.at.reduce_keeping-requires c).Start) a }; reducible = reducible (positive-at (goal.at.reduce_keeping-requires c).Start) a }
+    rw (c.from-place.ensures, c.from-size.ensures)
+    (record { divided = record { modulus = pre.worked_out; lent = pre.moduli; loose = pre.loose.0; residue = over-less (positive-at (goal.at.reduce_keeping-requires c).Start) a }; reducible = reducible (positive-at (goal.at.reduce_keeping-requires c).Start) a })
 
 pub overflow_cast-sizes : goal.overflow_cast-sizes
 overflow_cast-sizes c = let a = c.requires.changeable in record { fits = omega (arith, a.size, a.round) }
@@ -70,7 +66,8 @@ overflow_add-result c =
 pub returns : goal.returns
 returns c =
     let a = c.requires.changeable in
-    changed-grows _ _ _ _ _
-    (by-sum (positive-at (goal.at.returns c).Start) a _ c.requires.loose.1 (c.reduce_keeping.ensures.by_index _ a.readable.quotient))
+    let reduced = rw (c.from-place.ensures, c.from-size.ensures) at (c.reduce_keeping.ensures.by_index _ a.readable.quotient) in
+    rw (c.from-place.ensures, c.from-size.ensures)
+    (changed-grows _ _ _ _ _ (by-sum (positive-at (goal.at.returns c).Start) a _ c.requires.loose.1 reduced)
     (c.quotient.ensures.equals ∙ ap (λ (x : ℕ). quotient_of c.args.f.p x c.args.d) c.requires.worked_out.unit)
-    c.reduce_keeping.ensures.saved_after c.if-n-size.false
+    c.reduce_keeping.ensures.saved_after (omega arith))

@@ -1,13 +1,28 @@
 -- `search::roots::search` meets its contract.
-use native.Mathlib.Omega.{arith}
-use Rattle.search.proofs.Answers.{answer-refused, answer-found, few-columns}
+use Rattle.std.proofs.Common.{◌≡◌, ◌∙◌, ap, sym, rules}
+use Rattle.refusal.specs.Number.{number}
+use Rattle.refusal.specs.Outcome.{passed, refused}
+use Rattle.refusal.proofs.Outcomes.{given-passed, given-refused}
+use Rattle.search.specs.Search.{Answer, answer, nothing, search_tests}
+use Rattle.search.specs.declared.Sought.{Sought}
+use Rattle.search.proofs.Answers.{in_range}
 use Rattle.search.proofs.roots.search.Goals as goal
 
-pub sought_columns-sought-requires : goal.sought_columns-sought-requires
-sought_columns-sought-requires c = let few = few-columns _ _ c.check-checked.ensures c.in-Pass.is in omega arith
+pub sought_columns-requires : goal.sought_columns-requires
+sought_columns-requires c = in_range _ _ (sym c.in_ok-check.ensures)
 
-pub returns-in-Refuse : goal.returns-in-Refuse
-returns-in-Refuse c = answer-refused _ _ c.check-checked.ensures _ c.in-Refuse.is c.nothing-sought.ensures
+pub returns-in_err-check : goal.returns-in_err-check
+unfolding answer
+returns-in_err-check c =
+    let args = c.args in
+    let why = c.in_err-check.field-0.0 in
+    let alone : answer args.columns args.taps.now ≡ record { outcome = refused (number why); sought = nothing } =
+    given-refused _ _ (search_tests args.columns args.taps.now) (number why) (sym c.in_err-check.ensures)
+    in
+    rw alone (search rules)
 
-pub returns-in-Pass : goal.returns-in-Pass
-returns-in-Pass c = answer-found _ _ c.check-checked.ensures c.in-Pass.is c.sought_columns-sought.ensures
+pub returns : goal.returns
+unfolding answer
+returns c =
+    ap (λ (found : Sought). record { outcome = passed; sought = found }) c.sought_columns.ensures
+    ∙ sym (given-passed _ _ (search_tests c.args.columns c.args.taps.now) (sym c.in_ok-check.ensures))

@@ -1,17 +1,12 @@
 use mathlib.Core.Path.{refl, sym, ◌∙◌}
 use mathlib.Core.Bool.{true}
-use Prim.Native.Nat.{◌-◌}
 use native.Mathlib.Omega.{arith}
-use borrow.Author.Rules.{rules}
 use Rattle.lists.proofs.Testing.{tested-none, tested-pass, tested_out, tested-all}
 use Rattle.settled.specs.Settled.{settled}
 use Rattle.settled.proofs.test.is_settled.Goals as goal
 
 pub loop-h-init : goal.loop-h-init
 loop-h-init c = tested-none _ _
-
-pub overflow_cast-long : goal.overflow_cast-long
-overflow_cast-long c = record { fits = omega (arith, (c.requires.1 c.loop-h.h (search rules)).shorter) }
 
 pub is_settled_in-requires : goal.is_settled_in-requires
 is_settled_in-requires c = c.requires.1 c.loop-h.h c.loop-h-test.true

@@ -5,6 +5,7 @@ use Rattle.settled.proofs.test.is_settled_in.Goals as goal
 
 pub returns : goal.returns
 returns c =
-    let modulus = c.requires.modulus in
-    settled_where c.args.f.p c.args.f.inverse (modulus.inverse c.requires.not-two) c.args.h c.args.long
-    c.args.left c.ahead-cells.ensures c.asked-count.ensures (omega arith) c.all_zero.ensures
+    let pre = c.requires in
+    let f = c.args.problem.now.f in
+    settled_where f.p f.inverse (pre.modulus.inverse pre.not-two) c.args.h _
+    c.args.left c.ahead-cells.ensures (omega arith) (omega arith) c.all_zero.ensures

@@ -1,19 +1,20 @@
-use mathlib.Core.Path.{refl, ◌∙◌}
+use mathlib.Core.Path.{◌∙◌}
 use native.Mathlib.Omega.{arith}
 use Rattle.lists.proofs.Filling.{filled_none, filled_more, filled-all}
+use Rattle.lists.proofs.Padded.{padded_entry}
 use Rattle.transform.specs.Stages.{weighed_sums}
 use Rattle.transform.proofs.FactorTables.{first_part, first-factors, later-part, later-factors, weighed-same}
 use Rattle.transform.proofs.StagedSums.{staged_sum}
 use Rattle.transform.proofs.stages.staged_sums.Goals as goal
 
 pub butterflies-requires : goal.butterflies-requires
-butterflies-requires c = (first-factors _ c.requires.0, refl)
+butterflies-requires c = first-factors _ c.requires.0
 
 pub butterflies-requires-2 : goal.butterflies-requires-2
-butterflies-requires-2 c = (later-factors _ c.requires.0 1 (omega arith) (omega arith), c.padded-y.ensures.size)
+butterflies-requires-2 c = later-factors _ c.requires.0 1 (omega arith) (omega arith)
 
 pub butterflies-requires-3 : goal.butterflies-requires-3
-butterflies-requires-3 c = (later-factors _ c.requires.0 2 (omega arith) (omega arith), c.butterflies.ensures.size)
+butterflies-requires-3 c = later-factors _ c.requires.0 2 (omega arith) (omega arith)
 
 pub last-v-requires : goal.last-v-requires
 last-v-requires c = later-factors _ c.requires.0 3 (omega arith) (omega arith)
@@ -29,7 +30,7 @@ loop-k-preserved c =
     (staged_sum k (omega arith) _ _ _ _ _ _ _ _ c.butterflies.ensures c.butterflies-2.ensures c.butterflies-3.ensures
     (later-part t c.requires.0 1 (omega arith) (omega arith)) (later-part t c.requires.0 2 (omega arith) (omega arith))
     (later-part t c.requires.0 3 (omega arith) (omega arith)) _ _ c.last-v.ensures c.reversed.ensures.equals c.reversed.ensures.below
-    ∙ weighed-same _ _ _ _ k (first_part t c.requires.0) c.padded-y.ensures.entries)
+    ∙ weighed-same _ _ _ _ k (first_part t c.requires.0) (λ i. rw c.padded-y.ensures (padded_entry _ _ i)))
 
 pub returns : goal.returns
 unfolding weighed_sums
