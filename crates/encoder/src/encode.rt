@@ -9,9 +9,8 @@ ghost use Rattle.uniform.specs.Encodable.{EncodableFrame};
 
 use division::generator::generator;
 use division::rows::encode_row;
-use field257::powers::wide;
 use frame::Shape;
-use refusal::{Checked, Refusal};
+use refusal::{Refusal, require};
 use shapes::symbols::data_below;
 use uniform::encoded::encodes_uniform;
 
@@ -21,9 +20,10 @@ fn generator_for(b: u32, held: [u16; 65], count: usize, checks: usize) -> [u16; 
     ensures { GeneratorPolynomial b checks result }
 {
     if checks == count {
-        return held;
+        held
+    } else {
+        generator(b, checks)
     }
-    generator(b, checks)
 }
 
 // The check cells filled from the data cells, row after row.
@@ -31,38 +31,28 @@ fn fill_checks(s: Shape, frame: &mut [u16])
     requires { EncodableFrame s frame.old }
     ensures { frame.new ≡ encoded s frame.old }
 {
-    let rows = s.rows;
-    let columns = s.columns;
     let b = s.exponent;
-    let mut count = wide(s.checks[0]) as usize;
+    let mut count = usize::from(s.checks[0]);
     let mut held = generator(b, count);
-    let mut h = 0;
-    while h < rows {
-        let checks = wide(s.checks[h]) as usize;
+    for h in 0..s.rows {
+        let checks = usize::from(s.checks[h]);
         held = generator_for(b, held, count, checks);
         count = checks;
-        let a = h * columns;
-        let e = a + columns;
+        let a = h * s.columns;
+        let e = a + s.columns;
         encode_row(&held, checks, &mut frame[a..e]);
-        h += 1;
     }
 }
 
 // The check cells are filled from the data cells; what the check cells hold before plays no part. A frame that would be uniform is left as it is.
-pub fn encode_frame(s: Shape, frame: &mut [u16]) -> Checked
+pub fn encode_frame(s: Shape, frame: &mut [u16]) -> Result<(), Refusal>
     requires { is_shape s ≡ true }
     ensures answer { outcome_of result ≡ outcome (encode_tests s frame.old) }
     ensures left { frame.new ≡ first_of (λ k. frame.old) (encode_tests s frame.old) (encoded s frame.old) }
 {
-    if frame.len() != s.rows * s.columns {
-        return Checked::Refuse(Refusal::FrameSize);
-    }
-    if !data_below(s, frame) {
-        return Checked::Refuse(Refusal::Symbol);
-    }
-    if encodes_uniform(s, frame) {
-        return Checked::Refuse(Refusal::UniformFrame);
-    }
+    require(frame.len() == s.rows * s.columns, Refusal::FrameSize)?;
+    require(data_below(s, frame), Refusal::Symbol)?;
+    require(!encodes_uniform(s, frame), Refusal::UniformFrame)?;
     fill_checks(s, frame);
-    Checked::Pass
+    Ok(())
 }

@@ -1,9 +1,9 @@
 -- What is looked at to tell whether a frame will be uniform once rows are completed: the cells that stay, and the check sums of a row that holds one symbol.
-use Rattle.std.specs.Prelude.{Bool, ◌||◌, List, ℕ, suc, ◌≤◌, ◌<◌, eqb, ltb, replicate}
+use Rattle.std.specs.Prelude.{◌≡◌, Bool, true, ◌||◌, List, ℕ, suc, ◌≤◌, ◌<◌, eqb, ltb, replicate}
 use Rattle.columns.specs.Columns.{has}
 use Rattle.columns.specs.declared.Columns.{Columns}
 use Rattle.frame.specs.Frame.{cell, check_sum}
-use Rattle.frame.specs.Shape.{checks_of}
+use Rattle.frame.specs.Shape.{checks_of, is_shape}
 use Rattle.frame.specs.declared.Shape.{Shape}
 use Rattle.lists.specs.Tabulate.{every}
 
@@ -25,3 +25,10 @@ pub record Summed (b n a m : ℕ) : Type 0 where
   pub narrow : n ≤ 256
   pub symbol : a < 257
   pub few : m ≤ 64
+
+-- the sums of each row h can be made, as many as counted: a shape and a symbol, and a count that a row can have
+pub record SummedRows (s : Shape) (a : ℕ) (asks : ℕ → Type 0) (counts : ℕ → ℕ → Type 0) : Type 0 where
+  pub shape : is_shape s ≡ true
+  pub symbol : a < 257
+  pub counted : (h : ℕ) → h < s.rows → asks h
+  pub few : (h n : ℕ) → h < s.rows → counts h n → n ≤ 64

@@ -7,46 +7,30 @@ ghost use Rattle.lists.specs.Tabulate.{every};
 ghost use Rattle.uniform.specs.Constant.{constant_coded, data_hold};
 ghost use Rattle.uniform.specs.Encodable.{EncodableFrame};
 
-use crate::constant::constant_coded;
+use crate::constant::rows_coded;
 use crate::holds::all_hold;
-use field257::powers::wide;
 use frame::Shape;
+use shapes::symbols::data_cells;
 
 // Whether every data cell holds a.
 fn data_hold(s: Shape, frame: &[u16], a: u16) -> bool
     requires { (is_shape s ≡ true) × (length frame.now ≡ s.rows * s.columns) }
     ensures { result ≡ data_hold s frame.now a }
 {
-    let rows = s.rows;
-    let columns = s.columns;
-    let mut h = 0;
-    while h < rows {
-        let from = h * columns + wide(s.checks[h]) as usize;
-        let to = h * columns + columns;
-        if !all_hold(&frame[from..to], a) {
+    for h in 0..s.rows {
+        if !all_hold(data_cells(s, frame, h), a) {
             return false;
         }
-        h += 1;
     }
     true
 }
 
-// Whether a in every cell makes all check sums 0. All rows are alike then, so the sums are made once, as many as the row with most checks has.
+// Whether a in every cell makes all check sums 0.
 fn checks_coded(s: Shape, a: u16) -> bool
     requires { (is_shape s ≡ true) × (a < 257) }
     ensures { result ≡ every s.rows (λ h. constant_coded s.exponent s.columns a (checks_of s h)) }
 {
-    let rows = s.rows;
-    let mut most = 0;
-    let mut h = 0;
-    while h < rows {
-        let m = wide(s.checks[h]) as usize;
-        if m > most {
-            most = m;
-        }
-        h += 1;
-    }
-    constant_coded(s.exponent, s.columns, a, most)
+    rows_coded(s, a, |h| usize::from(s.checks[h]))
 }
 
 // Whether the frame is uniform once it is encoded. The last cell of row 0 is a data cell; most frames differ from it at once.
@@ -55,8 +39,5 @@ pub fn encodes_uniform(s: Shape, frame: &[u16]) -> bool
     ensures { result ≡ uniform (encoded s frame.now) }
 {
     let a = frame[s.columns - 1];
-    if !data_hold(s, frame, a) {
-        return false;
-    }
-    checks_coded(s, a)
+    data_hold(s, frame, a) && checks_coded(s, a)
 }

@@ -9,28 +9,17 @@ use columns::{Columns, contains};
 pub fn all_hold(cells: &[u16], a: u16) -> bool
     ensures { result ≡ every (length cells.now) (λ k. eqb (get_or cells.now k 0) a) }
 {
-    let mut k = 0;
-    while k < cells.len() {
-        if cells[k] != a {
-            return false;
-        }
-        k += 1;
-    }
-    true
+    cells.iter().all(|x| *x == a)
 }
 
 // Whether every cell of a row outside the set holds a. The set is looked at only where a cell holds another symbol.
 pub fn kept_hold(cells: &[u16], set: Columns, a: u16) -> bool
     ensures { result ≡ every (length cells.now) (λ k. has set k || eqb (get_or cells.now k 0) a) }
 {
-    let mut k = 0;
-    while k < cells.len() {
-        if cells[k] != a {
-            if !contains(set, k) {
-                return false;
-            }
+    for (k, x) in cells.iter().enumerate() {
+        if *x != a && !contains(set, k) {
+            return false;
         }
-        k += 1;
     }
     true
 }

@@ -10,7 +10,7 @@ ghost use Rattle.lists.specs.Tabulate.{every};
 ghost use Rattle.uniform.specs.Constant.{constant_coded, kept_hold};
 ghost use Rattle.uniform.specs.Mendable.{Mendable, SummedSets};
 
-use crate::constant::constant_coded;
+use crate::constant::rows_coded;
 use crate::holds::kept_hold;
 use columns::{Columns, contains, either, size};
 use erasures::cells::cells_of;
@@ -20,12 +20,10 @@ use frame::Shape;
 fn first_outside(set: Columns, n: usize) -> usize
     ensures { result ≡ least n (λ k. not (has set k)) }
 {
-    let mut k = 0;
-    while k < n {
+    for k in 0..n {
         if !contains(set, k) {
             return k;
         }
-        k += 1;
     }
     n
 }
@@ -35,37 +33,23 @@ fn rows_hold(s: Shape, declared: &[u64; 32], marked: Columns, frame: &[u16], a: 
     requires { Mendable s declared.now marked frame.now }
     ensures { result ≡ kept_hold s (λ h. either marked (declared_by declared.now h)) frame.now a }
 {
-    let rows = s.rows;
-    let columns = s.columns;
-    let mut h = 0;
-    while h < rows {
-        let from = h * columns;
-        let to = from + columns;
+    for h in 0..s.rows {
+        let from = h * s.columns;
+        let to = from + s.columns;
         let set = either(marked, cells_of(declared, h));
         if !kept_hold(&frame[from..to], set, a) {
             return false;
         }
-        h += 1;
     }
     true
 }
 
-// Whether a in every cell makes as many check sums of each row 0 as it has marked and declared columns. All rows are alike then, so the sums are made once.
+// Whether a in every cell makes as many check sums of each row 0 as it has marked and declared columns.
 fn sets_coded(s: Shape, declared: &[u64; 32], marked: Columns, a: u16) -> bool
     requires { SummedSets s declared.now marked a }
     ensures { result ≡ every s.rows (λ h. constant_coded s.exponent s.columns a (length (members (either marked (declared_by declared.now h))))) }
 {
-    let rows = s.rows;
-    let mut most = 0;
-    let mut h = 0;
-    while h < rows {
-        let m = size(either(marked, cells_of(declared, h)));
-        if m > most {
-            most = m;
-        }
-        h += 1;
-    }
-    constant_coded(s.exponent, s.columns, a, most)
+    rows_coded(s, a, |h| size(either(marked, cells_of(declared, h))))
 }
 
 // Whether the frame is uniform once it is mended. Two different symbols outside the columns end it at the second.
@@ -74,8 +58,5 @@ pub fn mends_uniform(s: Shape, declared: &[u64; 32], marked: Columns, frame: &[u
     ensures { result ≡ uniform (mended s (declared_by declared.now) marked frame.now) }
 {
     let a = frame[first_outside(either(marked, cells_of(declared, 0)), s.columns)];
-    if !rows_hold(s, declared, marked, frame, a) {
-        return false;
-    }
-    sets_coded(s, declared, marked, a)
+    rows_hold(s, declared, marked, frame, a) && sets_coded(s, declared, marked, a)
 }

@@ -22,21 +22,21 @@ place c =
 pub generator-held-requires : goal.generator-held-requires
 generator-held-requires c =
     let r = shape-ranges c.args.s c.requires.shape in
-    omega (arith, c.wide-count.ensures.equals, (r.checks 0 r.rows-least).most)
+    omega (arith, c.from-count.ensures, (r.checks 0 r.rows-least).most)
 
 pub loop-h-init : goal.loop-h-init
 loop-h-init c = (changed-none _ _ _ _, c.generator-held.ensures)
 
 pub offset_bounds-s-h : goal.offset_bounds-s-h
-offset_bounds-s-h c = let p = place c in omega arith
+offset_bounds-s-h c = let p = place (goal.at.offset_bounds-s-h c).In-loop-h in omega arith
 
 pub bounds-s-h : goal.bounds-s-h
-bounds-s-h c = let p = place c in omega arith
+bounds-s-h c = let p = place (goal.at.bounds-s-h c).In-loop-h in omega arith
 
 pub generator_for-held-requires : goal.generator_for-held-requires
 generator_for-held-requires c =
     let p = place (goal.at.generator_for-held-requires c).In-loop-h in
-    (c.loop-h.invariant.1, omega (arith, c.wide-checks.ensures.equals))
+    (c.loop-h.invariant.1, omega (arith, c.from-checks.ensures))
 
 pub overflow_mul-a : goal.overflow_mul-a
 overflow_mul-a c = let p = place (goal.at.overflow_mul-a c).In-loop-h in omega arith
@@ -58,7 +58,7 @@ pub encode_row-requires : goal.encode_row-requires
 encode_row-requires c =
     let p = place (goal.at.encode_row-requires c).In-loop-h in
     let size = length_part _ _ _ _ _ _ c.loop-h.invariant.0 p.inside in
-    let count = c.wide-checks.ensures.equals in
+    let count = c.from-checks.ensures in
     record {
       divisor = c.generator_for-held.ensures.divisor;
       reach = omega (arith, size, count);
@@ -67,16 +67,10 @@ encode_row-requires c =
           (omega (arith, count)) (omega (arith, size));
     }
 
-pub overflow_add-h : goal.overflow_add-h
-overflow_add-h c = let p = place (goal.at.overflow_add-h c).In-loop-h in omega arith
-
-pub loop-h-smaller : goal.loop-h-smaller
-loop-h-smaller c = let t = c.loop-h-test.true in omega arith
-
 pub loop-h-preserved : goal.loop-h-preserved
 loop-h-preserved c = (
   more-at_sets (completed _) (length-completed _) _ _ _ _ _ _ c.loop-h.invariant.0 (place (goal.at.loop-h-preserved c).In-loop-h).inside _ _ c.loop-h-test.true
-      (ap first_columns c.wide-checks.ensures.equals) (c.encode_row.ensures _ c.generator_for-held.ensures),
+      (ap first_columns c.from-checks.ensures) (c.encode_row.ensures _ c.generator_for-held.ensures),
   c.generator_for-held.ensures,
 )
 

@@ -1,5 +1,4 @@
 -- `encoder::encode::fill_checks` meets its contract.
-use Prim.Native.Nat.{◌-◌}
 use Rattle.frame.specs.Shape.{checks_of}
 use Rattle.frame.proofs.Encoding.{first_columns}
 use Rattle.division.specs.GeneratorPolynomial.{GeneratorPolynomial}
@@ -10,8 +9,5 @@ use Rattle.encoder.proofs.encode.fill_checks.Given as goal
 
 abbrev pub invariant-loop-h : goal.invariant-loop-h
 invariant-loop-h l =
-    RowsAtSets (completed l.s.exponent) (length-completed l.s.exponent) l.columns l.rows (λ i. first_columns (checks_of l.s i)) l.initial.frame l.h l.frame
+    RowsAtSets (completed l.s.exponent) (length-completed l.s.exponent) l.s.columns l.s.rows (λ i. first_columns (checks_of l.s i)) l.initial.frame l.h l.frame
     × GeneratorPolynomial l.b l.count l.held
-
-abbrev pub decreases-loop-h : goal.decreases-loop-h
-decreases-loop-h l = l.rows - l.h

@@ -6,6 +6,3 @@ use Rattle.encoder.proofs.encode.generator_for.Goals as goal
 
 pub returns-then-checks-count : goal.returns-then-checks-count
 returns-then-checks-count c = subst (λ (m : ℕ). GeneratorPolynomial c.args.b m c.args.held) (sym c.if-checks-count.true) c.requires.0
-
-pub returns : goal.returns
-returns c = c.generator.ensures

@@ -1,8 +1,10 @@
-use mathlib.Core.Path.{refl, ap, ◌∙◌}
+use mathlib.Core.Path.{refl, sym, ap, ◌∙◌}
 use mathlib.Core.Bool.{true}
 use Prim.Native.Nat.{ℕ}
 use native.Mathlib.Omega.{arith}
 use lib.Dec.{eqb}
+use lib.ListN.{replicate}
+use lib.Seq.{length-take-le}
 use borrow.Author.Tests.{eq-eqb, ne_eqb}
 use Rattle.lists.proofs.Testing.{tested-none, tested_out, tested-pass, tested-all}
 use Rattle.uniform.proofs.ConstantRows.{evaluable, sum-value, zeros-coded}
@@ -15,7 +17,7 @@ pub loop-j-init : goal.loop-j-init
 loop-j-init c = tested-none _ _
 
 pub slice_bounds-value_at-end : goal.slice_bounds-value_at-end
-slice_bounds-value_at-end c = let narrow = c.requires.narrow in omega arith
+slice_bounds-value_at-end c = sym (length-take-le c.args.n (replicate 256 c.args.a) c.requires.narrow)
 
 pub overflow_cast-j : goal.overflow_cast-j
 overflow_cast-j c = let few = c.requires.few in let t = c.loop-j-test.true in omega arith

@@ -1,6 +1,6 @@
 -- `uniform::constant::constant_coded` meets its contract.
 use mathlib.Core.Bool.{Bool, true}
-use Prim.Native.Nat.{ℕ, suc, ◌-◌}
+use Prim.Native.Nat.{ℕ, suc}
 use lib.Dec.{eqb}
 use lib.ListN.{replicate}
 use Rattle.frame.specs.Frame.{check_sum}
@@ -13,6 +13,3 @@ vanishes b n a j = eqb (check_sum b n (replicate n a) (suc j)) 0
 
 abbrev pub invariant-loop-j : goal.invariant-loop-j
 invariant-loop-j l = Tested l.m (vanishes l.b l.n l.a) l.j true
-
-abbrev pub decreases-loop-j : goal.decreases-loop-j
-decreases-loop-j l = l.m - l.j

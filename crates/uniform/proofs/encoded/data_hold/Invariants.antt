@@ -1,6 +1,6 @@
 -- `uniform::encoded::data_hold` meets its contract.
 use mathlib.Core.Bool.{Bool, true}
-use Prim.Native.Nat.{ℕ, ◌-◌}
+use Prim.Native.Nat.{ℕ}
 use lib.Dec.{eqb}
 use Rattle.frame.proofs.FrameTests.{row_test}
 use Rattle.lists.proofs.Testing.{Tested}
@@ -11,7 +11,4 @@ abbrev pub holds : (a : ℕ) → ℕ → Bool
 holds a x = eqb x a
 
 abbrev pub invariant-loop-h : goal.invariant-loop-h
-invariant-loop-h l = Tested l.rows (row_test (holds l.a) l.s l.frame) l.h true
-
-abbrev pub decreases-loop-h : goal.decreases-loop-h
-decreases-loop-h l = l.rows - l.h
+invariant-loop-h l = Tested l.s.rows (row_test (holds l.a) l.s l.frame) l.h true

@@ -23,17 +23,17 @@ bounds-frame-s c =
 pub data_hold-requires : goal.data_hold-requires
 data_hold-requires c = let asked = c.requires in (asked.shape, asked.whole)
 
-pub returns-then-not-data_hold : goal.returns-then-not-data_hold
-returns-then-not-data_hold c =
-    let asked = c.requires in
-    sym (uniform-encoded _ asked.shape _ asked.whole asked.small
-    ∙ ap₂ ◌&&◌ (sym c.data_hold.ensures ∙ c.if-not-data_hold.true) refl)
-
 pub checks_coded-requires : goal.checks_coded-requires
 checks_coded-requires c = let asked = c.requires in (asked.shape, last-small _ asked.shape _ asked.whole asked.small)
 
-pub returns : goal.returns
-returns c =
+pub returns-then-data_hold : goal.returns-then-data_hold
+returns-then-data_hold c =
     let asked = c.requires in
     sym (uniform-encoded _ asked.shape _ asked.whole asked.small
-    ∙ ap₂ ◌&&◌ (sym c.data_hold.ensures ∙ c.if-not-data_hold.false) (sym c.checks_coded.ensures))
+    ∙ ap₂ ◌&&◌ (sym c.data_hold.ensures ∙ c.if-data_hold.true) (sym c.checks_coded.ensures))
+
+pub returns-else-data_hold : goal.returns-else-data_hold
+returns-else-data_hold c =
+    let asked = c.requires in
+    c.if-data_hold.false
+    ∙ sym (uniform-encoded _ asked.shape _ asked.whole asked.small ∙ ap₂ ◌&&◌ (sym c.data_hold.ensures ∙ c.if-data_hold.false) refl)

@@ -1,7 +1,7 @@
 -- `uniform::holds::kept_hold` meets its contract.
 use mathlib.Core.Bool.{Bool, true, ◌||◌}
 use mathlib.Core.List.{List}
-use Prim.Native.Nat.{ℕ, ◌-◌}
+use Prim.Native.Nat.{ℕ}
 use lib.Dec.{eqb}
 use lib.ListN.{length, get_or}
 use Rattle.columns.specs.Columns.{has}
@@ -15,6 +15,3 @@ holds cells set a k = has set k || eqb (get_or cells k 0) a
 
 abbrev pub invariant-loop-k : goal.invariant-loop-k
 invariant-loop-k l = Tested (length l.cells) (holds l.cells l.set l.a) l.k true
-
-abbrev pub decreases-loop-k : goal.decreases-loop-k
-decreases-loop-k l = length l.cells - l.k

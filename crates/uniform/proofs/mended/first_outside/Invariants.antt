@@ -1,12 +1,8 @@
 -- `uniform::mended::first_outside` meets its contract.
 use mathlib.Core.Bool.{not}
-use Prim.Native.Nat.{◌-◌}
 use Rattle.columns.specs.Columns.{has}
 use Rattle.columns.proofs.FirstOutside.{Passed}
 use Rattle.uniform.proofs.mended.first_outside.Given as goal
 
 abbrev pub invariant-loop-k : goal.invariant-loop-k
 invariant-loop-k l = Passed l.n (λ i. not (has l.set i)) l.k
-
-abbrev pub decreases-loop-k : goal.decreases-loop-k
-decreases-loop-k l = l.n - l.k

@@ -48,18 +48,21 @@ bounds-frame-first_outside c =
 pub rows_hold-requires : goal.rows_hold-requires
 rows_hold-requires c = c.requires
 
-pub returns-then-not-rows_hold : goal.returns-then-not-rows_hold
-returns-then-not-rows_hold c =
-    let asked = c.requires in
-    sym (uniform-mended _ asked.shape _ _ (read _ _ _ _ asked) _ asked.below _ (inside (goal.at.returns-then-not-rows_hold c).After-first_outside) (out (goal.at.returns-then-not-rows_hold c).After-first_outside)
-    ∙ ap₂ ◌&&◌ (sym c.rows_hold.ensures ∙ c.if-not-rows_hold.true) refl)
-
 pub sets_coded-requires : goal.sets_coded-requires
 sets_coded-requires c =
     summed_sets _ _ _ _ c.requires _ (inside (goal.at.sets_coded-requires c).After-first_outside) (out (goal.at.sets_coded-requires c).After-first_outside)
 
-pub returns : goal.returns
-returns c =
+pub returns-then-rows_hold : goal.returns-then-rows_hold
+returns-then-rows_hold c =
     let asked = c.requires in
-    sym (uniform-mended _ asked.shape _ _ (read _ _ _ _ asked) _ asked.below _ (inside (goal.at.returns c).After-first_outside) (out (goal.at.returns c).After-first_outside)
-    ∙ ap₂ ◌&&◌ (sym c.rows_hold.ensures ∙ c.if-not-rows_hold.false) (sym c.sets_coded.ensures))
+    let at = (goal.at.returns-then-rows_hold c).After-first_outside in
+    sym (uniform-mended _ asked.shape _ _ (read _ _ _ _ asked) _ asked.below _ (inside at) (out at)
+    ∙ ap₂ ◌&&◌ (sym c.rows_hold.ensures ∙ c.if-rows_hold.true) (sym c.sets_coded.ensures))
+
+pub returns-else-rows_hold : goal.returns-else-rows_hold
+returns-else-rows_hold c =
+    let asked = c.requires in
+    let at = (goal.at.returns-else-rows_hold c).After-first_outside in
+    c.if-rows_hold.false
+    ∙ sym (uniform-mended _ asked.shape _ _ (read _ _ _ _ asked) _ asked.below _ (inside at) (out at)
+    ∙ ap₂ ◌&&◌ (sym c.rows_hold.ensures ∙ c.if-rows_hold.false) refl)

@@ -29,13 +29,13 @@ pub loop-h-init : goal.loop-h-init
 loop-h-init c = tested-none _ _
 
 pub overflow_mul-from : goal.overflow_mul-from
-overflow_mul-from c = let p = place c in omega arith
+overflow_mul-from c = let p = place (goal.at.overflow_mul-from c).In-loop-h in omega arith
 
 pub overflow_add-to : goal.overflow_add-to
-overflow_add-to c = let p = place c in omega arith
+overflow_add-to c = let p = place (goal.at.overflow_add-to c).In-loop-h in omega arith
 
 pub cells_of-requires : goal.cells_of-requires
-cells_of-requires c = let p = place c in omega arith
+cells_of-requires c = let p = place (goal.at.cells_of-requires c).In-loop-h in omega arith
 
 pub offset_bounds-frame-from : goal.offset_bounds-frame-from
 offset_bounds-frame-from c = let p = place (goal.at.offset_bounds-frame-from c).In-loop-h in omega arith

@@ -1,7 +1,7 @@
 -- `uniform::mended::rows_hold` meets its contract.
 use mathlib.Core.Bool.{Bool, true, ◌||◌}
 use mathlib.Core.List.{List}
-use Prim.Native.Nat.{ℕ, ◌-◌}
+use Prim.Native.Nat.{ℕ}
 use lib.Dec.{eqb}
 use Rattle.columns.specs.Columns.{either, has}
 use Rattle.columns.specs.declared.Columns.{Columns}
@@ -16,7 +16,4 @@ abbrev pub row_holds : (n : ℕ) (declared : List ℕ) (M : Columns) (f : List �
 row_holds n declared M f a h = every n (λ k. has (either M (declared_by declared h)) k || eqb (cell n f h k) a)
 
 abbrev pub invariant-loop-h : goal.invariant-loop-h
-invariant-loop-h l = Tested l.rows (row_holds l.columns l.declared l.marked l.frame l.a) l.h true
-
-abbrev pub decreases-loop-h : goal.decreases-loop-h
-decreases-loop-h l = l.rows - l.h
+invariant-loop-h l = Tested l.s.rows (row_holds l.s.columns l.declared l.marked l.frame l.a) l.h true

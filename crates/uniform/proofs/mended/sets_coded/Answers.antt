@@ -1,52 +1,22 @@
-use mathlib.Core.Path.{◌≡◌, ap, ◌∙◌}
-use native.Mathlib.Omega.{arith}
-use lib.ListN.{length}
+-- `uniform::mended::sets_coded` meets its contract.
+use Rattle.std.proofs.Common.{◌≡◌, length, arith, rules}
 use Rattle.columns.specs.Columns.{either, members}
-use Rattle.columns.specs.declared.Columns.{Columns}
+use Rattle.frame.specs.DeclaredCells.{declared_by}
 use Rattle.frame.proofs.Shapes.{shape-ranges}
-use Rattle.lists.proofs.Largest.{largest-none, largest-more, largest-all, every-most, most-bound}
-use Rattle.uniform.specs.Constant.{constant_coded}
 use Rattle.uniform.proofs.mended.sets_coded.Goals as goal
-use Rattle.uniform.proofs.mended.sets_coded.Invariants.{columns_in}
-use Rattle.uniform.proofs.mended.sets_coded.Goals.{After-size-m, then-m-most, else-m-most}
 
--- the number of columns that is counted
-counted : (c : After-size-m) →
-    let args = c.args in
-    c.size-m.result ≡ columns_in args.declared.now args.marked c.loop-h.h
-counted c =
-    let marked = c.args.marked in
-    c.size-m.ensures
-    ∙ ap (λ (J : Columns). length (members J)) (c.either.ensures ∙ ap (either marked) c.cells_of.ensures)
-
-pub loop-h-init : goal.loop-h-init
-loop-h-init c = largest-none _ _
-
-pub cells_of-requires : goal.cells_of-requires
-cells_of-requires c = let most = (shape-ranges _ c.requires.shape).rows-most in let t = c.loop-h-test.true in omega arith
-
-pub loop-h-preserved : goal.loop-h-preserved
-loop-h-preserved c =
-    let at = c.loop-h in
-    let n = counted (goal.at.loop-h-preserved c).After-size-m in
-    largest-more _ _ at.h at.most at.invariant c.loop-h-test.true c.if-m-most.most
-    (elim c.if-m-most.branch [ then-m-most t ↦ omega arith | else-m-most t ↦ omega arith ])
-
-pub constant_coded-requires : goal.constant_coded-requires
-constant_coded-requires c =
-    let asked = c.requires in
-    let ranges = shape-ranges _ asked.shape in
+pub rows_coded-requires : goal.rows_coded-requires
+rows_coded-requires c =
+    let ranges = shape-ranges _ c.requires.shape in
     record {
-      exponent = ranges.exponent-most;
-      narrow = ranges.columns-most;
-      symbol = asked.symbol;
-      few = rw (largest-all _ _ _ _ c.loop-h.invariant c.loop-h-test.false) (most-bound 64 _ _ asked.few);
+      shape = c.requires.shape;
+      symbol = c.requires.symbol;
+      counted = λ h l. search rules;
+      few = λ h n l is.
+          let e : n ≡ length (members (either c.args.marked (declared_by c.args.declared.now h))) = search rules in
+          omega (arith, c.requires.few h l);
     }
 
 pub returns : goal.returns
 returns c =
-    let args = c.args in
-    let s = args.s in
-    c.constant_coded.ensures
-    ∙ ap (constant_coded s.exponent s.columns args.a) (largest-all _ _ _ _ c.loop-h.invariant c.loop-h-test.false)
-    ∙ every-most _ _ (columns_in args.declared.now args.marked)
+    c.rows_coded.ensures (λ h. length (members (either c.args.marked (declared_by c.args.declared.now h)))) (λ h n l is. search rules)
