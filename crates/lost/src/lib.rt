@@ -10,4 +10,5 @@ pub mod lent;
 pub mod lists;
 pub mod model;
 pub mod named;
+pub mod near;
 pub mod tallies;

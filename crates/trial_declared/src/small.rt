@@ -1,12 +1,12 @@
 // What is right of small frames by trying everything: all sets of columns for frames of at most eight columns, and all legal frames for those of three columns
 // with two checks in each of at most two rows. Declared cells do not count for distance.
 use brute::locator::Expected;
-use lost::cells::is_declared;
 use lost::model::Model;
 use lost::named::all_completable;
+use lost::near::frames_within;
 use plain::counting::advance;
-use plain::values::{get, part, times};
-use plain_frames::frames::{power, row, size};
+use plain::values::{part, times};
+use plain_frames::frames::{power, size};
 
 // How many sets of at most c columns explain, with the declared cells, the check sums. There are at most eight columns.
 fn sets_within(c: usize, model: &Model, words: &[u64; 32], sums: &[u16]) -> usize {
@@ -29,42 +29,6 @@ fn sets_within(c: usize, model: &Model, words: &[u64; 32], sums: &[u16]) -> usiz
 fn coded_row(exponent: u32) -> [u16; 3] {
     let y = power(3, exponent as usize);
     [times(257, times(257, y, y), 3), times(257, 253, y), 1]
-}
-
-// The frame differs in column i from the codeword with these data symbols, one in each row.
-fn differs(base: [u16; 3], words: &[u64; 32], data: &[u16], frame: &[u16], i: u16) -> bool {
-    let k = usize::from(i);
-    for (h, symbol) in data.iter().enumerate() {
-        let due = times(257, *symbol, get(&base, k));
-        if !is_declared(words, h, i) && get(row(frame, 3, h), k) != due {
-            return true;
-        }
-    }
-    false
-}
-
-fn distance(base: [u16; 3], words: &[u64; 32], data: &[u16], frame: &[u16]) -> usize {
-    let mut n: usize = 0;
-    for i in 0..3u16 {
-        n = n.wrapping_add(usize::from(differs(base, words, data, frame, i)));
-    }
-    n
-}
-
-// How many legal frames lie at distance c or less. The frame has at most two rows. Zeros are no legal frame, and no other of these codewords has one symbol
-// throughout.
-fn frames_within(c: usize, base: [u16; 3], words: &[u64; 32], rows: usize, frame: &[u16]) -> usize {
-    let mut room = [0u16; 2];
-    let mut n: usize = 0;
-    for _ in 0..66049usize {
-        let data = part(&room, 0, rows);
-        let near = data.iter().any(|x| *x != 0) && distance(base, words, data, frame) <= c;
-        n = n.wrapping_add(usize::from(near));
-        if !advance(257, &mut room, 0, rows) {
-            return n;
-        }
-    }
-    0
 }
 
 // How many sets of columns, or legal frames, are due within the columns of the register: one of a frame that is located, none of one refused by 26. Any number
