@@ -35,7 +35,11 @@ pub fn received(job: Job, second: usize, v: u16, k: usize) -> [u16; 16] {
 pub fn repairs(job: Job, second: usize, n: usize, lent: [u16; 16]) -> Result<usize, u32> {
     let mut room = lent;
     let answer = of_reply(whole_job::repair(job, first(&mut room, n)).reply);
-    let due = if answer.is_ok() { sent(job, second) } else { lent };
+    let due = if answer.is_ok() {
+        sent(job, second)
+    } else {
+        lent
+    };
     if !same(&due, &room, 0) {
         return Err(100);
     }

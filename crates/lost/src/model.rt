@@ -57,10 +57,7 @@ pub struct Step {
 fn shape_reason(columns: u16, checks: &[u16], exponent: u32) -> Result<(), u32> {
     require((1..=8).contains(&checks.len()), 2)?;
     require((2..=256).contains(&columns), 5)?;
-    require(
-        checks.iter().all(|n| 0 < *n && *n <= 64 && *n < columns),
-        6,
-    )?;
+    require(checks.iter().all(|n| 0 < *n && *n <= 64 && *n < columns), 6)?;
     require(exponent <= 255, 32)
 }
 

@@ -6,10 +6,9 @@ mod call_lists;
 mod edges;
 
 use call_lists::Usual;
-use lost::lists;
 use lost::model::Planted;
-use lost::tallies;
 use lost::tallies::Tallies;
+use lost::{lists, tallies};
 use plain::tally::print_end;
 use std::io;
 
@@ -37,13 +36,6 @@ fn main(rt: HostRuntime) -> io::Result<()> {
     report(&rt, &counts)?;
     print_end(&rt, agreed)?;
     print!(rt; "planted: ")?;
-    let agreed = lists::random(
-        &Usual,
-        &rt,
-        &mut state,
-        Planted::JobLeft,
-        100,
-        &mut counts,
-    )?;
+    let agreed = lists::random(&Usual, &rt, &mut state, Planted::JobLeft, 100, &mut counts)?;
     print_end(&rt, agreed)
 }

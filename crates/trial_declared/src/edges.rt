@@ -15,17 +15,17 @@ const SECOND: usize = 6;
 
 // The cells that are declared: `first` marks from 0 on, and `more` marks from `from` on.
 #[derive(Clone, Copy)]
-struct Cells {
+struct Marks {
     first: usize,
     from: usize,
     more: usize,
 }
 
-fn cells(first: usize, from: usize, more: usize) -> Cells {
-    Cells { first, from, more }
+fn cells(first: usize, from: usize, more: usize) -> Marks {
+    Marks { first, from, more }
 }
 
-fn words_of(cells: Cells) -> [u64; 32] {
+fn words_of(cells: Marks) -> [u64; 32] {
     let mut words = [0u64; 32];
     for k in 0..cells.first {
         declare(&mut words, k);
@@ -38,38 +38,38 @@ fn words_of(cells: Cells) -> [u64; 32] {
 
 // A frame that is lent: its size, and v at its first k symbols.
 #[derive(Clone, Copy)]
-struct Lent {
+struct Frame {
     size: usize,
     v: u16,
     k: usize,
 }
 
-fn lent(size: usize, v: u16, k: usize) -> Lent {
-    Lent { size, v, k }
+fn lent(size: usize, v: u16, k: usize) -> Frame {
+    Frame { size, v, k }
 }
 
 // The job after a locate with these cells, and the number of columns that it answers.
-fn located(job: Job, cells: Cells, lent: Lent) -> (Job, Result<usize, u32>) {
+fn located(job: Job, cells: Marks, lent: Frame) -> (Job, Result<usize, u32>) {
     let room = received(job, SECOND, lent.v, lent.k);
     let answer = whole_job::locate(job, &words_of(cells), part(&room, 0, lent.size));
     (answer.job, of_reply(answer.reply))
 }
 
-fn locate(job: Job, cells: Cells, lent: Lent) -> Job {
+fn locate(job: Job, cells: Marks, lent: Frame) -> Job {
     located(job, cells, lent).0
 }
 
-fn locates(job: Job, cells: Cells, lent: Lent) -> Result<usize, u32> {
+fn locates(job: Job, cells: Marks, lent: Frame) -> Result<usize, u32> {
     located(job, cells, lent).1
 }
 
 // The same of a given frame.
-fn locates_frame(job: Job, cells: Cells, frame: &[u16]) -> Result<usize, u32> {
+fn locates_frame(job: Job, cells: Marks, frame: &[u16]) -> Result<usize, u32> {
     of_reply(whole_job::locate(job, &words_of(cells), frame).reply)
 }
 
 // The same of a dead line.
-fn locates_dead(job: Job, cells: Cells, lent: Lent) -> Result<usize, u32> {
+fn locates_dead(job: Job, cells: Marks, lent: Frame) -> Result<usize, u32> {
     let mut room = [0u16; 16];
     set(&mut room, lent.k, lent.v);
     locates_frame(job, cells, part(&room, 0, lent.size))
@@ -114,7 +114,7 @@ fn locate_edge(i: usize) -> bool {
 }
 
 // The job with other cells than those of its locate.
-fn forged(job: Job, cells: Cells) -> Job {
+fn forged(job: Job, cells: Marks) -> Job {
     let declared = words_of(cells);
     Job { declared, ..job }
 }
@@ -124,7 +124,7 @@ fn repairs_lent(job: Job, n: usize, lent: [u16; 16]) -> Result<(), u32> {
     lost::edges::repairs(job, SECOND, n, lent).map(|_| ())
 }
 
-fn repairs(job: Job, lent: Lent) -> Result<(), u32> {
+fn repairs(job: Job, lent: Frame) -> Result<(), u32> {
     repairs_lent(job, lent.size, received(job, SECOND, lent.v, lent.k))
 }
 
@@ -147,7 +147,10 @@ fn repair_later_edge(i: usize) -> bool {
     match i {
         6 => repairs(locate(beside(), cells(2, 0, 0), once), lent(8, 65535, 2)) == Ok(()),
         7 => repairs(locate(beside(), cells(2, 0, 0), once), lent(8, 5, 3)) == Err(23),
-        8 => repairs(locate(beside(), cells(0, 0, 0), lent(8, 5, 1)), lent(8, 5, 1)) == Ok(()),
+        8 => repairs(
+            locate(beside(), cells(0, 0, 0), lent(8, 5, 1)),
+            lent(8, 5, 1),
+        ) == Ok(()),
         9 => repairs(locate(beside(), cells(0, 512, 1), once), once) == Ok(()),
         10 => repairs(locate(beside(), cells(2, 0, 0), lent(8, 5, 3)), once) == Err(22),
         11 => repairs(forged(beside(), cells(0, 4, 1)), once) == Err(22),

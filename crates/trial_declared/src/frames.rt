@@ -37,7 +37,13 @@ fn confirmed(tiny: bool, model: &Model, words: &[u64; 32], damaged: &[u16]) -> b
         return true;
     }
     let expected = model.ruled(words, &marks, damaged, summed);
-    frames_agree(model.exponent, words, model.checks().len(), &frame, expected)
+    frames_agree(
+        model.exponent,
+        words,
+        model.checks().len(),
+        &frame,
+        expected,
+    )
 }
 
 // What a locate answered is confirmed, and it did not refuse where the original is due.

@@ -11,10 +11,9 @@ mod small;
 
 use call_lists::WithCells;
 use drawn::Size;
-use lost::lists;
 use lost::model::Planted;
-use lost::tallies;
 use lost::tallies::Tallies;
+use lost::{lists, tallies};
 use plain::tally::print_end;
 use std::io;
 

@@ -116,9 +116,7 @@ fn ruled(
     named: &[u16],
 ) -> Expected {
     let (exponent, columns) = (shape.exponent, shape.columns);
-    if summed.refused.is_some()
-        || !near_uniform(exponent, columns, checks, &NONE, named, damaged)
-    {
+    if summed.refused.is_some() || !near_uniform(exponent, columns, checks, &NONE, named, damaged) {
         return summed;
     }
     Expected {

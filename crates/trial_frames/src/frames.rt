@@ -2,6 +2,7 @@
 use crate::agreement::{RowShape, agrees};
 use crate::every_frame::find_base;
 use crate::tallies::Tallies;
+use lost::edges::reshaped;
 use plain::random::{draw, draw_exponent, draw_from, fill_from};
 use plain::tally::{count, print_frame};
 use plain::values::{copy, first, get, part, product, set};
@@ -9,7 +10,6 @@ use plain_frames::answers::numbered;
 use plain_frames::compare::{same, same_data};
 use plain_frames::damage::damage;
 use plain_frames::uniform::{constant, data_of_uniform, legal};
-use lost::edges::reshaped;
 use std::io;
 use whole_job::Job;
 
@@ -147,9 +147,7 @@ fn compare_random(
     }
     let other = sent(room, n, sends);
     let original = part(&other, 0, n);
-    compare_damaged(
-        rt, state, job, shape, checks, original, sends, base, counts,
-    )
+    compare_damaged(rt, state, job, shape, checks, original, sends, base, counts)
 }
 
 // A frame of two rows with three and two checks against a model that takes both for rows with three.

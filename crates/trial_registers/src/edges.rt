@@ -30,14 +30,7 @@ pub(crate) fn find_in(
 }
 
 // The finder's answer for `n` sequences of one length, `total` symbols that are 0 but for the last, and `room` taps.
-fn finds(
-    p: u32,
-    n: usize,
-    length: u16,
-    total: usize,
-    last: u16,
-    room: usize,
-) -> Result<(), u32> {
+fn finds(p: u32, n: usize, length: u16, total: usize, last: u16, room: usize) -> Result<(), u32> {
     let lengths = [length; 9];
     let mut symbols = [0u16; 1025];
     put(&mut symbols, total.saturating_sub(1), last);

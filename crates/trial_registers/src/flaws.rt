@@ -59,7 +59,9 @@ fn flaw_lengths(state: &mut u64, flawed: bool, lengths: &mut [u16], n: u16) {
 
 fn flaw_total(state: &mut u64, flawed: bool, total: usize) -> usize {
     if flawed {
-        return total.saturating_sub(1).wrapping_add(usize::from(draw(state, 3)));
+        return total
+            .saturating_sub(1)
+            .wrapping_add(usize::from(draw(state, 3)));
     }
     total
 }

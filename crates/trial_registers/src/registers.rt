@@ -159,7 +159,16 @@ fn compare_drawn(
             let n = usize::from(draw_from(state, 1, 8));
             compare_random(rt, state, p, n, 129, Kind::Recurring, Model::Usual, counts)
         }
-        Drawn::Planted => compare_random(rt, state, p, 3, 7, Kind::Recurring, Model::Planted, counts),
+        Drawn::Planted => compare_random(
+            rt,
+            state,
+            p,
+            3,
+            7,
+            Kind::Recurring,
+            Model::Planted,
+            counts,
+        ),
     }
 }
 
@@ -180,7 +189,12 @@ pub(crate) fn random(
 }
 
 // All symbols of sequences of these lengths.
-fn every_content(rt: &impl Print, p: u16, lengths: &[u16], counts: &mut Tallies) -> io::Result<bool> {
+fn every_content(
+    rt: &impl Print,
+    p: u16,
+    lengths: &[u16],
+    counts: &mut Tallies,
+) -> io::Result<bool> {
     let n = start(lengths, lengths.len());
     let mut symbols = [0u16; 1024];
     for _ in 0..4096usize {
