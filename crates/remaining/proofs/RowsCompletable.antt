@@ -22,7 +22,7 @@ use Rattle.frame.proofs.Declarable.{declared-few}
 use Rattle.frame.proofs.HeldParts.{part-below}
 use Rattle.frame.proofs.HeldRows.{sums-room, length_part, part_held, part-lent}
 use Rattle.frame.proofs.Shapes.{shape-ranges}
-use Rattle.lists.proofs.Parts.{length-replaced, part-replaced}
+use Rattle.lists.proofs.Parts.{part-replaced}
 use Rattle.lists.proofs.Tabulated.{every-at}
 use Rattle.lists.proofs.Testing.{Tested, tested-none}
 use Rattle.lists.proofs.Totals.{total-zero, total-suc}
@@ -38,9 +38,6 @@ module _ (J : Columns) (x y : List ℕ) (m : ℕ) (few : length x ≤ 64) (e : m
 
   fits : length y ≡ n - 0
   fits = ap length written ∙ length-remaining J x ∙ (let q : length x - length (members J) ≡ n - 0 = omega arith in q)
-
-  pub written-length : length (put_mid 0 (n - 0) (zeros 64) y) ≡ 64
-  written-length = length-replaced 0 (n - 0) (zeros 64) y (omega arith) fits
 
   pub written-part : mid_of 0 (n - 0) (put_mid 0 (n - 0) (zeros 64) y) ≡ remaining J x
   written-part = part-replaced 0 (n - 0) (zeros 64) y (omega arith) fits ∙ written
