@@ -5,10 +5,10 @@ use native.Mathlib.Omega.{arith}
 use lib.ListN.{get_or}
 use Rattle.columns.specs.Columns.{marking}
 use Rattle.decoding.specs.Locating.{is_root}
-use Rattle.search.proofs.Trials.{room, starts-cut, starts-whole, size_powers, factors, root-here, other-here, sound-words}
+use Rattle.search.proofs.Trials.{room, block-starts, size_powers, factors, root-here, other-here, sound-words}
 use Rattle.search.proofs.Trials.{block-other, block-root, block-ends, block-all}
 use Rattle.search.proofs.blocks.try_block.Goals as goal
-use Rattle.search.proofs.blocks.try_block.Goals.{In-loop-i, then-columns-end, else-columns-end, then-v-i-eq0+else-left-eq0, else-v-i-eq0}
+use Rattle.search.proofs.blocks.try_block.Goals.{In-loop-i, then-v-i-eq0+else-left-eq0, else-v-i-eq0}
 
 -- whether the column is a root
 abbrev value-here : In-loop-i → ℕ
@@ -28,11 +28,7 @@ pub values-v-requires : goal.values-v-requires
 values-v-requires c = factors _ _ _ _ _ _ c.requires
 
 pub loop-i-init : goal.loop-i-init
-loop-i-init c =
-    elim c.if-columns-end.branch [
-      | then-columns-end w ↦ starts-cut _ _ _ _ _ _ c.requires _ w.if-columns-end.true w.to-is
-      | else-columns-end w ↦ starts-whole _ _ _ _ _ _ c.requires _ w.if-columns-end.false w.to-is
-    ]
+loop-i-init c = block-starts _ _ _ _ _ _ c.requires _ c.min-to.ensures
 
 pub mark-requires : goal.mark-requires
 mark-requires c =
