@@ -39,6 +39,7 @@ pub fn sought_columns(columns: usize, taps: &[u16]) -> Sought
 }
 
 // The refusals of the search.
+#[tactic(auto, unfolding(crate::specs::Search::search_tests))]
 fn check(columns: usize, taps: &[u16]) -> Result<(), Refusal>
     ensures { outcome_of result ≡ outcome (search_tests columns taps.now) }
 {

@@ -23,19 +23,3 @@ encodes_uniform-requires c = encodable c
 
 pub fill_checks-requires : goal.fill_checks-requires
 fill_checks-requires c = encodable (goal.at.fill_checks-requires c).In_ok-require-2
-
-pub returns-in_err-require : goal.returns-in_err-require
-unfolding encode_tests
-returns-in_err-require c = search rules
-
-pub returns-in_err-require-2 : goal.returns-in_err-require-2
-unfolding encode_tests
-returns-in_err-require-2 c = search rules
-
-pub returns-in_err-require-3 : goal.returns-in_err-require-3
-unfolding encode_tests
-returns-in_err-require-3 c = search rules
-
-pub returns : goal.returns
-unfolding encode_tests
-returns c = search rules

@@ -27,9 +27,6 @@ other c =
 pub values-v-requires : goal.values-v-requires
 values-v-requires c = factors _ _ _ _ _ _ c.requires
 
-pub loop-i-init : goal.loop-i-init
-loop-i-init c = block-starts _ _ _ _ _ _ c.requires _ c.min-to.ensures
-
 pub mark-requires : goal.mark-requires
 mark-requires c =
     let at = c.loop-i in
@@ -54,28 +51,5 @@ loop-i-preserved c =
       | else-v-i-eq0 w ↦ block-other _ _ _ _ at.i at.left _ at.invariant t _ _ (other inside w.if-v-i-eq0.false) w.words-is w.left-is
     ]
 
-pub returns : goal.returns
-returns c =
-    let at = c.loop-i in
-    block-all _ _ _ _ at.i at.left _ at.invariant c.loop-i-test.false
-
-pub overflow_add-end : goal.overflow_add-end
-overflow_add-end c = omega (arith, room _ _ _ _ _ _ c.requires)
-
-pub offset_bounds-powers-from : goal.offset_bounds-powers-from
-offset_bounds-powers-from c = omega (arith, room _ _ _ _ _ _ c.requires)
-
 pub slice_bounds-values-end : goal.slice_bounds-values-end
 slice_bounds-values-end c = omega (arith, room _ _ _ _ _ _ c.requires, size_powers _ _ _ _ _ _ c.requires)
-
-pub overflow_sub-i : goal.overflow_sub-i
-overflow_sub-i c = c.loop-i.invariant.started
-
-pub offset_bounds-v-i : goal.offset_bounds-v-i
-offset_bounds-v-i c = omega (arith, c.loop-i-test.true, c.loop-i.invariant.block.end)
-
-pub bounds-v-i : goal.bounds-v-i
-bounds-v-i c = omega (arith, c.loop-i-test.true, c.loop-i.invariant.block.end)
-
-pub overflow_sub-left : goal.overflow_sub-left
-overflow_sub-left c = let t = c.loop-i.invariant.trying in t.more

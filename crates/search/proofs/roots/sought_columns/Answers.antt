@@ -22,24 +22,10 @@ loop-left-init c =
     let starts = searching-starts c.args.taps.now c.args.columns (omega (arith, c.if-taps-lt2.false)) in
     record { marked = starts.marked; ends = λ none. absurd (omega (arith, c.if-taps-lt2.false)); goes_on = λ some. starts }
 
-pub try_block-trial-requires : goal.try_block-trial-requires
-try_block-trial-requires c =
-    record {
-      powers_known = c.powers-powers.ensures;
-      few = c.requires;
-      more = c.if-tried-columns.true;
-      searching = c.loop-left.invariant.goes_on c.loop-left-test.true;
-    }
-
 pub loop-left-smaller : goal.loop-left-smaller
 loop-left-smaller c =
     falls _ _ _ _ _ c.loop-left-test.true c.if-tried-columns.true
     (λ some. let on = c.try_block-trial.ensures.goes_on some in (on.0, on.1.within))
-
-pub loop-left-preserved : goal.loop-left-preserved
-loop-left-preserved c =
-    let tried = c.try_block-trial.ensures in
-    record { marked = tried.marked; ends = tried.ends; goes_on = λ some. (tried.goes_on some).1 }
 
 pub returns-else-tried-columns : goal.returns-else-tried-columns
 returns-else-tried-columns c =
