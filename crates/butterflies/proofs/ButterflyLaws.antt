@@ -1,7 +1,7 @@
 -- What the code works out for four columns is their butterfly, and the entries of a stage are written one after the other.
 use mathlib.Core.Path.{◌≡◌, sym, ap, ap₂, subst, ◌∙◌}
 use mathlib.Core.List.{List}
-use Prim.Native.Nat.{ℕ, ◌+◌, ◌*◌, ◌%◌, ◌≤◌, ◌<◌}
+use Prim.Native.Nat.{ℕ, ◌+◌, ◌*◌, ◌%◌, ◌<◌}
 use native.Mathlib.Nat.{mul_assoc, zero-add}
 use native.Mathlib.Decide.{ℕ_discrete}
 use native.Mathlib.Omega.{arith}
@@ -11,7 +11,7 @@ use Rattle.lists.specs.Total.{total}
 use Rattle.lists.proofs.Totals.{total-zero, total-suc}
 use Rattle.field.proofs.Remainders.{mod-mul-mod, same-sums}
 use Rattle.field257.specs.Powers.{power_of3}
-use Rattle.butterflies.specs.Butterflies.{Butterflies, Weighed, butterfly}
+use Rattle.butterflies.specs.Butterflies.{Weighed, butterfly}
 
 four : (f : ℕ → ℕ) → total 4 f ≡ f 0 + f 1 + f 2 + f 3
 four f =
@@ -54,9 +54,6 @@ module _ (t x : List ℕ) where
     pub size : length y ≡ 256
     pub ready : (l m : ℕ) → m < 4 → 4 * l + m < n → get_or y (4 * l + m) 0 % 257 ≡ butterfly t x l m % 257
 
-  pub written_none : (y : List ℕ) → length y ≡ 256 → Written 0 y
-  written_none y e = record { size = e; ready = λ l m h less. absurd (let z : ⊥ = omega arith in z) }
-
   written-more : (n l m v : ℕ) (y : List ℕ) → Written n y → n ≡ 4 * l + m → m < 4 → l < 64 → v % 257 ≡ butterfly t x l m % 257
       → Written (n + 1) (set y n v)
   written-more n l m v y a place digit less e = record {
@@ -88,6 +85,3 @@ module _ (t x : List ℕ) where
 
       next : (n k : ℕ) {z : List ℕ} → n + 1 ≡ k → Written (n + 1) z → Written k z
       next n k {z} same c = subst (λ (i : ℕ). Written i z) same c
-
-  pub written_all : (n : ℕ) (y : List ℕ) → Written n y → 256 ≤ n → Butterflies t x y
-  written_all n y a le = record { size = a.size; entries = λ l m less digit. a.ready l m digit (omega arith) }

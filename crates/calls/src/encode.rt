@@ -7,13 +7,13 @@ ghost use Rattle.job.specs.Job.{Arrays, beside};
 use encoder::encode::encode_frame;
 use heads::sound::counts_as_empty;
 use job::Head;
-use refusal::{Checked, Refusal};
+use refusal::Refusal;
 
-pub fn encode(j: Head, frame: &mut [u16]) -> Checked
+pub fn encode(j: Head, frame: &mut [u16]) -> Result<(), Refusal>
     ensures { (a : Arrays) → encode_outcome (beside j a) result frame.new ≡ step (beside j a) (encode frame.old) }
 {
     if counts_as_empty(j) {
-        return Checked::Refuse(Refusal::Empty);
+        return Err(Refusal::Empty);
     }
     encode_frame(j.shape, frame)
 }

@@ -10,7 +10,7 @@ use heads::sound::counts_as_empty;
 use heads::states::refuse;
 use job::{Answered, Head};
 use located_frames::locate_frame;
-use refusal::{Checked, Refusal};
+use refusal::Refusal;
 use shapes::symbols::check_frame;
 
 // A frame of which nothing is declared.
@@ -26,9 +26,8 @@ fn locate_whole(
     ensures { LocateDoes j sums.old taps.old held.old declared.now frame.now result
         sums.new taps.new held.new }
 {
-    let checked = check_frame(j.shape, frame);
-    if let Checked::Refuse(r) = checked {
-        return refuse(j, r);
+    if let Err(why) = check_frame(j.shape, frame) {
+        return refuse(j, why);
     }
     let summed = frame_sums(j.shape, frame);
     locate_frame(j.shape, true, declared, &summed, frame, sums, taps, held)
@@ -47,9 +46,8 @@ fn locate_read(
     ensures { LocateDoes j sums.old taps.old held.old declared.now frame.now result
         sums.new taps.new held.new }
 {
-    let checked = check_read(j.shape, declared, frame);
-    if let Checked::Refuse(r) = checked {
-        return refuse(j, r);
+    if let Err(why) = check_read(j.shape, declared, frame) {
+        return refuse(j, why);
     }
     let read = sums_read(j.shape, declared, frame);
     locate_frame(j.shape, false, declared, &read, frame, sums, taps, held)
@@ -71,7 +69,8 @@ pub fn locate(
         return refuse(j, Refusal::Empty);
     }
     if nothing(declared) {
-        return locate_whole(j, sums, taps, held, declared, frame);
+        locate_whole(j, sums, taps, held, declared, frame)
+    } else {
+        locate_read(j, sums, taps, held, declared, frame)
     }
-    locate_read(j, sums, taps, held, declared, frame)
 }

@@ -16,7 +16,7 @@ use frame::Shape;
 use heads::sound::counts_as_empty;
 use heads::states::{is_located, length_of, mended, refuse, shaped};
 use job::{Answered, Head};
-use refusal::{Checked, Refusal};
+use refusal::Refusal;
 use shapes::symbols::check_frame;
 use uniform::mended::mends_uniform;
 
@@ -25,25 +25,19 @@ fn same_sums(a: &[u16; 512], b: &[u16; 512]) -> bool
     ensures { result ≡ same_sums a.now b.now }
 {
     let mut same = true;
-    let mut k = 0;
-    while k < 512 {
-        if a[k] != b[k] {
-            same = false;
-        }
-        k += 1;
+    for k in 0..512 {
+        same &= a[k] == b[k];
     }
     same
 }
 
 // With the cells that a job of length c holds a locate can have left it.
+#[tactic(auto, unfolding(job::specs::Job::declared_sound))]
 fn cells_sound(s: Shape, held: &[u64; 32], c: usize) -> bool
     requires { is_shape s ≡ true }
     ensures { result ≡ declared_sound s (declared_by held.now) c }
 {
-    if !is_declarable(s, held) {
-        return false;
-    }
-    left_reach(s, held, c)
+    is_declarable(s, held) && left_reach(s, held, c)
 }
 
 // A frame of which nothing is declared. That a locate can have left the job, its head being sound says.
@@ -51,9 +45,8 @@ fn repair_whole(j: Head, sums: &[u16; 512], held: &[u64; 32], frame: &mut [u16])
     requires { RepairedWhole j held.now }
     ensures { RepairDoes j sums.now held.now frame.old result frame.new }
 {
-    let checked = check_frame(j.shape, frame);
-    if let Checked::Refuse(r) = checked {
-        return refuse(j, r);
+    if let Err(why) = check_frame(j.shape, frame) {
+        return refuse(j, why);
     }
     let summed = frame_sums(j.shape, frame);
     if !same_sums(&summed, sums) {
@@ -64,8 +57,7 @@ fn repair_whole(j: Head, sums: &[u16; 512], held: &[u64; 32], frame: &mut [u16])
         return refuse(shaped(j.shape), Refusal::NoFrame);
     }
     mend(j.shape, set, &summed, frame);
-    let phase = j.phase;
-    mended(j.shape, length_of(phase), set)
+    mended(j.shape, length_of(j.phase), set)
 }
 
 // A frame with declared cells.
@@ -73,14 +65,12 @@ fn repair_read(j: Head, sums: &[u16; 512], held: &[u64; 32], frame: &mut [u16]) 
     requires { Repairable j }
     ensures { RepairDoes j sums.now held.now frame.old result frame.new }
 {
-    let phase = j.phase;
-    let c = length_of(phase);
+    let c = length_of(j.phase);
     if !cells_sound(j.shape, held, c) {
         return refuse(j, Refusal::NotLocated);
     }
-    let checked = check_read(j.shape, held, frame);
-    if let Checked::Refuse(r) = checked {
-        return refuse(j, r);
+    if let Err(why) = check_read(j.shape, held, frame) {
+        return refuse(j, why);
     }
     let summed = sums_read(j.shape, held, frame);
     if !same_sums(&summed, sums) {
@@ -101,12 +91,12 @@ pub fn repair(j: Head, sums: &[u16; 512], held: &[u64; 32], frame: &mut [u16]) -
     if counts_as_empty(j) {
         return refuse(j, Refusal::Empty);
     }
-    let phase = j.phase;
-    if !is_located(phase) {
+    if !is_located(j.phase) {
         return refuse(j, Refusal::NotLocated);
     }
     if nothing(held) {
-        return repair_whole(j, sums, held, frame);
+        repair_whole(j, sums, held, frame)
+    } else {
+        repair_read(j, sums, held, frame)
     }
-    repair_read(j, sums, held, frame)
 }

@@ -5,19 +5,14 @@ ghost use Rattle.job.specs.Calls.{shape, step};
 ghost use Rattle.job.specs.Job.{Arrays, beside};
 
 use heads::states::shaped;
-use job::{Head, Reshaped};
-use refusal::Checked;
+use job::Head;
+use refusal::Refusal;
 use shapes::shape::{check_shape, shape_of};
 
-pub fn shape(j: Head, columns: usize, checks: &[u16], exponent: u32) -> Reshaped
-    ensures { (a : Arrays) → shape_outcome result a ≡ step (beside j a) (shape columns checks.now exponent) }
+// The head that is left; where it refuses, the one that was passed is kept. No head plays a part in what is answered.
+pub fn shape(j: Head, columns: usize, checks: &[u16], exponent: u32) -> Result<Head, Refusal>
+    ensures { (a : Arrays) → shape_outcome (beside j a) result ≡ step (beside j a) (shape columns checks.now exponent) }
 {
-    let checked = check_shape(columns, checks, exponent);
-    match checked {
-        Checked::Refuse(_) => Reshaped { checked, head: j },
-        Checked::Pass => {
-            let head = shaped(shape_of(columns, checks, exponent));
-            Reshaped { checked, head }
-        }
-    }
+    check_shape(columns, checks, exponent)?;
+    Ok(shaped(shape_of(columns, checks, exponent)))
 }

@@ -3,6 +3,7 @@
 use mathlib.Core.Path.{◌≡◌, refl, sym, ap, ◌∙◌}
 use mathlib.Core.Logic.{inl}
 use mathlib.Core.List.{List, []}
+use mathlib.Core.Option.{Option, none, some}
 use Prim.Native.Nat.{ℕ, ◌≤◌, ◌<◌}
 use native.Mathlib.Decide.{dec_lt}
 use native.Mathlib.Omega.{arith}
@@ -15,12 +16,13 @@ use Rattle.job.specs.Calls.{Call, shape, encode, locate, repair, start, next, pe
 use Rattle.job.specs.Job.{Arrays, beside}
 use Rattle.job.specs.Refusals.{lent_to}
 use Rattle.job.specs.declared.Head.{Head}
-use Rattle.kept.specs.Kept.{Heads, numbers_at, with_numbers, Searches, search_at, with_search, Kept, kept, arrays_at, job_at, with_job, jobs_of, made_of, number_of}
+use Rattle.kept.specs.Kept.{Heads, numbers_at, with_numbers, Searches, search_at, with_search, Kept, kept, arrays_at, job_at, with_job, jobs_of, made_of}
 use Rattle.mirror.specs.declared.CAnswered.{CAnswered}
 use Rattle.mirror.specs.declared.CPeeked.{CPeeked}
 use Rattle.mirror.specs.declared.CShaped.{CShaped}
 use Rattle.slices.specs.Synthesis.{Synthesis}
 use Rattle.turns.specs.Dispatcher.{Event, on, turn, served}
+use Rattle.turns.proofs.Seeking.{Looked, looked, found_below}
 use Rattle.capi.specs.Dispatcher.{refusal_for, answer_for, peeked_for, Gives}
 use Rattle.capi.specs.Dispatcher.{JobsShape, JobsEncode, JobsLocate, JobsRepair, JobsStart, JobsStep, JobsPeek}
 use Rattle.capi.specs.DispatcherRuns.{DReturn, DStep, stepped}
@@ -148,11 +150,11 @@ module _ (k : ℕ) (b : k < 8) where
       let (_, (s, does, _)) = c_edge.total (struct_at p k) peek in
       (_, (_, peek-one p.heads p.sums p.declared p.searches s does, refl))
 
-  can_serve : (p : Kept) → k ≡ number_of (served jobs (jobs_of p)) → (r : DReturn) × DStep p turn r
+  can_serve : (p : Kept) → served jobs (jobs_of p) ≡ some k → (r : DReturn) × DStep p turn r
   can_serve p found =
       let (_, (s, taps, y, _, _, does, _)) = c_edge.total (struct_at p k) next in
       let left = step_left p.heads p.sums p.taps p.declared p.searches s taps y does p.last in
-      (_, (_, _, _, with_search p.searches k y, _, turn-gives p (serving p k found b (made p k next refl refl refl left)) refl, refl))
+      (_, (_, _, _, with_search p.searches k y, _, turn-gives p (serving p k found (made p k next refl refl refl left)) refl, refl))
 
 -- ---- no job's number
 
@@ -173,8 +175,12 @@ module _ (k : ℕ) (b : 8 ≤ k) where
       (_, (_, _, _, p.searches, (λ last. refused_33 answer_for (kept p.heads p.sums p.taps p.declared p.searches last) next), refl))
   can_refuse p peek = (_, (_, (λ taps last. refused_33 peeked_for (kept p.heads p.sums taps p.declared p.searches last) peek), refl))
 
-  can-idle : (p : Kept) → k ≡ number_of (served jobs (jobs_of p)) → (r : DReturn) × DStep p turn r
-  can-idle p found = (_, (_, _, _, p.searches, _, turn-gives p (idle p k found b refl) refl, refl))
+can-idle : (p : Kept) → served jobs (jobs_of p) ≡ none → (r : DReturn) × DStep p turn r
+can-idle p found = (_, (_, _, _, p.searches, _, turn-gives p (idle p found refl) refl, refl))
+
+by_served : (p : Kept) (r : Option ℕ) → served jobs (jobs_of p) ≡ r → Looked jobs (jobs_of p) r → (r : DReturn) × DStep p turn r
+by_served p none e l = can-idle p e
+by_served p (some k) e l = can_serve k (found_below jobs (jobs_of p) k l) p e
 
 -- ---- either
 
@@ -187,6 +193,4 @@ by_number {A} k one none = pick (dec_lt k 8)
 
 pub dispatcher_total : (p : Kept) (e : Event jobs) → (r : DReturn) × DStep p e r
 dispatcher_total p (on k c) = by_number k (λ b. can-one k b p c) (λ b. can_refuse k b p c)
-dispatcher_total p turn =
-    let k : ℕ = number_of (served jobs (jobs_of p)) in
-    by_number k (λ b. can_serve k b p refl) (λ b. can-idle k b p refl)
+dispatcher_total p turn = by_served p (served jobs (jobs_of p)) refl (looked jobs (jobs_of p))

@@ -12,9 +12,7 @@ use mirror::{CAnswer, CPeeked, CTurned};
 fn said_of(said: Said) -> CAnswer
     ensures { result ≡ answer_for (said_told said []) }
 {
-    let reply = said.reply;
-    let columns = said.columns;
-    answer_of(reply, columns, said.tried)
+    answer_of(said.reply, said.columns, said.tried)
 }
 
 #[unsafe(no_mangle)]
@@ -240,10 +238,8 @@ pub extern "C" fn tomkhadi_jobs_turn(
         last, states, extents, checks, marks, sums, taps, held, counts, lengths, symbols, places,
         sizes, discs, quotients, current, saved,
     );
-    let said = turned.said;
-    let answer = said_of(said);
     CTurned {
         job: turned.job,
-        answer,
+        answer: said_of(turned.said),
     }
 }

@@ -34,12 +34,16 @@ pub extern "C" fn tomkhadi_head_shape(
 ) -> CShaped
     ensures { HeadShapes head columns checks.now exponent result }
 {
-    let made = shape(head_of(head), columns, checks, exponent);
-    let checked = made.checked;
-    let next = mirror_of(made.head);
-    CShaped {
-        refusal: refusal_of(checked),
-        head: next,
+    let j = head_of(head);
+    match shape(j, columns, checks, exponent) {
+        Ok(shaped) => CShaped {
+            refusal: 0,
+            head: mirror_of(shaped),
+        },
+        Err(why) => CShaped {
+            refusal: u32::from(why),
+            head: mirror_of(j),
+        },
     }
 }
 
@@ -145,12 +149,11 @@ pub extern "C" fn tomkhadi_head_step(
         (synthesis counts.new lengths.now symbols.now places.new sizes.new discs.new
         quotients.new current.new saved.new) }
 {
-    let checks = head.checks;
     if go_on(
         head.phase == 3,
         head.rows,
         head.columns,
-        &checks,
+        &head.checks,
         head.exponent,
         counts,
         lengths,

@@ -1,8 +1,7 @@
--- A column of a frame mended row after row: where a row and its sums lie, where the sums of the next row begin, and which rows are mended.
+-- A column of a frame mended row after row: where a row lies, where the sums of the next row begin, and which rows are mended.
 use mathlib.Core.Path.{◌≡◌, sym, ap, ap₂, ◌∙◌}
 use mathlib.Core.List.{List}
 use Prim.Native.Nat.{ℕ, ◌+◌, ◌-◌, ◌*◌, ◌≤◌, ◌<◌}
-use native.Mathlib.Nat.{mul-le-mul}
 use native.Mathlib.Numerals.{add-one}
 use native.Mathlib.Omega.{arith}
 use lib.ListN.{length, take, drop}
@@ -18,28 +17,9 @@ use Rattle.completion.specs.Mending.{mended_cell, mended_column}
 use Rattle.frame.proofs.HeldParts.{part_of}
 use Rattle.completion.proofs.RowMending.{length-mended_cell}
 
--- where row h and its sums lie
-pub record RowLent (s : Shape) (sums f : List ℕ) (h : ℕ) : Type 0 where
-  pub inside : h * s.columns + s.columns ≤ length f
-  pub small : length f ≤ 2048
-  pub wide : s.columns ≤ 256
-  pub row_number : h < 8
-  pub checks-most : checks_of s h ≤ 64
-  pub sums-room : sums_before s h + checks_of s h ≤ length sums
-
-pub row-lent : (s : Shape) (sums f : List ℕ) (h : ℕ) → RowsLent s sums f → h < s.rows → RowLent s sums f h
-row-lent s sums f h a l =
-    let rows = a.rows-most in
-    let narrow = a.narrow in
-    let most : s.rows * s.columns ≤ 8 * 256 = mul-le-mul rows narrow in
-    record {
-      inside = (let e = row-end s.columns h s.rows l in let q = a.whole in omega arith);
-      small = (let q = a.whole in omega arith);
-      wide = narrow;
-      row_number = omega arith;
-      checks-most = a.checks-most h l;
-      sums-room = a.sums-room h l;
-    }
+-- row h lies within the frame
+pub row_within : (s : Shape) (sums f : List ℕ) (h : ℕ) → RowsLent s sums f → h < s.rows → h * s.columns + s.columns ≤ length f
+row_within s sums f h a l = let e = row-end s.columns h s.rows l in let q = a.whole in omega arith
 
 -- another frame as long is lent as well
 pub still-lent : (s : Shape) (sums f l : List ℕ) → RowsLent s sums f → length l ≡ length f → RowsLent s sums l

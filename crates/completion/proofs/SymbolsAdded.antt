@@ -42,10 +42,7 @@ module _ (b : ℕ) (J : Columns) (sums x : List ℕ) where
     same_size = ap length a.row ∙ length-tabulate n _
 
     module _ (asked : MendableRow b J sums x) (inside : i < 256) where
-      pub has-symbol : k < 64
-      has-symbol = let l = (walk-member J k i a.walk inside).0 in let f = (readable-set asked).few in omega arith
-
-      pub in_row : i < length y
+      in_row : i < length y
       in_row = let l = asked.below i (a.walk.marked inside) in let s = same_size in omega arith
 
       pub adding_more : (symbols : List ℕ) → ((k : ℕ) → get_or symbols k 0 ≡ get_or (symbols_of b J sums) k 0) → (cell j : ℕ)

@@ -4,14 +4,13 @@ ghost use Rattle.std.specs.Prelude.{◌≡◌, ◌+◌, ◌%◌, length};
 ghost use Rattle.completion.specs.Mendable.{MendableCell};
 ghost use Rattle.completion.specs.Mending.{mended_cell};
 
-use field257::powers::wide;
 use weights::read::read_off;
 
 // A cell with what was read off added.
 pub fn plus(cell: u16, symbol: u16) -> u16
     ensures { result ≡ (cell + symbol) % 257 }
 {
-    ((wide(cell) + wide(symbol)) % 257) as u16
+    ((u32::from(cell) + u32::from(symbol)) % 257) as u16
 }
 
 // The row with its symbol at column i mended.

@@ -6,8 +6,8 @@ ghost use Rattle.frame.specs.Completion.{completed};
 ghost use Rattle.frame.specs.Encode.{each_row};
 
 use crate::cell::mend_cell;
-use columns::{Columns, next, size};
-use field257::powers::{powers, wide};
+use columns::{Columns, size};
+use field257::powers::powers;
 use frame::Shape;
 use polynomials::locator::locator_polynomial;
 use weights::weigh;
@@ -17,17 +17,13 @@ fn mend_column(s: Shape, frame: &mut [u16], i: usize, coefficients: &[u16], sums
     requires { MendableColumn s frame.old i coefficients.now sums.now }
     ensures { frame.new ≡ mended_column s coefficients.now sums.now i frame.old }
 {
-    let rows = s.rows;
-    let columns = s.columns;
     let mut at: usize = 0;
-    let mut h = 0;
-    while h < rows {
-        let to = at + wide(s.checks[h]) as usize;
-        let a = h * columns;
-        let e = a + columns;
+    for h in 0..s.rows {
+        let to = at + usize::from(s.checks[h]);
+        let a = h * s.columns;
+        let e = a + s.columns;
         mend_cell(&mut frame[a..e], i, coefficients, &sums[at..to]);
         at = to;
-        h += 1;
     }
 }
 
@@ -41,10 +37,8 @@ pub fn mend(s: Shape, set: Columns, sums: &[u16], frame: &mut [u16])
     let m = size(set);
     let f = locator_polynomial(&powers, set);
     let mut coefficients = [0u16; 64];
-    let mut i = next(set, 0);
-    while i < 256 {
+    for i in set.members() {
         weigh(&powers, s.exponent, &f, i, &mut coefficients[0..m]);
         mend_column(s, frame, i, &coefficients[0..m], sums);
-        i = next(set, i + 1);
     }
 }

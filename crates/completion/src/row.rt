@@ -5,7 +5,7 @@ ghost use Rattle.field257.specs.Table.{table};
 ghost use Rattle.frame.specs.Completion.{completed};
 
 use crate::cell::plus;
-use columns::{Columns, next};
+use columns::Columns;
 use lanes::symbols::symbols;
 
 // The row completed at the set, given the check sums that it has, which begin at the exponent b.
@@ -14,11 +14,7 @@ pub fn mend_row(powers: &[u16; 256], b: u32, set: Columns, sums: &[u16], row: &m
     ensures { row.new ≡ completed b (length row.old) set row.old }
 {
     let symbols = symbols(powers, b, set, sums);
-    let mut k = 0;
-    let mut i = next(set, 0);
-    while i < 256 {
+    for (k, i) in set.members().enumerate() {
         row[i] = plus(row[i], symbols[k]);
-        k += 1;
-        i = next(set, i + 1);
     }
 }

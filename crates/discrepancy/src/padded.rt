@@ -7,5 +7,6 @@ pub fn padded(count: usize) -> usize
     ensures enough { count ≤ result }
     ensures few { result ≤ count + 7 }
 {
+    // Kept as a division: in what next_multiple_of answers the compiler does not see the multiple of 8, and its loops were slower.
     (count + 7) / 8 * 8
 }

@@ -14,12 +14,9 @@ fn narrow_sum(l: usize, taps: &[u16; 144], symbols: &[u16; 1152], from: usize) -
     requires { Narrow l taps.now symbols.now from }
     ensures { result ≡ sum_at l taps.now symbols.now from }
 {
-    let mut sum: u32 = 0;
-    let end = padded(l + 1);
-    let mut i = 0;
-    while i < end {
+    let mut sum = 0;
+    for i in 0..padded(l + 1) {
         sum += product(taps[i], symbols[from + i]);
-        i += 1;
     }
     sum
 }
@@ -30,18 +27,15 @@ fn wide_sum(f: Modulus, l: usize, taps: &[u16; 144], symbols: &[u16; 1152], from
     requires { Summable f l taps.now symbols.now from }
     ensures { result ≡ sum_at l taps.now symbols.now from % f.p }
 {
-    let mut low: u32 = 0;
-    let mut high: u32 = 0;
-    let end = padded(l + 1);
-    let mut i = 0;
-    while i < end {
+    let mut low = 0;
+    let mut high = 0;
+    for i in 0..padded(l + 1) {
         let a = taps[i];
         let b = symbols[from + i];
-        low += bottom(a, b) as u32;
-        high += top(a, b) as u32;
-        i += 1;
+        low += u32::from(bottom(a, b));
+        high += u32::from(top(a, b));
     }
-    wide_remainder((low as u64) + 65536 * (high as u64), f.p, f.wide)
+    wide_remainder(u64::from(low) + 65536 * u64::from(high), f.p, f.wide)
 }
 
 // Whether p is that of frames, or less.
@@ -69,7 +63,7 @@ pub fn residue(f: Modulus, sum: u32) -> u32
     ensures { result ≡ sum % f.p }
 {
     if is_small(f) {
-        return wide_remainder(sum as u64, f.p, f.wide);
+        return wide_remainder(u64::from(sum), f.p, f.wide);
     }
     sum
 }

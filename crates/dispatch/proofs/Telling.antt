@@ -4,15 +4,13 @@ use mathlib.Core.Bool.{Bool, cond}
 use mathlib.Core.List.{[]}
 use mathlib.Core.Option.{Option, none, some}
 use Prim.Native.Nat.{ℕ, ◌≤◌, ◌<◌}
-use native.Mathlib.Omega.{arith}
 use borrow.Author.Tests.{lt-ltb, le-ltb}
 use Rattle.eight_jobs.specs.Eight.{jobs}
 use Rattle.job.specs.Calls.{Call, next}
 use Rattle.job.specs.Refusals.{lent_to}
-use Rattle.kept.specs.Kept.{Kept, with_last, jobs_of, made_of, served_of, kept_after, number_of}
+use Rattle.kept.specs.Kept.{Kept, with_last, jobs_of, made_of, served_of, kept_after}
 use Rattle.turns.specs.Dispatcher.{turn, turn_reply, reply, served}
 use Rattle.turns.proofs.Calling.{calling}
-use Rattle.turns.proofs.Seeking.{Looked, looked, found_below}
 use Rattle.dispatch.specs.Calls.{Made}
 use Rattle.dispatch.specs.Told.{Told, nobody, told, turn_told, Does, Turns}
 
@@ -34,29 +32,20 @@ inside p k c b made =
       leaves = made.leaves ∙ ap (λ (x : Bool). cond x (made_of p k c) p) (sym (lt-ltb k 8 b));
     }
 
-module _ (p : Kept) (k : ℕ) (found : k ≡ number_of (served jobs (jobs_of p))) where
-  -- whom a turn serves, by the number
-  served-job : k < 8 → (r : Option ℕ) → k ≡ number_of r → r ≡ some k
-  served-job b none e = absurd (let z : ⊥ = omega arith in z)
-  served-job b (some i) e = ap some (sym e)
-
-  served-none : 8 ≤ k → (r : Option ℕ) → Looked jobs (jobs_of p) r → k ≡ number_of r → r ≡ none
-  served-none b none looked e = refl
-  served-none b (some i) looked e = absurd (let l = found_below jobs (jobs_of p) i looked in let z : ⊥ = omega arith in z)
-
-  pub serving : {t : Told} {q : Kept} → k < 8 → Made p k next t q → Turns p (record { job = k; said = t }) (with_last q k)
+-- a turn that serves job k, and one that serves nobody
+module _ (p : Kept) where
+  pub serving : (k : ℕ) → served jobs (jobs_of p) ≡ some k → {t : Told} {q : Kept} → Made p k next t q
+      → Turns p (record { job = k; said = t }) (with_last q k)
   unfolding kept_after reply
-  serving b made =
-      let who = served-job b (served jobs (jobs_of p)) found in
+  serving k who made =
       record {
         tells = ap (λ (t : Told). record { job = k; said = t }) made.tells ∙ ap (λ (r : Option ℕ). turn_told (turn_reply jobs (jobs_of p) r)) (sym who);
         leaves = ap (λ (q : Kept). with_last q k) made.leaves ∙ ap (served_of p) (sym who);
       }
 
-  pub idle : {t : Told} → 8 ≤ k → t ≡ nobody [] → Turns p (record { job = 8; said = t }) p
+  pub idle : served jobs (jobs_of p) ≡ none → {t : Told} → t ≡ nobody [] → Turns p (record { job = 8; said = t }) p
   unfolding kept_after reply
-  idle b e =
-      let who = served-none b (served jobs (jobs_of p)) (looked jobs (jobs_of p)) found in
+  idle who e =
       record {
         tells = ap (λ (t : Told). record { job = 8; said = t }) e ∙ ap (λ (r : Option ℕ). turn_told (turn_reply jobs (jobs_of p) r)) (sym who);
         leaves = ap (served_of p) (sym who);

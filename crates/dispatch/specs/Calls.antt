@@ -1,11 +1,10 @@
 -- What each function of the dispatcher does with what it is lent: before the answer stand the parts as they are lent, after it those that are left in their place.
 -- Parts that are not lent may hold anything, and stay.
-use Rattle.std.specs.Prelude.{◌≡◌, List, [], ℕ}
+use Rattle.std.specs.Prelude.{◌≡◌, List, [], ℕ, Result}
 use Rattle.job.specs.Calls.{Call, shape, encode, locate, repair, start, next, peek, step}
-use Rattle.job.specs.declared.Peeked.{Peeked}
 use Rattle.kept.specs.Kept.{Heads, Searches, Kept, kept, job_at, made_of}
 use Rattle.kept.specs.Runs.{empty_heads}
-use Rattle.refusal.specs.declared.Checked.{Checked}
+use Rattle.refusal.specs.declared.Refusal.{Refusal}
 use Rattle.dispatch.specs.Told.{Told, told_by, checked_told, said_told, peeked_told, turned_told, Does, Turns}
 use Rattle.dispatch.specs.declared.Said.{Said}
 use Rattle.dispatch.specs.declared.Turned.{Turned}
@@ -15,12 +14,12 @@ pub record EmptyDoes (left : Heads) (last : ℕ) : Type 0 where
   pub heads : left ≡ empty_heads
   pub last-served : last ≡ 7
 
-abbrev pub ShapeDoes : (k : ℕ) → Heads → (n : ℕ) (checks : List ℕ) (b : ℕ) → Checked → Heads → Type 0
+abbrev pub ShapeDoes : (k : ℕ) → Heads → (n : ℕ) (checks : List ℕ) (b : ℕ) → Result (Unit {0}) Refusal → Heads → Type 0
 ShapeDoes k hs n checks b r left =
     (sums taps held : List (List ℕ)) (x : Searches) (last : ℕ) →
     Does (kept hs sums taps held x last) k (shape n checks b) (checked_told r []) (kept left sums taps held x last)
 
-abbrev pub EncodeDoes : (k : ℕ) → Heads → (frame : List ℕ) → Checked → (left : List ℕ) → Type 0
+abbrev pub EncodeDoes : (k : ℕ) → Heads → (frame : List ℕ) → Result (Unit {0}) Refusal → (left : List ℕ) → Type 0
 EncodeDoes k hs f r left =
     (sums taps held : List (List ℕ)) (x : Searches) (last : ℕ) →
     Does (kept hs sums taps held x last) k (encode f) (checked_told r left) (kept hs sums taps held x last)
@@ -48,7 +47,7 @@ abbrev pub StepDoes :
 StepDoes k hs sums taps held x r left taps_left y =
     (last : ℕ) → Does (kept hs sums taps held x last) k next (said_told r []) (kept left sums taps_left held y last)
 
-abbrev pub PeekDoes : (k : ℕ) → Heads → (sums held : List (List ℕ)) → Searches → Peeked → Type 0
+abbrev pub PeekDoes : (k : ℕ) → Heads → (sums held : List (List ℕ)) → Searches → Result ℕ Refusal → Type 0
 PeekDoes k hs sums held x r =
     (taps : List (List ℕ)) (last : ℕ) → Does (kept hs sums taps held x last) k peek (peeked_told r) (kept hs sums taps held x last)
 

@@ -1,14 +1,13 @@
 -- What the dispatcher tells and leaves, by the definitions of eight jobs: the contracts of its calls and of the turn.
-use Rattle.std.specs.Prelude.{◌≡◌, List, [], ℕ}
+use Rattle.std.specs.Prelude.{◌≡◌, List, [], ℕ, Result}
 use Rattle.columns.specs.declared.Columns.{Columns}
 use Rattle.eight_jobs.specs.Eight.{jobs}
 use Rattle.job.specs.Answers.{checked_answer, reply_answer, peeked_answer}
 use Rattle.job.specs.Calls.{Call, Answer, refused, Outcome}
 use Rattle.job.specs.Job.{no_columns}
 use Rattle.job.specs.Refusals.{lent_to}
-use Rattle.job.specs.declared.Peeked.{Peeked}
 use Rattle.kept.specs.Kept.{Kept, jobs_of, kept_after}
-use Rattle.refusal.specs.declared.Checked.{Checked}
+use Rattle.refusal.specs.declared.Refusal.{Refusal}
 use Rattle.turns.specs.Dispatcher.{on, turn, Reply, says, refused_33, reply}
 use Rattle.dispatch.specs.declared.Said.{Said}
 use Rattle.dispatch.specs.declared.Turned.{Turned}
@@ -44,14 +43,14 @@ turn_told refused_33 = record { job = 8; said = nobody [] }
 -- ---- what the functions return
 
 -- of shape and encode
-abbrev pub checked_told : Checked → (frame : List ℕ) → Told
+abbrev pub checked_told : Result (Unit {0}) Refusal → (frame : List ℕ) → Told
 checked_told v f = record { answer = checked_answer v; marks = no_columns; tried = 0; frame = f }
 
 -- of locate, repair, start and step
 abbrev pub said_told : Said → (frame : List ℕ) → Told
 said_told r f = record { answer = reply_answer r.reply; marks = r.columns; tried = r.tried; frame = f }
 
-abbrev pub peeked_told : Peeked → Told
+abbrev pub peeked_told : Result ℕ Refusal → Told
 peeked_told r = record { answer = peeked_answer r; marks = no_columns; tried = 0; frame = [] }
 
 abbrev pub turned_told : Turned → TurnTold

@@ -6,40 +6,38 @@ ghost use Rattle.job.specs.Calls.{unfinished};
 ghost use Rattle.job.specs.Job.{Arrays, no_columns};
 
 use crate::Said;
-use job::{Answered, Reply};
+use job::{Answered, Progress};
 use refusal::Refusal;
 
 pub fn said(r: Answered) -> Said
     ensures { (a : Arrays) (f : List ℕ) → said_told result f ≡ told_by (answered_outcome r a f) }
 {
-    let columns = r.columns;
-    let reply = r.reply;
     Said {
-        reply,
-        columns,
+        reply: r.reply,
+        columns: r.columns,
         tried: r.tried,
     }
 }
 
 // There is no job of the number, or, in a turn, none that is unfinished.
+#[tactic(auto, unfolding(job::specs::Job::no_columns))]
 pub fn no_job() -> Said
     ensures { (f : List ℕ) → said_told result f ≡ nobody f }
 {
-    let columns = columns::empty();
     Said {
-        reply: Reply::Refused(Refusal::NotUnfinished),
-        columns,
+        reply: Err(Refusal::NotUnfinished),
+        columns: columns::empty(),
         tried: 0,
     }
 }
 
+#[tactic(auto, unfolding(job::specs::Job::no_columns))]
 pub fn still_unfinished() -> Said
     ensures { said_told result [] ≡ record { answer = unfinished; marks = no_columns; tried = 0; frame = [] } }
 {
-    let columns = columns::empty();
     Said {
-        reply: Reply::Unfinished,
-        columns,
+        reply: Ok(Progress::Unfinished),
+        columns: columns::empty(),
         tried: 0,
     }
 }

@@ -2,14 +2,15 @@
 #![tactic(auto)]
 
 use columns::Columns;
-use job::Reply;
+use job::Progress;
+use refusal::Refusal;
 
 pub mod answers;
 
 // What locate, repair, start and step answer: an `Answered` without the head, which stays with the dispatcher.
 #[derive(Clone, Copy)]
 pub struct Said {
-    pub reply: Reply,
+    pub reply: Result<Progress, Refusal>,
     pub columns: Columns,
     pub tried: usize,
 }

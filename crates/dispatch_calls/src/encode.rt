@@ -4,7 +4,7 @@ ghost use Rattle.kept.specs.Kept.{heads};
 
 use calls::encode::encode as encode_one;
 use kept::heads::head_at;
-use refusal::{Checked, Refusal};
+use refusal::Refusal;
 
 pub fn encode(
     k: usize,
@@ -13,12 +13,12 @@ pub fn encode(
     checks: &[[u16; 8]; 8],
     marks: &[[u64; 4]; 8],
     frame: &mut [u16],
-) -> Checked
+) -> Result<(), Refusal>
     ensures { EncodeDoes k (heads states.now extents.now checks.now marks.now) frame.old result
         frame.new }
 {
     if k >= 8 {
-        return Checked::Refuse(Refusal::NotUnfinished);
+        return Err(Refusal::NotUnfinished);
     }
     encode_one(head_at(k, states, extents, checks, marks), frame)
 }

@@ -2,7 +2,6 @@
 ghost use Rattle.dispatch.specs.Calls.{PeekDoes};
 ghost use Rattle.kept.specs.Kept.{heads, searches};
 
-use job::Peeked;
 use kept::heads::head_at;
 use refusal::Refusal;
 use slicing::peek::peek as peek_one;
@@ -24,14 +23,14 @@ pub fn peek(
     quotients: &[[u16; 8]; 8],
     register: &[[u16; 144]; 8],
     saved: &[[u16; 1152]; 8],
-) -> Peeked
+) -> Result<usize, Refusal>
     ensures { PeekDoes k (heads states.now extents.now checks.now marks.now) sums.now
         held.now
         (searches counts.now lengths.now symbols.now places.now sizes.now
         discs.now quotients.now register.now saved.now) result }
 {
     if k >= 8 {
-        return Peeked::Refused(Refusal::NotUnfinished);
+        return Err(Refusal::NotUnfinished);
     }
     peek_one(
         head_at(k, states, extents, checks, marks),

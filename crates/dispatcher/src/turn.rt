@@ -36,11 +36,12 @@ pub fn turn(
         (searches counts.new lengths.now symbols.now places.new sizes.new
         discs.new quotients.new register.new saved.new) last.new) }
 {
-    let k = next_unfinished(*last, states);
-    if k >= 8 {
-        let said = no_job();
-        return Turned { job: 8, said };
-    }
+    let Some(k) = next_unfinished(*last, states) else {
+        return Turned {
+            job: 8,
+            said: no_job(),
+        };
+    };
     *last = k;
     let said = make_step(
         k, states, extents, checks, marks, sums, taps, held, counts, lengths, symbols, places,

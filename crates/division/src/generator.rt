@@ -3,7 +3,7 @@
 ghost use Rattle.std.specs.Prelude.{◌≤◌};
 ghost use Rattle.division.specs.GeneratorPolynomial.{GeneratorPolynomial};
 
-use field257::powers::{power_of_3, wide};
+use field257::powers::power_of_3;
 use polynomials::factor::multiply;
 
 // One factor after the other, starting from -1, over the coefficients that are not 0 by then.
@@ -13,13 +13,10 @@ pub fn generator(b: u32, m: usize) -> [u16; 65]
 {
     let mut f = [0u16; 65];
     f[0] = 256;
-    let mut root = wide(power_of_3(b));
-    let mut j: usize = 0;
-    while j < m {
-        let to = j + 2;
-        multiply(&mut f[0..to], 1, 257 - root);
+    let mut root = u32::from(power_of_3(b));
+    for j in 0..m {
+        multiply(&mut f[0..j + 2], 1, 257 - root);
         root = (3 * root) % 257;
-        j += 1;
     }
     f
 }

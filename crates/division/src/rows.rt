@@ -9,7 +9,6 @@ ghost use Rattle.frame.specs.Completion.{completed};
 ghost use Rattle.frame.specs.Frame.{check_sum};
 ghost use Rattle.lists.specs.Tabulate.{tabulate};
 
-use field257::powers::wide;
 use polynomials::values::times;
 
 // The data of a row, with zeros in its first m columns and after it.
@@ -18,10 +17,8 @@ fn data_cells(row: &[u16], m: usize) -> [u32; 256]
     ensures { (k : ℕ) → get_or result k 0 ≡ cond (ltb k m) 0 (get_or row.now k 0) }
 {
     let mut cells = [0u32; 256];
-    let mut i = m;
-    while i < row.len() {
-        cells[i] = wide(row[i]);
-        i += 1;
+    for i in m..row.len() {
+        cells[i] = u32::from(row[i]);
     }
     cells
 }
@@ -33,10 +30,8 @@ fn add_multiple(cells: &mut [u32], x: &[u16], w: u16)
     ensures { cells.new
         ≡ tabulate (length x.now) (λ k. get_or cells.old k 0 + get_or x.now k 0 * w) }
 {
-    let mut a = 0;
-    while a < x.len() {
+    for a in 0..x.len() {
         cells[a] += times(x[a], w);
-        a += 1;
     }
 }
 
@@ -47,9 +42,7 @@ fn divide(cells: &mut [u32], generator: &[u16], m: usize)
     ensures { (b : ℕ) → GeneratorPolynomial b m generator.now → (j : ℕ) → j < m
         → check_sum b m cells.new (suc j) ≡ check_sum b (length cells.old) cells.old (suc j) }
 {
-    let mut i = cells.len();
-    while m < i {
-        i -= 1;
+    for i in (m..cells.len()).rev() {
         let leading = (cells[i] % 257) as u16;
         let a = i - m;
         add_multiple(&mut cells[a..i], &generator[0..m], leading);
@@ -62,10 +55,8 @@ fn put_negatives(row: &mut [u16], cells: &[u32], m: usize)
     ensures { row.new ≡ tabulate (length row.old)
         (λ k. cond (ltb k m) ((257 - get_or cells.now k 0 % 257) % 257) (get_or row.old k 0)) }
 {
-    let mut k = 0;
-    while k < m {
+    for k in 0..m {
         row[k] = ((257 - cells[k] % 257) % 257) as u16;
-        k += 1;
     }
 }
 

@@ -3,6 +3,7 @@ use mathlib.Core.Path.{◌≡◌, refl, sym, ap, ap₂, subst, ◌∙◌}
 use mathlib.Core.Bool.{Bool, true, false, not}
 use mathlib.Core.List.{List}
 use Prim.Native.Nat.{ℕ, suc, ◌+◌, ◌-◌, ◌≤◌, ◌<◌}
+use native.Mathlib.Numerals.{add-one}
 use native.Mathlib.Omega.{arith}
 use lib.Dec.{ltb}
 use lib.ListN.{length, take}
@@ -69,9 +70,9 @@ module _ {s : Shape} {none : Bool} {words sums : List ℕ} {l : ℕ} {register :
     gives_25 is e = rw (is, e) refl
 
   module _ {alone : Bool} (is-alone : alone ≡ true) (reach : left_reach s (declared_by words) l ≡ true) {q : Sought}
-      (found : q ≡ sought s.columns (take (l + 1 - 0) register)) where
-    own-taps : take (l + 1 - 0) register ≡ σ
-    own-taps = ap (λ (n : ℕ). take n register) (let n : l + 1 - 0 ≡ suc l = omega arith in n)
+      (found : q ≡ sought s.columns (take (l + 1) register)) where
+    own-taps : take (l + 1) register ≡ σ
+    own-taps = ap (λ (n : ℕ). take n register) (add-one l)
 
     marked : q.columns ≡ named_columns s σ
     marked = ap (λ (x : Sought). x.columns) found ∙ ap (sought_columns s.columns) own-taps ∙ all_found

@@ -1,5 +1,5 @@
 -- Locating by a register: what it asks, and what a job holds afterwards.
-use Rattle.std.specs.Prelude.{◌≡◌, Bool, true, List, ◌++◌, ℕ, suc, ◌-◌, ◌≤◌, ◌<◌, length, get_or, take, replicate}
+use Rattle.std.specs.Prelude.{◌≡◌, Bool, true, List, ◌++◌, ℕ, suc, ◌-◌, ◌≤◌, ◌<◌, length, get_or, take, replicate, Result, Ok, Err}
 use Rattle.columns.specs.Columns.{members}
 use Rattle.columns.specs.declared.Columns.{Columns}
 use Rattle.decoding.specs.Remaining.{left_reach}
@@ -9,9 +9,10 @@ use Rattle.frame.specs.Shape.{is_shape}
 use Rattle.frame.specs.declared.Shape.{Shape}
 use Rattle.job.specs.Calls.{Outcome, refusing, by_register_tests, by_register_gives}
 use Rattle.job.specs.Job.{Arrays, shaped_job}
-use Rattle.job.specs.declared.Reply.{Reply}
-use Rattle.job.specs.declared.Reply.TheVariants.{Count, Unfinished, Refused}
+use Rattle.job.specs.declared.Progress.{Progress}
+use Rattle.job.specs.declared.Progress.TheVariants as Progress
 use Rattle.refusal.specs.Order.{first_of}
+use Rattle.refusal.specs.declared.Refusal.{Refusal}
 use Rattle.register.specs.Register.{Register}
 
 -- a shape, and the flag that tells whether the words declare nothing
@@ -45,7 +46,7 @@ by_register s a words sums c σ alone f =
     (by_register_gives s a words sums c σ f)
 
 -- what a job holds in an array afterwards: the new content where columns are answered, and the old one where it is refused
-abbrev pub after : Reply → (old new : List ℕ) → List ℕ
-after (Count c) old new = new
-after Unfinished old new = old
-after (Refused why) old new = old
+abbrev pub after : Result Progress Refusal → (old new : List ℕ) → List ℕ
+after (Ok (Progress.Columns c)) old new = new
+after (Ok Progress.Unfinished) old new = old
+after (Err why) old new = old

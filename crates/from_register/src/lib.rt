@@ -25,9 +25,10 @@ fn reaches(s: Shape, none: bool, declared: &[u64; 32], c: usize) -> bool
     ensures { result ≡ left_reach s (declared_by declared.now) c }
 {
     if none {
-        return rows_reach(s, c);
+        rows_reach(s, c)
+    } else {
+        left_reach(s, declared, c)
     }
-    left_reach(s, declared, c)
 }
 
 // Each row in which a named column is declared can be completed. With nothing declared there is none.
@@ -35,10 +36,7 @@ fn completes(s: Shape, none: bool, declared: &[u64; 32], named: Columns, sums: &
     requires { Completable s none declared.now named sums.now }
     ensures { result ≡ meeting_completable s (declared_by declared.now) named (held_sequences s sums.now) }
 {
-    if none {
-        return true;
-    }
-    is_completable(s, declared, named, sums)
+    none || is_completable(s, declared, named, sums)
 }
 
 // The register has `length` + 1 taps. They are written last, so that a refusal leaves `taps` as they were.
@@ -64,8 +62,7 @@ pub fn locate_by(
         return refuse(shaped(s), Refusal::ShortRow);
     }
     let end = length + 1;
-    let held = &register[..];
-    let sought = sought_columns(s.columns, &held[0..end]);
+    let sought = sought_columns(s.columns, &register[..end]);
     let named = sought.columns;
     if columns::size(named) < length {
         return refuse(shaped(s), Refusal::NoFrame);

@@ -33,38 +33,28 @@ unfolding seek
 seek-none u from = refl
 
 module _ (u : ℕ → Bool) (last : ℕ) where
-  -- u holds at none of the first i places, and k is the next
-  pub record Looking (i k : ℕ) : Type 0 where
-    pub within : i ≤ 8
-    pub place : k ≡ (suc last + i) % 8
-    pub rest : seek u (suc last) 8 ≡ seek u (suc last + i) (8 - i)
+  abbrev place : ℕ → ℕ
+  place i = (last % 8 + 1 + i) % 8
 
-  pub looks_first : Looking 0 ((last % 8 + 1) % 8)
-  looks_first =
-      record {
-        within = omega arith;
-        place = omega arith;
-        rest = ap (λ (n : ℕ). seek u n 8) (let e : suc last ≡ suc last + 0 = omega arith in e);
-      }
+  -- u holds at none of the first i places
+  abbrev pub Looking : ℕ → Type 0
+  Looking i = seek u (suc last) 8 ≡ seek u (suc last + i) (8 - i)
 
-  module _ {i k : ℕ} (looking : Looking i k) (more : i < 8) where
-    one_more : seek u (suc last) 8 ≡ cond (u k) (some k) (seek u (suc last + (i + 1)) (8 - (i + 1)))
+  pub looks_first : seek u (suc last) 8 ≡ seek u (suc last + 0) (8 - 0)
+  looks_first = ap (λ (n : ℕ). seek u n 8) (let e : suc last ≡ suc last + 0 = omega arith in e)
+
+  module _ {i : ℕ} (looking : seek u (suc last) 8 ≡ seek u (suc last + i) (8 - i)) (more : i < 8) where
+    one_more : seek u (suc last) 8 ≡ cond (u (place i)) (some (place i)) (seek u (suc last + (i + 1)) (8 - (i + 1)))
     one_more =
-        looking.rest ∙ ap (seek u (suc last + i)) (let e : 8 - i ≡ suc (8 - (i + 1)) = omega arith in e) ∙ seek-suc u (suc last + i) (8 - (i + 1))
-        ∙ ap (λ (n : ℕ). cond (u n) (some n) (seek u (suc (suc last + i)) (8 - (i + 1)))) (sym looking.place)
-        ∙ ap (λ (n : ℕ). cond (u k) (some k) (seek u n (8 - (i + 1)))) (let e : suc (suc last + i) ≡ suc last + (i + 1) = omega arith in e)
+        looking ∙ ap (seek u (suc last + i)) (let e : 8 - i ≡ suc (8 - (i + 1)) = omega arith in e) ∙ seek-suc u (suc last + i) (8 - (i + 1))
+        ∙ ap (λ (n : ℕ). cond (u n) (some n) (seek u (suc (suc last + i)) (8 - (i + 1)))) (let e : (suc last + i) % 8 ≡ place i = omega arith in e)
+        ∙ ap (λ (n : ℕ). cond (u (place i)) (some (place i)) (seek u n (8 - (i + 1)))) (let e : suc (suc last + i) ≡ suc last + (i + 1) = omega arith in e)
 
-    pub looks_here : u k ≡ true → seek u (suc last) 8 ≡ some k
-    looks_here e = one_more ∙ ap (λ (b : Bool). cond b (some k) (seek u (suc last + (i + 1)) (8 - (i + 1)))) e
+    pub looks_here : u ((last % 8 + 1 + i) % 8) ≡ true → seek u (suc last) 8 ≡ some ((last % 8 + 1 + i) % 8)
+    looks_here e = one_more ∙ ap (λ (b : Bool). cond b (some (place i)) (seek u (suc last + (i + 1)) (8 - (i + 1)))) e
 
-    pub looks_on : u k ≡ false → Looking (i + 1) ((k + 1) % 8)
-    looks_on e =
-        record {
-          within = omega arith;
-          place = (let p = looking.place in omega arith);
-          rest = one_more ∙ ap (λ (b : Bool). cond b (some k) (seek u (suc last + (i + 1)) (8 - (i + 1)))) e;
-        }
+    pub looks_on : u ((last % 8 + 1 + i) % 8) ≡ false → seek u (suc last) 8 ≡ seek u (suc last + (i + 1)) (8 - (i + 1))
+    looks_on e = one_more ∙ ap (λ (b : Bool). cond b (some (place i)) (seek u (suc last + (i + 1)) (8 - (i + 1)))) e
 
-  pub looks_through : {i k : ℕ} → Looking i k → 8 ≤ i → seek u (suc last) 8 ≡ none
-  looks_through {i} looking all =
-      looking.rest ∙ ap (seek u (suc last + i)) (let e : 8 - i ≡ 0 = omega arith in e) ∙ seek-none u (suc last + i)
+  pub looks_through : seek u (suc last) 8 ≡ seek u (suc last + 8) (8 - 8) → seek u (suc last) 8 ≡ none
+  looks_through looking = looking ∙ seek-none u (suc last + 8)

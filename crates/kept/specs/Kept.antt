@@ -1,5 +1,6 @@
 -- Eight jobs as they are kept: each part of a job in an array of eight, at place k that of job k, so that they can be lent and written in place.
 use Rattle.std.specs.Prelude.{cond, List, [], ◌∷◌, ℕ, ltb, get_or, set}
+use Rattle.std.specs.Prelude as Code
 use Rattle.std.proofs.Math.Option.{Option, none, some}
 use Rattle.eight_jobs.specs.Eight.{jobs}
 use Rattle.job.specs.Calls.{Call, shape, encode, locate, repair, start, next, peek, step}
@@ -145,7 +146,7 @@ unfoldable pub kept_after : Kept → Event jobs → Kept
 kept_after p (on k c) = cond (ltb k 8) (made_of p k c) p
 kept_after p turn = served_of p (served jobs (jobs_of p))
 
--- the number of the job that a turn serves; 8, which is no job's, where none is unfinished
-abbrev pub number_of : Option ℕ → ℕ
-number_of none = 8
-number_of (some k) = k
+-- the number of a job, or that there is none, as the code answers it
+abbrev pub found_of : Code.Option ℕ → Option ℕ
+found_of Code.None = none
+found_of (Code.Some k) = some k

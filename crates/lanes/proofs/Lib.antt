@@ -1,3 +1,4 @@
+pub mod MembersGiven
 pub mod Running
 pub mod Stepping
 pub mod SymbolsRead

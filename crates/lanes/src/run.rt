@@ -18,8 +18,7 @@ pub fn run(m: usize, f: &[u16; 65], sums: &[u16], x: &[u16; 64], z: &[u16; 64]) 
     let mut q = [0u16; 64];
     let mut values = [0u16; 64];
     let mut totals = [0u32; 64];
-    let mut k = 0;
-    while k < m {
+    for k in 0..m {
         step(
             m,
             f[k],
@@ -30,7 +29,6 @@ pub fn run(m: usize, f: &[u16; 65], sums: &[u16], x: &[u16; 64], z: &[u16; 64]) 
             &mut values,
             &mut totals,
         );
-        k += 1;
     }
     Lanes { values, totals }
 }

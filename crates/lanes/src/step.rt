@@ -19,12 +19,10 @@ pub fn step(
     requires { Steppable n c s x.now z.now q.old v.old t.old }
     ensures { Stepped n c s x.now q.old v.old t.old q.new v.new t.new }
 {
-    let mut i = 0;
-    while i < n {
+    for i in 0..n {
         let next = c + product(q[i], x[i], z[i]);
         q[i] = next;
         v[i] = next + product(v[i], x[i], z[i]);
-        t[i] = t[i] + times(next, s);
-        i += 1;
+        t[i] += times(next, s);
     }
 }

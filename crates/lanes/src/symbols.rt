@@ -5,11 +5,11 @@ ghost use Rattle.field257.specs.Table.{table};
 ghost use Rattle.lanes.specs.Symbols.{Listable, ReadableSet, locators_to, symbol_of, symbols_in, symbols_of};
 
 use crate::run::{Lanes, run};
-use columns::{Columns, next, size};
+use columns::{Columns, size};
 use field::residue::difference;
 use field257::inverses::inverse;
 use field257::montgomery::companions;
-use field257::powers::{entry, wide};
+use field257::powers::entry;
 use polynomials::locator::locator_polynomial;
 use polynomials::values::times;
 
@@ -19,12 +19,8 @@ fn listed(set: Columns) -> [u16; 64]
     ensures { (k : ℕ) → get_or result k 0 ≡ get_or (members set) k 0 }
 {
     let mut list = [0u16; 64];
-    let mut k = 0;
-    let mut i = next(set, 0);
-    while i < 256 {
+    for (k, i) in set.members().enumerate() {
         list[k] = i as u16;
-        k += 1;
-        i = next(set, i + 1);
     }
     list
 }
@@ -35,10 +31,8 @@ fn locators_to(powers: &[u16; 256], m: usize, list: &[u16; 64], e: u32) -> [u16;
     ensures { (k : ℕ) → get_or result k 0 ≡ get_or (locators_to m list.now e) k 0 }
 {
     let mut x = [0u16; 64];
-    let mut k = 0;
-    while k < m {
-        x[k] = entry(powers, wide(list[k]) * e);
-        k += 1;
+    for k in 0..m {
+        x[k] = entry(powers, u32::from(list[k]) * e);
     }
     x
 }
@@ -57,10 +51,8 @@ fn divided(m: usize, weights: &[u16; 64], lanes: Lanes) -> [u16; 64]
     ensures { (k : ℕ) → get_or result k 0 ≡ get_or (symbols_in m weights.now lanes) k 0 }
 {
     let mut symbols = [0u16; 64];
-    let mut k = 0;
-    while k < m {
+    for k in 0..m {
         symbols[k] = symbol(weights[k], lanes.values[k], lanes.totals[k]);
-        k += 1;
     }
     symbols
 }

@@ -21,8 +21,10 @@ use Rattle.job.specs.Answers.{reply_answer, answered_outcome}
 use Rattle.job.specs.Calls.{columns, Outcome, refusing, mends_uniform, unseen, register_tests, locates}
 use Rattle.job.specs.Job.{Arrays, with_taps, with_found, with_read, shaped_job}
 use Rattle.job.specs.declared.Answered.{Answered}
-use Rattle.job.specs.declared.Reply.{Reply}
-use Rattle.job.specs.declared.Reply.TheVariants.{Count}
+use Rattle.job.specs.declared.Progress.{Progress}
+use Rattle.job.specs.declared.Progress.TheVariants as Progress
+use Rattle.refusal.specs.declared.Refusal.{Refusal}
+use Rattle.std.specs.Prelude.{Result, Ok}
 use Rattle.job.proofs.AfterRefusal.{never-columns}
 use Rattle.job.proofs.Seen.{seen-order}
 use Rattle.locating.specs.FromSums.{from_sums, seen_from}
@@ -95,26 +97,26 @@ module _ (s : Shape) (words new f old taps left cells : List ℕ) (r : Answered)
     answered_outcome r (with_found a (after r.reply a.sums new) left (after r.reply a.declared words)) g ≡ from_sums s (with_taps a taps) words new g)
   where
     -- beside the arrays as they were lent, by what the reply is
-    replied : (a : Arrays) (x : Reply) → r.reply ≡ x → answered_outcome r (with_found a (after x old new) left (after x cells words)) f
+    replied : (a : Arrays) (x : Result Progress Refusal) → r.reply ≡ x → answered_outcome r (with_found a (after x old new) left (after x cells words)) f
         ≡ from_sums s (with_found a old taps cells) words new f
     replied a x e = ap (λ y. answered_outcome r (with_found a (after y old new) left (after y cells words)) f) (sym e) ∙ located (with_read a old cells) f
 
     -- no columns
-    pub not-counted : (a : Arrays) (x : Reply) → r.reply ≡ x → ((c : ℕ) → reply_answer x ≡ columns c → ⊥)
+    pub not-counted : (a : Arrays) (x : Result Progress Refusal) → r.reply ≡ x → ((c : ℕ) → reply_answer x ≡ columns c → ⊥)
         → answered_outcome r (with_found a (after x old new) left (after x cells words)) f ≡ seen_from s (with_found a old taps cells) words new f
     not-counted a x e none =
         replied a x e ∙ same-refusal s words new f (with_found a old taps cells)
         (λ c columns-answered. none c (ap reply_answer (sym e) ∙ ap (λ (o : Outcome). o.answer) (replied a x e) ∙ columns-answered))
 
-    module _ (c : ℕ) (e : r.reply ≡ Count c) (a : Arrays) where
+    module _ (c : ℕ) (e : r.reply ≡ Ok (Progress.Columns c)) (a : Arrays) where
       tests-pass : Pass (register_tests s (declared_by words) (held_sequences s new) unseen)
       tests-pass =
-          passes s words new f (with_found a old taps cells) c (sym (ap (λ (o : Outcome). o.answer) (replied a (Count c) e)) ∙ ap reply_answer e)
+          passes s words new f (with_found a old taps cells) c (sym (ap (λ (o : Outcome). o.answer) (replied a (Ok (Progress.Columns c)) e)) ∙ ap reply_answer e)
 
       -- the columns answered are those named
       named_so : r.columns ≡ M s words new f
       named_so =
-          ap (λ (o : Outcome). o.marks) (replied a (Count c) e)
+          ap (λ (o : Outcome). o.marks) (replied a (Ok (Progress.Columns c)) e)
           ∙ ap (λ (o : Outcome). o.marks) (sums-given s words new f (with_found a old taps cells) tests-pass)
 
       pub counted_mendable : {none : Bool} → Seeable s none words new f → Mendable s words r.columns f
@@ -139,4 +141,4 @@ module _ (s : Shape) (words new f old taps left cells : List ℕ) (r : Answered)
 
         pub counted_mixed : b ≡ false
             → answered_outcome r (with_found a new left words) f ≡ seen_from s (with_found a old taps cells) words new f
-        counted_mixed n = replied a (Count c) e ∙ seen_mixed s words new f (with_found a old taps cells) tests-pass (seen ∙ n)
+        counted_mixed n = replied a (Ok (Progress.Columns c)) e ∙ seen_mixed s words new f (with_found a old taps cells) tests-pass (seen ∙ n)

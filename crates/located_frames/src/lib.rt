@@ -9,7 +9,7 @@ ghost use Rattle.locating.specs.FromSums.{seen_from};
 
 use frame::Shape;
 use heads::states::{refuse, shaped};
-use job::{Answered, Reply};
+use job::{Answered, Progress};
 use locating::from_sums::locate_from;
 use refusal::Refusal;
 use uniform::mended::mends_uniform;
@@ -32,9 +32,8 @@ pub fn locate_frame(
 {
     let before = *taps;
     let answer = locate_from(s, none, declared, summed, taps);
-    let reply = answer.reply;
-    match reply {
-        Reply::Count(_) => {
+    match answer.reply {
+        Ok(Progress::Columns(_)) => {
             if mends_uniform(s, declared, answer.columns, frame) {
                 *taps = before;
                 return refuse(shaped(s), Refusal::NoFrame);
@@ -43,7 +42,7 @@ pub fn locate_frame(
             *held = *declared;
             answer
         }
-        Reply::Unfinished => answer,
-        Reply::Refused(_) => answer,
+        Ok(Progress::Unfinished) => answer,
+        Err(_) => answer,
     }
 }

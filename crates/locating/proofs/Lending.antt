@@ -10,13 +10,14 @@ use lib.Dec.{lit<}
 use lib.ListN.{length, get_or, take, drop, replicate, length-take}
 use lib.Seq.{length-take-le, get_or-take}
 use borrow.Author.Tests.{lt-ltb, le-ltb, le-leb, eq-eqb}
+use Rattle.std.specs.Prelude.{Ok}
 use Rattle.decoding.specs.Locating.{size_of, taps_of, alone_of}
 use Rattle.decoding.specs.Remaining.{remaining, all_remaining}
 use Rattle.decoding.proofs.NothingDeclared.{all-remaining-none}
 use Rattle.decoding.proofs.SequenceRegister.{length-taps}
 use Rattle.field.specs.Prime.{is_modulus, is_prime, no_divisor}
-use Rattle.finder.specs.Finder.{answer, answer_of, taps_left, register, Finds}
-use Rattle.finder.specs.declared.Found.{Found}
+use Rattle.finder.specs.Finder.{answer, taps_left, register, Finds}
+use Rattle.finder.specs.declared.Register.{Register}
 use Rattle.frame.specs.DeclaredCells.{Declared, declared_by, nothing_declared}
 use Rattle.frame.specs.Frame.{held_sequences, sums_before}
 use Rattle.frame.specs.Shape.{checks_of, is_shape}
@@ -187,12 +188,12 @@ module _ {rows : ℕ} {lengths symbols : List ℕ} {ss : List (List ℕ)} (lent 
         accepted = ap₂ (λ (n : ℕ) (l : List ℕ). outcome (tests 257 (take rows lengths) (take n symbols) (length l))) counted zero ∙ lent-passed lent;
       }
 
-  pub lent-answered : (left : List ℕ) (r : Found) → Finds 257 (take rows lengths) (take all symbols) taps left r
-      → answer_of r ≡ register (size_of ss) (alone_of ss)
+  pub lent-answered : (left : List ℕ) (r : Register) → Finds 257 (take rows lengths) (take all symbols) taps left (Ok r)
+      → register r.length r.alone ≡ register (size_of ss) (alone_of ss)
   lent-answered left r finds =
       finds.answers ∙ ap₂ (λ (n : ℕ) (l : List ℕ). answer 257 (take rows lengths) (take n symbols) (length l)) counted zero ∙ lent-answer lent
 
-  pub lent-left : (left : List ℕ) (r : Found) → Finds 257 (take rows lengths) (take all symbols) taps left r
+  pub lent-left : (left : List ℕ) (r : Register) → Finds 257 (take rows lengths) (take all symbols) taps left (Ok r)
       → left ≡ taps_of ss ++ replicate (65 - length (taps_of ss)) 0
   lent-left left r finds =
       finds.leaves ∙ ap₂ (λ (n : ℕ) (l : List ℕ). taps_left 257 (take rows lengths) (take n symbols) l) counted zero ∙ lent-taps lent
@@ -251,10 +252,12 @@ module _ (s : Shape) (shape : is_shape s ≡ true) (D : Declared) (sums : List �
 -- ---- the register of what is left
 
 -- of sequences that are what is left of held sums
-pub register-said : (s : Shape) (D : Declared) (sums left : List ℕ) (r : Found) (ss : List (List ℕ)) → ss ≡ all_remaining s D (held_sequences s sums)
-    → answer_of r ≡ register (size_of ss) (alone_of ss) → left ≡ taps_of ss ++ replicate (65 - length (taps_of ss)) 0 → RegisterOf s D sums left r
+pub register-said : (s : Shape) (D : Declared) (sums left : List ℕ) (r : Register) (ss : List (List ℕ)) → ss ≡ all_remaining s D (held_sequences s sums)
+    → register r.length r.alone ≡ register (size_of ss) (alone_of ss) → left ≡ taps_of ss ++ replicate (65 - length (taps_of ss)) 0
+    → RegisterOf s D sums left r
 register-said s D sums left r ss e answers leaves =
     record {
-      answers = answers ∙ ap (λ xs. register (size_of xs) (alone_of xs)) e;
+      size = (let size : r.length ≡ size_of ss = cc in size ∙ ap size_of e);
+      alone = (let alone : r.alone ≡ alone_of ss = cc in alone ∙ ap alone_of e);
       leaves = leaves ∙ ap (λ xs. taps_of xs ++ replicate (65 - length (taps_of xs)) 0) e;
     }

@@ -11,8 +11,7 @@ use Rattle.decoding.specs.Locating.{size_of, taps_of, alone_of}
 use Rattle.decoding.specs.Remaining.{all_remaining}
 use Rattle.decoding.proofs.LeftLengths.{size-most}
 use Rattle.decoding.proofs.SequenceRegister.{generator_of, length-taps}
-use Rattle.finder.specs.Finder.{answer_of, register, refused}
-use Rattle.finder.specs.declared.Found.{Found}
+use Rattle.finder.specs.declared.Register.{Register}
 use Rattle.frame.specs.DeclaredCells.{declared_by, as_read}
 use Rattle.frame.specs.Frame.{held_sums, held_sequences}
 use Rattle.frame.specs.Shape.{is_shape}
@@ -27,40 +26,30 @@ use Rattle.locating.specs.RegisterOf.{RegisterOf}
 
 -- ---- what the finder answers
 
-module _ (s : Shape) (words sums buffer : List ℕ) (r : Found) (said : RegisterOf s (declared_by words) sums buffer r) where
+module _ (s : Shape) (words sums buffer : List ℕ) (r : Register) (said : RegisterOf s (declared_by words) sums buffer r) where
   abbrev left : List (List ℕ)
   left = all_remaining s (declared_by words) (held_sequences s sums)
 
-  pub never-refused : (k : ℕ) → refused k ≡ answer_of r → ⊥
-  never-refused k e = let w = e ∙ said.answers in let z : ◌≡◌ {A = ℕ} 0 1 = cc in omega arith
+  taps_are : take (suc r.length) buffer ≡ taps_of left
+  taps_are =
+      ap₂ take (let n : suc r.length ≡ length (taps_of left) = omega (arith, said.size, length-taps left) in n) said.leaves
+      ∙ take_at (taps_of left) _ _ refl
 
-  module _ (l : ℕ) (a : Bool) (e : register l a ≡ answer_of r) where
-    size_is : l ≡ size_of left
-    size_is = let w = e ∙ said.answers in cc
+  pub held-register : (none : Bool) → Locatable s none words sums → Held s none words sums r.length buffer
+  held-register none locatable =
+      record {
+        locatable = locatable;
+        short = omega (arith, said.size, size-most s (declared_by words) sums locatable.shape);
+        register = rw (taps_are, said.size) (generator_of left).register;
+        zeros = said.leaves ∙ ap (λ (σ : List ℕ). σ ++ replicate (65 - length σ) 0) (sym taps_are);
+      }
 
-    alone-is : a ≡ alone_of left
-    alone-is = let w = e ∙ said.answers in cc
-
-    taps_are : take (suc l) buffer ≡ taps_of left
-    taps_are =
-        ap₂ take (let n : suc l ≡ length (taps_of left) = omega (arith, size_is, length-taps left) in n) said.leaves
-        ∙ take_at (taps_of left) _ _ refl
-
-    pub held-register : (none : Bool) → Locatable s none words sums → Held s none words sums l buffer
-    held-register none locatable =
-        record {
-          locatable = locatable;
-          short = omega (arith, size_is, size-most s (declared_by words) sums locatable.shape);
-          register = rw (taps_are, size_is) (generator_of left).register;
-          zeros = said.leaves ∙ ap (λ (σ : List ℕ). σ ++ replicate (65 - length σ) 0) (sym taps_are);
-        }
-
-    pub located_so : is_shape s ≡ true → (before : Arrays) (f : List ℕ)
-        → by_register s before words sums l (take (suc l) buffer) a f ≡ from_sums s before words sums f
-    located_so shape before f =
-        rw (taps_are, size_is, alone-is)
-        (ap (λ ts. first_of (refusing (shaped_job s before) f) ts (locates s before words left sums f))
-        (same_tests s shape (declared_by words) (held_sequences s sums)))
+  pub located_so : is_shape s ≡ true → (before : Arrays) (f : List ℕ)
+      → by_register s before words sums r.length (take (suc r.length) buffer) r.alone f ≡ from_sums s before words sums f
+  located_so shape before f =
+      rw (taps_are, said.size, said.alone)
+      (ap (λ ts. first_of (refusing (shaped_job s before) f) ts (locates s before words left sums f))
+      (same_tests s shape (declared_by words) (held_sequences s sums)))
 
 -- ---- from the sums of a frame
 

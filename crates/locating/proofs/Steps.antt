@@ -4,6 +4,7 @@ use mathlib.Core.Bool.{true, false, and-eq-true_iff}
 use mathlib.Core.List.{List, [], ◌∷◌}
 use Prim.Native.Nat.{ℕ, ◌≤◌}
 use lib.ListN.{length}
+use Rattle.std.specs.Prelude.{Result, Ok, Err}
 use Rattle.decoding.specs.Remaining.{left_reach, mended}
 use Rattle.frame.specs.DeclaredCells.{Declared, declared_by, declarable, as_read, undeclared_below, read_tests, reread_tests, WellFormedRead}
 use Rattle.frame.specs.Encode.{encoded, encode_tests}
@@ -21,8 +22,6 @@ use Rattle.job.specs.declared.Head.{Head}
 use Rattle.refusal.specs.Number.{number}
 use Rattle.refusal.specs.declared.Refusal.{Refusal}
 use Rattle.refusal.specs.declared.Refusal.TheVariants.{Empty}
-use Rattle.refusal.specs.declared.Checked.{Checked}
-use Rattle.refusal.specs.declared.Checked.TheVariants.{Pass, Refuse}
 use Rattle.refusal.specs.Order.{Test, first_of}
 use Rattle.refusal.specs.Outcome.{passed, refused, outcome, outcome_of}
 use Rattle.refusal.proofs.Orders.{first_of_append, no_fail, passed-pass}
@@ -56,42 +55,34 @@ pub passed-rows : (n : ℕ) (checks : List ℕ) (b : ℕ) → outcome (shape_tes
 unfolding shape_of
 passed-rows n checks b e = (shape-ranges (shape_of n checks b) (shape-passes n checks b (passed-pass (shape_tests n checks b) e))).rows-most
 
-module _ (h : Head) (a : Arrays) (n : ℕ) (checks : List ℕ) (b : ℕ) where
-  abbrev j : Job
-  j = beside h a
-
-  pub shape-refused : {v : Checked} (why : Refusal) → outcome_of v ≡ outcome (shape_tests n checks b) → v ≡ Refuse why
-      → shape_outcome (record { checked = v; head = h }) a ≡ step j (shape n checks b)
+module _ (j : Job) (n : ℕ) (checks : List ℕ) (b : ℕ) where
+  pub shape-refused : (why : Refusal) → outcome (shape_tests n checks b) ≡ refused (number why) → shape_outcome j (Err why) ≡ step j (shape n checks b)
   unfolding step
-  shape-refused why e r =
-      ap (λ x. shape_outcome (record { checked = x; head = h }) a) r
-      ∙ sym (given-refused (refusing j []) _ (shape_tests n checks b) (number why) (sym e ∙ ap outcome_of r))
+  shape-refused why e = sym (given-refused (refusing j []) _ (shape_tests n checks b) (number why) e)
 
-  pub shape-given : {v : Checked} {i : Head} → outcome_of v ≡ outcome (shape_tests n checks b) → v ≡ Pass → i ≡ shaped_head (shape_of n checks b)
-      → shape_outcome (record { checked = v; head = i }) a ≡ step j (shape n checks b)
+  pub shape-given : {i : Head} → outcome (shape_tests n checks b) ≡ passed → i ≡ shaped_head (shape_of n checks b)
+      → shape_outcome j (Ok i) ≡ step j (shape n checks b)
   unfolding step
-  shape-given e r s =
-      ap₂ (λ x y. shape_outcome (record { checked = x; head = y }) a) r s
-      ∙ sym (given-passed (refusing j []) _ (shape_tests n checks b) (sym e ∙ ap outcome_of r))
+  shape-given e r = ap (λ x. shape_outcome j (Ok x)) r ∙ sym (given-passed (refusing j []) _ (shape_tests n checks b) e)
 
 -- ---- encode
 
 module _ (j : Job) (f : List ℕ) where
-  pub encode-empty : is_empty j ≡ true → encode_outcome j (Refuse Empty) f ≡ step j (encode f)
+  pub encode-empty : is_empty j ≡ true → encode_outcome j (Err Empty) f ≡ step j (encode f)
   unfolding step
   encode-empty e = rw e refl
 
   abbrev leaves : List ℕ
   leaves = first_of (λ k. f) (encode_tests j.head.shape f) (encoded j.head.shape f)
 
-  pub encode-given : is_empty j ≡ false → (v : Checked) {left : List ℕ} → outcome_of v ≡ outcome (encode_tests j.head.shape f) → left ≡ leaves
+  pub encode-given : is_empty j ≡ false → (v : Result (Unit {0}) Refusal) {left : List ℕ} → outcome_of v ≡ outcome (encode_tests j.head.shape f) → left ≡ leaves
       → encode_outcome j v left ≡ step j (encode f)
   unfolding step
-  encode-given full Pass e l =
-      ap (encode_outcome j Pass) (l ∙ given-passed (λ k. f) _ (encode_tests j.head.shape f) (sym e))
+  encode-given full (Ok done) e l =
+      ap (encode_outcome j (Ok done)) (l ∙ given-passed (λ k. f) _ (encode_tests j.head.shape f) (sym e))
       ∙ rw full (sym (given-passed (refusing j f) _ (encode_tests j.head.shape f) (sym e)))
-  encode-given full (Refuse why) e l =
-      ap (encode_outcome j (Refuse why)) (l ∙ given-refused (λ k. f) _ (encode_tests j.head.shape f) (number why) (sym e))
+  encode-given full (Err why) e l =
+      ap (encode_outcome j (Err why)) (l ∙ given-refused (λ k. f) _ (encode_tests j.head.shape f) (number why) (sym e))
       ∙ rw full (sym (given-refused (refusing j f) _ (encode_tests j.head.shape f) (number why) (sym e)))
 
 -- ---- locate

@@ -2,8 +2,7 @@
 use Rattle.std.specs.Prelude.{◌≡◌, Bool, true, List, ◌++◌, ℕ, ◌-◌, ◌≤◌, ◌<◌, length, get_or, take, replicate}
 use Rattle.decoding.specs.Locating.{size_of, taps_of, alone_of}
 use Rattle.decoding.specs.Remaining.{all_remaining}
-use Rattle.finder.specs.Finder.{answer_of, register}
-use Rattle.finder.specs.declared.Found.{Found}
+use Rattle.finder.specs.declared.Register.{Register}
 use Rattle.frame.specs.DeclaredCells.{Declared, declared_by, nothing_declared, declarable}
 use Rattle.frame.specs.Frame.{held_sequences}
 use Rattle.frame.specs.Shape.{is_shape}
@@ -31,9 +30,9 @@ pub record Registrable (s : Shape) (none : Bool) (declared sums taps : List ℕ)
   pub zeros : taps ≡ replicate 65 0
 
 -- the length and the alone mark are answered, and the taps are left, then zeros up to 65 entries
-pub record RegisterOf (s : Shape) (D : Declared) (sums left : List ℕ) (r : Found) : Type 0 where
-  pub answers :
-      answer_of r ≡ register (size_of (all_remaining s D (held_sequences s sums))) (alone_of (all_remaining s D (held_sequences s sums)))
+pub record RegisterOf (s : Shape) (D : Declared) (sums left : List ℕ) (r : Register) : Type 0 where
+  pub size : r.length ≡ size_of (all_remaining s D (held_sequences s sums))
+  pub alone : r.alone ≡ alone_of (all_remaining s D (held_sequences s sums))
   pub leaves :
       left ≡ taps_of (all_remaining s D (held_sequences s sums)) ++
       replicate (65 - length (taps_of (all_remaining s D (held_sequences s sums)))) 0

@@ -6,14 +6,11 @@ ghost use Rattle.job.specs.Answers.{answered_outcome};
 ghost use Rattle.job.specs.Job.{Arrays, with_taps, with_found};
 
 use crate::finding::register_of;
-use finder::Found;
 use frame::Shape;
 use from_register::locate_by;
-use heads::states::{refuse, shaped};
 use job::Answered;
-use refusal::Refusal;
 
-// The finder refuses nothing here. `none` tells that nothing is declared.
+// `none` tells that nothing is declared.
 pub fn locate_from(
     s: Shape,
     none: bool,
@@ -28,8 +25,14 @@ pub fn locate_from(
 {
     let mut register = [0u16; 65];
     let found = register_of(s, none, declared, sums, &mut register);
-    let Found::Register { length, alone } = found else {
-        return refuse(shaped(s), Refusal::NotAlone);
-    };
-    locate_by(s, none, declared, sums, length, alone, &register, taps)
+    locate_by(
+        s,
+        none,
+        declared,
+        sums,
+        found.length,
+        found.alone,
+        &register,
+        taps,
+    )
 }

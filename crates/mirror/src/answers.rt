@@ -5,120 +5,94 @@ ghost use Rattle.job.specs.Answers.{checked_answer, reply_answer, peeked_answer,
 ghost use Rattle.job.specs.Calls.{unfinished};
 ghost use Rattle.job.specs.Job.{Arrays, no_columns, unfinished_job};
 ghost use Rattle.search.specs.Search.{answer_of as Search·answerOf};
-ghost use Rattle.mirror.specs.Mirror.{refusal_of, unfinished_of, count_of, register_of, columns_for, peeked_of, head_of, answer_of, answered_of};
+ghost use Rattle.mirror.specs.Mirror.{refusal_of, register_of, columns_for, peeked_of, head_of, answer_of, answered_of};
 
-use crate::head::{mark_of, mirror_of};
+use crate::head::mirror_of;
 use crate::{CAnswer, CAnswered, CColumns, CHead, CPeeked, CRegister};
 use columns::Columns;
-use finder::Found;
-use job::{Answered, Peeked, Reply};
-use refusal::{Checked, number_of};
-use search::Searched;
+use finder::Register;
+use job::{Answered, Progress};
+use refusal::Refusal;
+use search::Sought;
 
 // 0 where nothing is refused.
-pub fn refusal_of(v: Checked) -> u32
+pub fn refusal_of(v: Result<(), Refusal>) -> u32
     ensures { result ≡ refusal_of (checked_answer v) }
 {
     match v {
-        Checked::Pass => 0,
-        Checked::Refuse(why) => number_of(why),
+        Ok(()) => 0,
+        Err(why) => u32::from(why),
     }
 }
 
-pub fn register_of(found: Found) -> CRegister
+pub fn register_of(found: Result<Register, Refusal>) -> CRegister
     ensures { result ≡ register_of (Finder·answerOf found) }
 {
-    match found {
-        Found::Register { length, alone } => CRegister {
-            refusal: 0,
-            alone: mark_of(alone),
-            length,
-        },
-        Found::Refused(why) => CRegister {
-            refusal: number_of(why),
-            alone: 0,
-            length: 0,
-        },
+    let (refusal, alone, length) = match found {
+        Ok(register) => (0, register.alone, register.length),
+        Err(why) => (u32::from(why), false, 0),
+    };
+    CRegister {
+        refusal,
+        alone: u32::from(alone),
+        length,
     }
 }
 
-pub fn columns_of(found: Searched) -> CColumns
+#[tactic(auto, unfolding(columns::specs::Columns::columns_of, columns::specs::Columns::number))]
+pub fn columns_of(found: Result<Sought, Refusal>) -> CColumns
     ensures { result ≡ columns_for (Search·answerOf found) }
 {
-    let sought = found.sought;
-    let columns = sought.columns;
-    let marks = columns.words;
-    let checked = found.checked;
-    CColumns {
-        refusal: refusal_of(checked),
-        tried: sought.tried,
-        marks,
+    match found {
+        Ok(sought) => CColumns {
+            refusal: 0,
+            tried: sought.tried,
+            marks: sought.columns.words,
+        },
+        Err(why) => CColumns {
+            refusal: u32::from(why),
+            tried: 0,
+            marks: [0; 4],
+        },
     }
 }
 
-fn reply_refusal(reply: Reply) -> u32
-    ensures { result ≡ refusal_of (reply_answer reply) }
-{
-    match reply {
-        Reply::Count(_) => 0,
-        Reply::Unfinished => 0,
-        Reply::Refused(why) => number_of(why),
-    }
-}
-
-fn reply_unfinished(reply: Reply) -> u32
-    ensures { result ≡ unfinished_of (reply_answer reply) }
-{
-    match reply {
-        Reply::Count(_) => 0,
-        Reply::Unfinished => 1,
-        Reply::Refused(_) => 0,
-    }
-}
-
-fn reply_count(reply: Reply) -> usize
-    ensures { result ≡ count_of (reply_answer reply) }
-{
-    match reply {
-        Reply::Count(c) => c,
-        Reply::Unfinished => 0,
-        Reply::Refused(_) => 0,
-    }
-}
-
-pub fn peeked_of(p: Peeked) -> CPeeked
+pub fn peeked_of(p: Result<usize, Refusal>) -> CPeeked
     ensures { result ≡ peeked_of (peeked_answer p) }
 {
     match p {
-        Peeked::Length(length) => CPeeked { refusal: 0, length },
-        Peeked::Refused(why) => CPeeked {
-            refusal: number_of(why),
+        Ok(length) => CPeeked { refusal: 0, length },
+        Err(why) => CPeeked {
+            refusal: u32::from(why),
             length: 0,
         },
     }
 }
 
-pub fn answer_of(reply: Reply, columns: Columns, tried: usize) -> CAnswer
+pub fn answer_of(reply: Result<Progress, Refusal>, columns: Columns, tried: usize) -> CAnswer
     ensures { result ≡ answer_of (reply_answer reply) columns tried }
 {
-    let marks = columns.words;
+    let (refusal, unfinished, count) = match reply {
+        Ok(Progress::Columns(c)) => (0, 0, c),
+        Ok(Progress::Unfinished) => (0, 1, 0),
+        Err(why) => (u32::from(why), 0, 0),
+    };
     CAnswer {
-        refusal: reply_refusal(reply),
-        unfinished: reply_unfinished(reply),
-        count: reply_count(reply),
+        refusal,
+        unfinished,
+        count,
         tried,
-        marks,
+        marks: columns.words,
     }
 }
 
 pub fn answered_of(a: Answered) -> CAnswered
     ensures { (b : Arrays) (f : List ℕ) → result ≡ answered_of (answered_outcome a b f) }
 {
-    let reply = a.reply;
-    let columns = a.columns;
-    let answer = answer_of(reply, columns, a.tried);
-    let head = mirror_of(a.head);
-    CAnswered { answer, head }
+    CAnswered {
+        answer: answer_of(a.reply, a.columns, a.tried),
+        head: mirror_of(a.head),
+    }
 }
 
 // What a step answers that leaves the job of a head unfinished. The struct is made of the head's as it is, with no `Answered` between.
@@ -126,8 +100,7 @@ pub fn unfinished_of(m: CHead) -> CAnswered
     ensures { (b : Arrays) (f : List ℕ) → result ≡
         answered_of (record { answer = unfinished; marks = no_columns; tried = 0; job = unfinished_job (head_of m).shape b; frame = f }) }
 {
-    let marks = [0u64; 4];
-    let checks = m.checks;
+    let marks = [0; 4];
     let answer = CAnswer {
         refusal: 0,
         unfinished: 1,
@@ -139,11 +112,8 @@ pub fn unfinished_of(m: CHead) -> CAnswered
         phase: 3,
         alone: 0,
         length: 0,
-        rows: m.rows,
-        columns: m.columns,
         marks,
-        checks,
-        exponent: m.exponent,
+        ..m
     };
     CAnswered { answer, head }
 }

@@ -1,12 +1,12 @@
 -- The flat array of saved registers: an entry of the block of sequence h, and what the blocks are once one of them is replaced.
-use mathlib.Core.Path.{◌≡◌, sym, ap, subst, ◌∙◌}
+use mathlib.Core.Path.{◌≡◌, sym, ap, ◌∙◌}
 use mathlib.Core.Logic.{◌≢◌}
 use mathlib.Core.List.{List}
 use Prim.Native.Nat.{ℕ, suc, ◌+◌, ◌-◌, ◌*◌, ◌≤◌, ◌<◌, min}
 use native.Mathlib.Decide.{dec_lt}
 use native.Mathlib.Omega.{arith}
 use lib.ListN.{length, get_or, take, drop, length-take, length-drop}
-use lib.Seq.{ext_get_or, get_or-take, length-take-le}
+use lib.Seq.{ext_get_or, get_or-take}
 use Rattle.lists.proofs.Entries.{get_d_part, get_or-take-past}
 use Rattle.lists.specs.Parts.{replaced}
 use Rattle.lists.proofs.Parts.{length-replaced, part-replaced, replaced-before, replaced_in, replaced-after}

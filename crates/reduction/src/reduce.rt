@@ -7,7 +7,6 @@ ghost use Rattle.discrepancy.specs.Discrepancies.{Loose};
 ghost use Rattle.discrepancy.specs.Modulus.{WorkedOut};
 ghost use Rattle.reduction.specs.Reductions.{Reducible, Divided, Keepable, block};
 
-use crate::copy::copy;
 use crate::taking::take_off;
 use discrepancy::Modulus;
 use discrepancy::padded::padded;
@@ -21,12 +20,10 @@ fn reduce_two(taps: &mut [u16; 144], q: u32, e: usize, m: usize, saved: &[u16; 1
     ensures { taps.new ≡ reduced 2 143 taps.old q e (take (suc m) (block h saved.now)) }
 {
     let at = h * 144;
-    let mut i = 0;
-    while i <= m {
+    for i in 0..m + 1 {
         let k = e + i;
-        let y = (q * ((saved[at + i] % 2) as u32) % 2) as u16;
+        let y = (q * u32::from(saved[at + i] % 2) % 2) as u16;
         taps[k] = difference(taps[k], y, 2);
-        i += 1;
     }
 }
 
@@ -36,9 +33,9 @@ fn factor(f: Modulus, sum: u32, over: u16) -> u32
     ensures equals { result ≡ (sum * over) % f.p }
     ensures below { result < f.p }
 {
-    let v = sum * (over as u32);
+    let v = sum * u32::from(over);
     if is_small(f) {
-        return wide_remainder(v as u64, f.p, f.wide);
+        return wide_remainder(u64::from(v), f.p, f.wide);
     }
     remainder(v, f.p, f.reciprocal)
 }
@@ -76,7 +73,7 @@ fn keep(saved: &mut [u16], h: usize, taps: &[u16])
 {
     let a = h * 144;
     let e = a + 144;
-    copy(&mut saved[a..e], taps)
+    saved[a..e].copy_from_slice(taps);
 }
 
 // The same reduction where the register grows: its taps before it become what is saved for sequence h. They are copied first, since the reduction still

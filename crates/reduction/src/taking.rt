@@ -22,11 +22,9 @@ pub fn take_off(
 {
     let v = bottom(u as u16, f.inverse);
     let less = (f.p - u) as u16;
-    let mut i = 0;
-    while i < count {
+    for i in 0..count {
         let k = e + i;
         let p = moduli[i];
         cells[k] = less_product(cells[k], numbers[from + i], p - less, v, p);
-        i += 1;
     }
 }

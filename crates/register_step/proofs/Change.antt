@@ -3,9 +3,8 @@
 use mathlib.Core.Path.{◌≡◌, refl, sym, ap, ap₂, subst, ◌∙◌}
 use mathlib.Core.Logic.{◌≢◌}
 use mathlib.Core.List.{List}
-use Prim.Native.Nat.{ℕ, suc, ◌+◌, ◌-◌, ◌*◌, ◌%◌, ◌^◌, ◌≤◌, ◌<◌}
+use Prim.Native.Nat.{ℕ, suc, ◌+◌, ◌-◌, ◌*◌, ◌%◌, ◌≤◌, ◌<◌}
 use native.Mathlib.Decide.{dec_lt, dec_le, ℕ_discrete}
-use native.Mathlib.Nat.{mod-lt}
 use native.Mathlib.Omega.{arith}
 use borrow.Author.Tests.{lt-ltb, le-ltb}
 use lib.ListN.{length, get_or, take, set, length-take, length-set}
@@ -18,7 +17,7 @@ use Rattle.lists.specs.Parts.{replaced}
 use Rattle.register.proofs.Cases.{changed_cases, grown, stayed, saved-at, saved-beside}
 use Rattle.register.specs.Algorithm4.{Saved, State, changed, with_saved}
 use Rattle.register_step.specs.Parts.{Parts, parts, state_of, reduced_taps, stayed_parts, grown_parts, changed_parts, Ended, Changeable, Stepped}
-use Rattle.reduction.specs.Reductions.{Reducible, ZerosAfter, block}
+use Rattle.reduction.specs.Reductions.{ZerosAfter, block}
 use Rattle.reduction.proofs.Blocks.{block-replaced, block-other, replaced-whole, replaced-entry, other-entry}
 use Rattle.discrepancy.proofs.Reduction.{shifted_past}
 
@@ -84,31 +83,14 @@ module _ (p n h d : ℕ) (x : Parts) {taps : List ℕ} (less : taps ≡ reduced_
       parts (n + get_or x.sizes h 0 - get_or x.places h 0) (set x.places h n) (set x.sizes h x.length) (set x.discs h d)
       (set x.quotients h (over i)) (less i) (kept i))
 
--- ---- what the code asks
-
-module _ {p n h d : ℕ} {x : Parts} (positive : 0 < p) (c : Changeable p n h d x) where
-  pub reducible : Reducible p x.taps (n - get_or x.places h 0) (get_or x.sizes h 0) x.saved h
-  reducible =
-      let r = c.readable in
-      record {
-        reach = omega (arith, r.saved-size, c.place, c.round);
-        sequence = r.sequence;
-        width = r.width;
-        saved-width = r.saved-width;
-        residues = r.residues;
-        zeros = r.saved-zeros;
-      }
-
-  pub over-less : get_or x.quotients h 0 < p
-  over-less = rw c.readable.quotient (mod-lt (65536 % p * (get_or x.discs h 0 ^ (p - 2) % p)) positive)
-
-  -- the taps by a number that stands for d
+-- the taps by a number that stands for d, at any discrepancy over which the saved quotient stands
+module _ {p n h d : ℕ} {x : Parts} (c : Changeable p n h d x) where
   pub by-sum : (sum : ℕ) {now : List ℕ} → sum % p ≡ d →
-      now ≡ reduced p 143 x.taps (quotient p (sum % p) (get_or x.discs h 0)) (n - get_or x.places h 0)
-      (take (suc (get_or x.sizes h 0)) (block h x.saved)) →
+      ((over : ℕ) → get_or x.quotients h 0 ≡ quotient p (65536 % p) over →
+      now ≡ reduced p 143 x.taps (quotient p (sum % p) over) (n - get_or x.places h 0) (take (suc (get_or x.sizes h 0)) (block h x.saved))) →
       now ≡ reduced_taps p n h d x
-  by-sum sum stands eq =
-      eq
+  by-sum sum stands at =
+      at (get_or x.discs h 0) c.readable.quotient
       ∙ ap
       (λ (y : ℕ).
       reduced p 143 x.taps (quotient p y (get_or x.discs h 0)) (n - get_or x.places h 0) (take (suc (get_or x.sizes h 0)) (block h x.saved)))

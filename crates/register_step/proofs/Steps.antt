@@ -1,9 +1,9 @@
 -- A step on the parts is a step of Algorithm 4 on the state that they hold: it rests where nothing is due, as nothing is asked for or the discrepancy is 0, and
 -- else it is the change by what is due.
 use mathlib.Core.Path.{◌≡◌, refl, sym, ap, subst, ◌∙◌}
-use mathlib.Core.Logic.{◌≢◌, ◌⊎◌, inl, inr, ⊎_elim}
+use mathlib.Core.Logic.{◌≢◌}
 use mathlib.Core.List.{List, []}
-use Prim.Native.Nat.{ℕ, suc, ◌+◌, ◌-◌, ◌*◌, ◌%◌, ◌≤◌, ◌<◌}
+use Prim.Native.Nat.{ℕ, suc, ◌+◌, ◌-◌, ◌*◌, ◌%◌, ◌<◌}
 use native.Mathlib.Decide.{dec_lt, ℕ_discrete}
 use native.Mathlib.Nat.{mod-lt}
 use native.Mathlib.Omega.{arith}
@@ -17,7 +17,7 @@ use Rattle.register.specs.Algorithm4.{State, step}
 use Rattle.register.specs.Register.{discrepancy}
 use Rattle.register.specs.Sequences.{symbol}
 use Rattle.discrepancy.proofs.Products.{length-sequence}
-use Rattle.discrepancy.specs.Discrepancies.{Ending, Loose, due_at, sequence_in}
+use Rattle.discrepancy.specs.Discrepancies.{Ending, due_at, sequence_in}
 use Rattle.register_step.specs.Parts.{Parts, state_of, changed_parts, step_parts, Readable, Changeable, Steppable, Ended, Ready, Stepped}
 use Rattle.register_step.proofs.Change.{own-taps, change-made}
 
@@ -56,22 +56,19 @@ asked p N l σ s n due some = pick (dec_lt (l + (N - length s)) n)
     pick (no early) = absurd (some (due ∙ rw (le-ltb (l + (N - length s)) n (omega arith))))
 
 module _ {p N h long n : ℕ} {symbols : List ℕ} {x : Parts} (a : Steppable p N h long n symbols x) {d : ℕ} where
-  changeable : d < p → d ≡ due_at p N x.length x.taps (sequence_in symbols h long) n → d ≢ 0 → Changeable p n h d x
-  changeable less due some =
+  -- a change by a discrepancy for which a sum stands
+  pub change_asks : 0 < p → (sum : ℕ) → d ≡ sum % p → sum % p ≡ due_at p N x.length x.taps (sequence_in symbols h long) n → d ≢ 0
+      → Changeable p n h d x
+  change_asks positive sum is due some =
       let reach = a.reach in
-      let late = asked p N x.length x.taps (sequence_in symbols h long) n due some in
+      let late = asked p N x.length x.taps (sequence_in symbols h long) n (is ∙ due) some in
       record {
         readable = a.readable;
         round = omega (arith, reach.round, reach.longest);
-        discrepancy = less;
+        discrepancy = rw is (mod-lt sum positive);
         size = reach.grown;
         place = omega (arith, a.place, length-sequence reach);
       }
-
-  -- the change by a discrepancy for which a sum stands
-  pub change_asks : 0 < p → {sum : ℕ} → Loose p sum → d ≡ sum % p → sum % p ≡ due_at p N x.length x.taps (sequence_in symbols h long) n → d ≢ 0
-      → (Loose p sum × (sum % p ≡ d)) × Changeable p n h d x
-  change_asks positive {sum} loose is due some = ((loose, sym is), changeable (rw is (mod-lt sum positive)) (is ∙ due) some)
 
 -- ---- arrays that hold a state
 

@@ -1,4 +1,4 @@
-// The change of what is kept of a state by a discrepancy.
+// The change of what is kept of a state by a discrepancy. Kept as a list of arrays: the C interface lends them one by one, and so they come from `single_step`.
 ghost use Rattle.std.specs.Prelude.{◌≡◌, ◌%◌};
 ghost use Rattle.discrepancy.specs.Discrepancies.{Loose};
 ghost use Rattle.discrepancy.specs.Modulus.{WorkedOut, Moduli};

@@ -1,5 +1,5 @@
 // A step (n, h) of Algorithm 4 by itself, to which no array of the modulus is lent: it is made where the register changes, which it does at few steps where few
-// columns are damaged.
+// columns are damaged. Kept as a list of arrays: the C interface lends them one by one.
 ghost use Rattle.std.specs.Prelude.{◌≡◌};
 ghost use Rattle.discrepancy.specs.Discrepancies.{sequence_in};
 ghost use Rattle.discrepancy.specs.Modulus.{WorkedOut};

@@ -9,7 +9,7 @@ ghost use Rattle.remaining.specs.Testable.{completable_at, passes_row, Testable,
 use crate::row::remaining;
 use columns::{Columns, either, size};
 use erasures::cells::cells_of;
-use field257::powers::{powers, wide};
+use field257::powers::powers;
 use frame::Shape;
 use sequences::zeros::all_zero;
 
@@ -42,17 +42,13 @@ pub fn is_completable(s: Shape, declared: &[u64; 32], marked: Columns, sums: &[u
     ensures { result ≡ meeting_completable s (declared_by declared.now) marked (held_sequences s sums.now) }
 {
     let powers = powers();
-    let rows = s.rows;
-    let held = &sums[..];
     let mut at: usize = 0;
-    let mut h = 0;
-    while h < rows {
-        let to = at + wide(s.checks[h]) as usize;
-        if !row_completable(&powers, marked, cells_of(declared, h), &held[at..to]) {
+    for h in 0..s.rows {
+        let to = at + usize::from(s.checks[h]);
+        if !row_completable(&powers, marked, cells_of(declared, h), &sums[at..to]) {
             return false;
         }
         at = to;
-        h += 1;
     }
     true
 }

@@ -14,10 +14,8 @@ fn add_multiple(totals: &mut [u32; 64], c: u16, sums: &[u16], from: usize, count
     requires { Addable totals.old c sums.now from count }
     ensures { Totals count (grown totals.old c sums.now from) totals.new }
 {
-    let mut j = 0;
-    while j < count {
+    for j in 0..count {
         totals[j] += times(c, sums[from + j]);
-        j += 1;
     }
 }
 
@@ -25,10 +23,8 @@ fn reduce(totals: &[u32; 64], left: &mut [u16])
     requires { length left.old ≤ 64 }
     ensures { left.new ≡ tabulate (length left.old) (λ j. get_or totals.now j 0 % 257) }
 {
-    let mut j = 0;
-    while j < left.len() {
-        left[j] = (totals[j] % 257) as u16;
-        j += 1;
+    for (j, l) in left.iter_mut().enumerate() {
+        *l = (totals[j] % 257) as u16;
     }
 }
 
@@ -42,10 +38,9 @@ pub fn remaining(powers: &[u16; 256], set: Columns, sums: &[u16], left: &mut [u1
     let e = size(set);
     let n = left.len();
     let mut totals = [0u32; 64];
-    let mut k = 0;
-    while k <= e {
+    // Not 0..=e, which ends in one of two ways, each with a proof of its own.
+    for k in 0..e + 1 {
         add_multiple(&mut totals, f[k], sums, e - k, n);
-        k += 1;
     }
     reduce(&totals, left);
 }

@@ -6,7 +6,7 @@ ghost use Rattle.remaining.specs.SequencesLeft.{SequencesLeft};
 use crate::row::remaining;
 use columns::size;
 use erasures::cells::cells_of;
-use field257::powers::{powers, wide};
+use field257::powers::powers;
 use frame::Shape;
 
 // The lengths of the sequences; their symbols, one sequence after the other; how many symbols these are.
@@ -23,24 +23,20 @@ pub fn all_remaining(s: Shape, declared: &[u64; 32], sums: &[u16; 512]) -> Left
     ensures { SequencesLeft s (declared_by declared.now) sums.now result }
 {
     let powers = powers();
-    let rows = s.rows;
-    let held = &sums[..];
     let mut lengths = [0u16; 8];
     let mut symbols = [0u16; 512];
     let mut count: usize = 0;
     let mut at: usize = 0;
-    let mut h = 0;
-    while h < rows {
-        let checks = wide(s.checks[h]) as usize;
+    for h in 0..s.rows {
+        let checks = usize::from(s.checks[h]);
         let cells = cells_of(declared, h);
         let left = checks - size(cells);
         let to = at + checks;
         let end = count + left;
-        remaining(&powers, cells, &held[at..to], &mut symbols[count..end]);
+        remaining(&powers, cells, &sums[at..to], &mut symbols[count..end]);
         lengths[h] = left as u16;
         count = end;
         at = to;
-        h += 1;
     }
     Left {
         lengths,

@@ -4,7 +4,7 @@ use mathlib.Core.Bool.{Bool, true, false}
 use mathlib.Core.List.{List, ◌++◌}
 use Prim.Native.Nat.{ℕ, suc, ◌+◌, ◌-◌, ◌≤◌, ◌<◌}
 use native.Mathlib.Omega.{arith}
-use lib.ListN.{length, get_or, take, drop, replicate}
+use lib.ListN.{length, get_or, take, replicate}
 use lib.Seq.{length-take-le, get_or-take, take_at}
 use Rattle.frame.specs.DeclaredCells.{nothing_declared}
 use Rattle.frame.specs.declared.Shape.{Shape}
@@ -13,9 +13,10 @@ use Rattle.job.specs.Answers.{answered_outcome}
 use Rattle.job.specs.Calls.{arrives_tests, arrives, held_taps, held_mark}
 use Rattle.job.specs.Job.{Arrays, with_taps, with_found}
 use Rattle.job.specs.declared.Answered.{Answered}
-use Rattle.job.specs.declared.Reply.{Reply}
-use Rattle.job.specs.declared.Reply.TheVariants.{Count, Unfinished, Refused}
-use Rattle.lists.proofs.Zeros.{zeros, drop-zeros}
+use Rattle.job.specs.declared.Progress.{Progress}
+use Rattle.job.specs.declared.Progress.TheVariants as Progress
+use Rattle.refusal.specs.declared.Refusal.{Refusal}
+use Rattle.std.specs.Prelude.{Result, Ok, Err}
 use Rattle.slices.specs.Synthesis.{Synthesis, ended, size}
 use Rattle.searching.specs.Arriving.{Endable, all_arrays, arriving, goes_on}
 
@@ -25,10 +26,10 @@ unfolding arrives_tests arrives
 goes-on-given s a f e g = rw (g, e) refl
 
 -- an array that holds already what is written
-same_after : (x : Reply) (l : List ℕ) → after x l l ≡ l
-same_after (Count c) l = refl
-same_after Unfinished l = refl
-same_after (Refused why) l = refl
+same_after : (x : Result Progress Refusal) (l : List ℕ) → after x l l ≡ l
+same_after (Ok (Progress.Columns c)) l = refl
+same_after (Ok Progress.Unfinished) l = refl
+same_after (Err why) l = refl
 
 -- by the register that stands in a buffer
 pub ends-given : (s : Shape) (sums taps left declared : List ℕ) (x : Synthesis) (f : List ℕ) (r : Answered) → ended x ≡ true → (buffer : List ℕ) (mark : Bool)
@@ -46,14 +47,13 @@ ends-given s sums taps left declared x f r e buffer mark own marked located =
 
 -- ---- the register, copied to a buffer of 65 entries
 
--- where w of its entries are copied, which are its taps
-pub copies : (l w : ℕ) (register : List ℕ) {copied : List ℕ} → w ≡ suc l → l ≤ 64 → length register ≡ 144 → copied ≡ take w register
-    → (copied ++ drop w (replicate 65 0) ≡ take (suc l) register ++ replicate (64 - l) 0) × (length (take (suc l) register) ≡ suc l)
-copies l w register is short width all =
-    let room : 65 ≡ suc l + (64 - l) = omega arith in (
-      ap₂ (λ (σ : List ℕ) (n : ℕ). σ ++ drop n (replicate 65 0)) (all ∙ ap (λ (n : ℕ). take n register) is) is
-          ∙ ap (λ (m : List ℕ). take (suc l) register ++ m) (ap (λ (n : ℕ). drop (suc l) (zeros n)) room ∙ drop-zeros (suc l) (64 - l)),
-      length-take-le (suc l) register (omega arith),
+pub copies : (l w : ℕ) (register : List ℕ) → w ≡ suc l → l ≤ 64 → length register ≡ 144
+    → (take w register ++ replicate (65 - length (take w register)) 0 ≡ take (suc l) register ++ replicate (64 - l) 0) × (length (take (suc l) register) ≡ suc l)
+copies l w register is short width =
+    let own : length (take (suc l) register) ≡ suc l = length-take-le (suc l) register (omega arith) in (
+      ap (λ (n : ℕ). take n register ++ replicate (65 - length (take n register)) 0) is
+          ∙ ap (λ (n : ℕ). take (suc l) register ++ replicate n 0) (let n : 65 - length (take (suc l) register) ≡ 64 - l = omega arith in n),
+      own,
     )
 
 module _ (c : ℕ) (register buffer : List ℕ) (short : c ≤ 64)

@@ -3,6 +3,7 @@ use mathlib.Core.Path.{◌≡◌, refl, sym, ap, ◌∙◌}
 use mathlib.Core.Bool.{true, false, and-eq-true_iff}
 use mathlib.Core.List.{List, []}
 use Prim.Native.Nat.{ℕ}
+use Rattle.std.specs.Prelude.{Ok, Err}
 use Rattle.decoding.specs.Remaining.{all_remaining}
 use Rattle.frame.specs.DeclaredCells.{declared_by, as_read, read_tests}
 use Rattle.frame.specs.Frame.{held_sums, held_sequences}
@@ -11,7 +12,6 @@ use Rattle.job.specs.Calls.{Outcome, start, next, peek, step, refusing, stepped}
 use Rattle.job.specs.Job.{Arrays, Job, beside, is_empty, is_unfinished, is_unfinished_phase, step_sound}
 use Rattle.job.specs.declared.Answered.{Answered}
 use Rattle.job.specs.declared.Head.{Head}
-use Rattle.job.specs.declared.Peeked.TheVariants.{Length, Refused}
 use Rattle.refusal.specs.Outcome.{passed, refused, outcome}
 use Rattle.refusal.specs.declared.Refusal.TheVariants.{Empty, NotUnfinished}
 use Rattle.refusal.proofs.Outcomes.{given-passed, given-refused}
@@ -51,7 +51,7 @@ module _ (j : Job) where
   unfolding step
   next-empty e = rw e refl
 
-  pub peek-empty : is_empty j ≡ true → peek_outcome j (Refused Empty) ≡ step j peek
+  pub peek-empty : is_empty j ≡ true → peek_outcome j (Err Empty) ≡ step j peek
   unfolding step
   peek-empty e = rw e refl
 
@@ -64,11 +64,11 @@ module _ (j : Job) where
     unfolding step
     next-goes-on e = rw (full, e) refl
 
-    pub peek-other : is_unfinished j ≡ false → peek_outcome j (Refused NotUnfinished) ≡ step j peek
+    pub peek-other : is_unfinished j ≡ false → peek_outcome j (Err NotUnfinished) ≡ step j peek
     unfolding step
     peek-other e = rw (full, e) refl
 
-    pub peek-gives : is_unfinished j ≡ true → (l : ℕ) → l ≡ found j.arrays.synthesis → peek_outcome j (Length l) ≡ step j peek
+    pub peek-gives : is_unfinished j ≡ true → (l : ℕ) → l ≡ found j.arrays.synthesis → peek_outcome j (Ok l) ≡ step j peek
     unfolding step
     peek-gives e l is = rw (full, e, is) refl
 

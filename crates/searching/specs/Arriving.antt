@@ -1,5 +1,5 @@
 -- What a search has come to: what its end asks, and what is given.
-use Rattle.std.specs.Prelude.{◌≡◌, true, List, ℕ, ◌≤◌, ◌<◌, get_or}
+use Rattle.std.specs.Prelude.{◌≡◌, true, List, ℕ, ◌≤◌, ◌<◌, get_or, Ok}
 use Rattle.decoding.specs.Remaining.{all_remaining}
 use Rattle.ends.specs.Ends.{Startable}
 use Rattle.frame.specs.DeclaredCells.{declared_by, declarable}
@@ -10,7 +10,7 @@ use Rattle.job.specs.Answers.{answered_outcome}
 use Rattle.job.specs.Calls.{Outcome, refusing, arrives_tests, arrives}
 use Rattle.job.specs.Job.{Arrays, no_columns, shaped_job, unfinished_head, step_sound}
 use Rattle.job.specs.declared.Answered.{Answered}
-use Rattle.job.specs.declared.Reply.TheVariants.{Unfinished}
+use Rattle.job.specs.declared.Progress.TheVariants.{Unfinished}
 use Rattle.refusal.specs.Order.{first_of}
 use Rattle.slices.specs.Synthesis.{Synthesis, synthesis, begun, advanced}
 
@@ -26,7 +26,7 @@ pub record Endable (s : Shape) (declared sums counts lengths register : List ℕ
 
 -- that it goes on
 abbrev pub goes_on : Shape → Answered
-goes_on s = record { reply = Unfinished; columns = no_columns; tried = 0; head = unfinished_head s }
+goes_on s = record { reply = Ok Unfinished; columns = no_columns; tried = 0; head = unfinished_head s }
 
 abbrev pub all_arrays : (sums taps declared : List ℕ) → Synthesis → Arrays
 all_arrays sums taps declared x = record { sums = sums; taps = taps; declared = declared; synthesis = x }

@@ -3,14 +3,13 @@ ghost use Rattle.std.specs.Prelude.{◌≡◌, true, [], ◌++◌, suc, ◌-◌,
 ghost use Rattle.searching.specs.Arriving.{Endable, ArriveDoes, goes_on};
 ghost use Rattle.slices.specs.Synthesis.{synthesis, ended};
 
-use columns::empty;
 use ends::alone;
 use erasures::cells::nothing;
 use frame::Shape;
 use from_register::locate_by;
 use heads::states::unfinished;
-use job::{Answered, Reply};
-use reduction::copy::copy;
+use job::{Answered, Progress};
+use lists::arrays::padded;
 
 // The register of a length, with zeros after it.
 fn held_taps(register: &[u16; 144], l: usize) -> [u16; 65]
@@ -18,23 +17,19 @@ fn held_taps(register: &[u16; 144], l: usize) -> [u16; 65]
     ensures value { result ≡ take (suc l) register.now ++ replicate (64 - l) 0 }
     ensures register_len { length (take (suc l) register.now) ≡ suc l }
 {
-    let mut taps = [0u16; 65];
     let end = l + 1;
-    let held = &register[..];
-    copy(&mut taps[0..end], &held[0..end]);
-    taps
+    padded(&register[..end])
 }
 
+#[tactic(auto, unfolding(job::specs::Job::no_columns))]
 pub fn goes_on(s: Shape) -> Answered
     ensures { result ≡ goes_on s }
 {
-    let columns = empty();
-    let head = unfinished(s);
     Answered {
-        reply: Reply::Unfinished,
-        columns,
+        reply: Ok(Progress::Unfinished),
+        columns: columns::empty(),
         tried: 0,
-        head,
+        head: unfinished(s),
     }
 }
 
@@ -58,8 +53,8 @@ pub fn arrive(
     if counts[1] != counts[0] {
         return goes_on(s);
     }
-    let l = counts[4] as usize;
+    let l = usize::from(counts[4]);
     let found = held_taps(register, l);
-    let mark = alone(counts[0] as usize, lengths, s.rows, l, places, sizes);
+    let mark = alone(usize::from(counts[0]), lengths, s.rows, l, places, sizes);
     locate_by(s, nothing(declared), declared, sums, l, mark, &found, taps)
 }

@@ -1,4 +1,5 @@
-// The arrays before the first step, of what is left of held check sums.
+// The arrays before the first step, of what is left of held check sums. Here and in the crates above, the arrays of a search and of a job are lent one by one:
+// the C interface holds and lends them so, and a struct of them would have to be copied for each call.
 ghost use Rattle.std.specs.Prelude.{◌≡◌, true, ℕ, ◌<◌, get_or, take};
 ghost use Rattle.decoding.specs.Remaining.{all_remaining};
 ghost use Rattle.frame.specs.DeclaredCells.{declared_by};
@@ -38,8 +39,8 @@ fn begin_lent(
         quotients.old register.old saved.old) }
 {
     begin(
-        &long[0..rows],
-        &told[0..all],
+        &long[..rows],
+        &told[..all],
         counts,
         lengths,
         symbols,
@@ -74,10 +75,9 @@ pub fn begin_whole(
         (synthesis counts.old lengths.old symbols.old places.old sizes.old discs.old
         quotients.old register.old saved.old) }
 {
-    let checks = s.checks;
     begin_lent(
         s.rows,
-        checks,
+        s.checks,
         sum_count(s),
         sums,
         counts,
@@ -115,10 +115,19 @@ pub fn begin_left(
         quotients.old register.old saved.old) }
 {
     let left = all_remaining(s, declared, sums);
-    let long = left.lengths;
-    let told = left.symbols;
     begin_lent(
-        s.rows, long, left.count, &told, counts, lengths, symbols, places, sizes, discs, quotients,
-        register, saved,
+        s.rows,
+        left.lengths,
+        left.count,
+        &left.symbols,
+        counts,
+        lengths,
+        symbols,
+        places,
+        sizes,
+        discs,
+        quotients,
+        register,
+        saved,
     );
 }

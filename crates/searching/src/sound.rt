@@ -1,38 +1,21 @@
 // Whether the next step can be made of a job's arrays. What only the last step reads is looked at before the last step alone.
-ghost use Rattle.std.specs.Prelude.{◌≡◌, true, List, [], ℕ, ◌<◌, ltb, get_or};
+ghost use Rattle.std.specs.Prelude.{◌≡◌, true, List, [], ℕ, ◌<◌, get_or};
 ghost use Rattle.frame.specs.Shape.{is_shape};
 ghost use Rattle.job.specs.Job.{end_sound, step_sound};
-ghost use Rattle.lists.specs.Tabulate.{every};
 ghost use Rattle.searching.specs.Arriving.{all_arrays};
 ghost use Rattle.slices.specs.Synthesis.{synthesis, last_step_of, no_synthesis};
 
 use erasures::cells::is_declarable;
 use frame::Shape;
+use shapes::symbols::all_below;
 use slices::sound::is_sound;
 
-// All sums are read, with no way out between, so that several are tested at once.
-fn residues(sums: &[u16; 512]) -> bool
-    ensures { result ≡ every 512 (λ k. ltb (get_or sums.now k 0) 257) }
-{
-    let mut all = true;
-    let mut k = 0;
-    while k < 512 {
-        if sums[k] > 256 {
-            all = false;
-        }
-        k += 1;
-    }
-    all
-}
-
+#[tactic(auto, unfolding(job::specs::Job::end_sound))]
 fn is_end_sound(s: Shape, sums: &[u16; 512], held: &[u64; 32]) -> bool
     requires { is_shape s ≡ true }
     ensures { result ≡ end_sound s (all_arrays sums.now [] held.now no_synthesis) }
 {
-    if !residues(sums) {
-        return false;
-    }
-    is_declarable(s, held)
+    all_below(sums) && is_declarable(s, held)
 }
 
 // The next step of `count` sequences is the last one.
@@ -41,10 +24,7 @@ pub fn is_last(count: usize, counts: &[u16; 5]) -> bool
     requires counts_bound_2 { get_or counts.now 1 0 < get_or counts.now 0 0 }
     ensures { result ≡ last_step_of count (synthesis counts.now [] [] [] [] [] [] [] []) }
 {
-    if counts[2] as usize != count - 1 {
-        return false;
-    }
-    counts[1] == counts[0] - 1
+    usize::from(counts[2]) == count - 1 && counts[1] == counts[0] - 1
 }
 
 pub fn is_step_sound(
@@ -66,13 +46,7 @@ pub fn is_step_sound(
         (synthesis counts.now lengths.now symbols.now places.now sizes.now discs.now
         quotients.now register.now saved.now)) }
 {
-    if !is_sound(
+    is_sound(
         s.rows, counts, lengths, symbols, places, sizes, discs, quotients, register, saved,
-    ) {
-        return false;
-    }
-    if !is_last(s.rows, counts) {
-        return true;
-    }
-    is_end_sound(s, sums, held)
+    ) && (!is_last(s.rows, counts) || is_end_sound(s, sums, held))
 }

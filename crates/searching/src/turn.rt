@@ -10,7 +10,6 @@ use crate::arrive::{arrive, goes_on};
 use crate::begin::{begin_left, begin_whole};
 use frame::Shape;
 use job::Answered;
-use lists::lend::lend;
 use slices::advance::advance;
 
 // With nothing declared. Each row has a check, so a search begun from all sums never ends at once, and where it has come to is not looked at.
@@ -36,7 +35,6 @@ pub fn start_whole(
         (synthesis counts.new lengths.new symbols.new places.new sizes.new discs.new
         quotients.new register.new saved.new) }
 {
-    lend(sums);
     begin_whole(
         s, sums, counts, lengths, symbols, places, sizes, discs, quotients, register, saved,
     );
@@ -100,7 +98,6 @@ pub fn step_from(
         (synthesis counts.new lengths.now symbols.now places.new sizes.new discs.new
         quotients.new register.new saved.new) }
 {
-    lend(sums);
     advance(
         s.rows, counts, lengths, symbols, places, sizes, discs, quotients, register, saved,
     );

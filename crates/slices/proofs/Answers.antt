@@ -1,10 +1,10 @@
 -- How the answers of tests that are made one after the other come together.
 use mathlib.Core.Path.{◌≡◌, sym, ap, ◌∙◌}
 use mathlib.Core.Bool.{Bool, true, false, ◌&&◌, ◌||◌}
-use Prim.Native.Nat.{ℕ, suc, ◌+◌, ◌≤◌, ◌<◌}
+use Prim.Native.Nat.{ℕ, ◌≤◌, ◌<◌}
 use native.Mathlib.Omega.{arith}
-use lib.Dec.{leb, ltb}
-use borrow.Author.Tests.{le-leb, lt-leb, lt-ltb, le-ltb}
+use lib.Dec.{ltb}
+use borrow.Author.Tests.{lt-ltb, le-ltb}
 use Rattle.slices.specs.Synthesis.{Synthesis, counts_sound}
 use Rattle.slices.proofs.Tests.{counts_say}
 
@@ -32,25 +32,6 @@ residue x h = lt-ltb x 257 (omega arith)
 
 pub no-residue : (x : ℕ) → 256 < x → ltb x 257 ≡ false
 no-residue x h = le-ltb x 257 h
-
-pub within-next : (m n : ℕ) → m ≤ n + 1 → leb m (suc n) ≡ true
-within-next m n h = le-leb m (suc n) (omega arith)
-
-pub past_next : (m n : ℕ) → n + 1 < m → leb m (suc n) ≡ false
-past_next m n h = lt-leb m (suc n) (omega arith)
-
-pub next-within : (n m : ℕ) → n + 1 ≤ m → leb (suc n) m ≡ true
-next-within n m h = le-leb (suc n) m (omega arith)
-
-pub next_past : (n m : ℕ) → m < n + 1 → leb (suc n) m ≡ false
-next_past n m h = lt-leb (suc n) m (omega arith)
-
-pub one_further : (a m : ℕ) → a + m + 1 ≡ a + suc m
-one_further a m = omega arith
-
--- a bound that was worked out
-pub at_most : (m bound : ℕ) {r : ℕ} → r ≡ bound → (m ≤ r → leb m bound ≡ true) × (r < m → leb m bound ≡ false)
-at_most m bound e = (λ h. le-leb m bound (omega arith), λ h. lt-leb m bound (omega arith))
 
 -- ---- the numbers
 

@@ -1,7 +1,7 @@
 -- The arrays before the first step hold what `begun` says.
 use mathlib.Core.Path.{◌≡◌, sym, ap, ap₂, ◌∙◌}
 use mathlib.Core.Bool.{Bool, cond}
-use mathlib.Core.List.{List, [], ◌∷◌}
+use mathlib.Core.List.{List, [], ◌∷◌, ◌++◌}
 use Prim.Native.Nat.{ℕ, suc, ◌+◌, ◌-◌, ◌*◌, ◌%◌, ◌≤◌, ◌<◌}
 use native.Mathlib.Decide.{dec_lt}
 use native.Mathlib.Nat.{add-sub_cancel_left}
@@ -9,7 +9,9 @@ use native.Mathlib.Omega.{arith}
 use borrow.Author.Tests.{lt-ltb, le-ltb}
 use lib.Dec.{ltb}
 use lib.ListN.{length, get_or, take, drop, set, replicate, length-replicate, get_or-eq_default}
-use Rattle.lists.proofs.Filling.{Filled, by_entries}
+use lib.Seq.{get_or-take, length-take-le}
+use Rattle.lists.proofs.Filling.{by_entries}
+use Rattle.lists.proofs.Padded.{padded_entry, padded_length}
 use Rattle.lists.proofs.Tabulated.{get_d_tabulate, length-tabulate, tabulate_ext, tabulate-zero}
 use Rattle.lists.proofs.Zeros.{zeros, zeros-entry}
 use Rattle.lists.specs.Parts.{replaced}
@@ -29,16 +31,25 @@ use Rattle.slices.specs.Synthesis.{Synthesis, begun, cleared_over, synthesis}
 
 -- ---- the lengths
 
-pub lengths-filled : (o : Order) (k : ℕ) (l : List ℕ) → Filled (λ h. get_or o.lengths h 0) (zeros 8) k l → l ≡ lengths_of o k
-lengths-filled o k l filled =
-    filled.entries
-    ∙ tabulate_ext 8 (λ h. cond (ltb h k) (get_or o.lengths h 0) (get_or (zeros 8) h 0)) (λ h. cond (ltb h k) (get_or o.lengths h 0) 0)
-    (λ h b. ap (cond (ltb h k) (get_or o.lengths h 0)) (zeros-entry 8 h))
+module _ (o : Order) (k : ℕ) (few : k ≤ 8) (width : length o.lengths ≡ 8) where
+  abbrev first : List ℕ
+  first = take k o.lengths
+
+  length-first : length first ≡ k
+  length-first = length-take-le k o.lengths (omega (arith, width))
+
+  entry : (h : ℕ) → Dec (h < k) → get_or first h 0 ≡ cond (ltb h k) (get_or o.lengths h 0) 0
+  entry h (yes b) = get_or-take k o.lengths h 0 b ∙ sym (ap (λ (t : Bool). cond t (get_or o.lengths h 0) 0) (lt-ltb h k b))
+  entry h (no b) =
+      get_or-eq_default first 0 (let e : length first ≤ h = omega (arith, length-first) in e)
+      ∙ sym (ap (λ (t : Bool). cond t (get_or o.lengths h 0) 0) (le-ltb h k (omega arith)))
+
+  pub lengths-padded : first ++ replicate (8 - length first) 0 ≡ lengths_of o k
+  lengths-padded =
+      by_entries 8 (λ h. cond (ltb h k) (get_or o.lengths h 0) 0) (first ++ replicate (8 - length first) 0)
+      (padded_length first 8 (omega (arith, length-first))) (λ h b. padded_entry first (8 - length first) h ∙ entry h (dec_lt h k))
 
 -- ---- zeros
-
-pub zeros_are : (n : ℕ) → zeros n ≡ tabulate n (λ i. 0)
-zeros_are n = by_entries n (λ i. 0) (zeros n) (length-replicate {A = ℕ} n 0) (λ i b. zeros-entry n i)
 
 -- Zeros are the same backwards: the fronts that are cleared are sequences put into their blocks.
 abbrev front : ℕ → List ℕ

@@ -8,7 +8,6 @@ use Rattle.lists.proofs.Truth.{same_truth}
 use Rattle.slices.specs.Same.{SameSynthesis}
 use Rattle.slices.specs.Synthesis.{Synthesis, synthesis, all_rounds, rounds, steps, long}
 use Rattle.slices.specs.Synthesis.{synthesis_sound}
-use Rattle.slices.proofs.Starting.{shorter}
 use Rattle.slices.proofs.Tests.{Tested, tests_say}
 
 symmetric : {x y : Synthesis} → SameSynthesis x y → SameSynthesis y x

@@ -39,7 +39,7 @@ module _ (k : ℕ) (x : Synthesis) (few : k ≤ 8) (sound : synthesis_sound k x 
   pub size-grown : size x ≤ suc (rounds x)
   size-grown = tested.counts.grown
 
-  pub long-within : long x ≤ all_rounds x
+  long-within : long x ≤ all_rounds x
   long-within = tested.counts.shorter (steps x) (omega (arith, steps-left))
 
   module _ (width : length x.taps ≡ 144) (saved-width : length x.saved ≡ 1152) where

@@ -1,10 +1,9 @@
-// One step further.
+// One step further. The arrays are lent one by one, as the C interface lends them.
 ghost use Rattle.std.specs.Prelude.{◌≡◌, true, ◌≤◌};
 ghost use Rattle.discrepancy.specs.Modulus.{WorkedOut};
 ghost use Rattle.slices.specs.Synthesis.{synthesis, synthesis_sound, advanced};
 
 use discrepancy::Modulus;
-use lists::lend::lend;
 use register_step::single::single_step;
 
 // 257 with what is worked out of it.
@@ -41,21 +40,18 @@ pub fn advance(
         ≡ advanced count (synthesis counts.old lengths.now symbols.now places.old sizes.old
         discs.old quotients.old taps.old saved.old) }
 {
-    lend(counts);
-    lend(taps);
-    lend(saved);
     let f = modulus();
-    let longest = counts[0] as usize;
-    let n = counts[1] as usize;
-    let h = counts[2] as usize;
+    let longest = usize::from(counts[0]);
+    let n = usize::from(counts[1]);
+    let h = usize::from(counts[2]);
     let l = single_step(
         f,
         longest,
         symbols,
         h,
-        lengths[h] as usize,
+        usize::from(lengths[h]),
         n + 1,
-        counts[4] as usize,
+        usize::from(counts[4]),
         places,
         sizes,
         discs,

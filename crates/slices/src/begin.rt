@@ -1,10 +1,11 @@
-// The arrays before the first step.
-ghost use Rattle.std.specs.Prelude.{◌≡◌, ◌≤◌, length, replicate};
+// The arrays before the first step. They are lent one by one, as the C interface lends them.
+ghost use Rattle.std.specs.Prelude.{◌≡◌, ◌≤◌, length};
 ghost use Rattle.register.specs.Sequences.{split};
 ghost use Rattle.slices.specs.Lent.{Lent, lengths_of};
 ghost use Rattle.slices.specs.Synthesis.{synthesis, begun, cleared_over};
 
 use ends::start;
+use lists::arrays::padded;
 use sequences::Order;
 use sequences::backwards::all_backwards;
 use sequences::check::longest;
@@ -15,23 +16,7 @@ fn lengths_of(order: Order, count: usize) -> [u16; 8]
     requires { count ≤ 8 }
     ensures { result ≡ lengths_of order count }
 {
-    let mut lengths = [0u16; 8];
-    let mut h = 0;
-    while h < count {
-        lengths[h] = order.lengths[h];
-        h += 1;
-    }
-    lengths
-}
-
-fn zero(part: &mut [u16])
-    ensures { part.new ≡ replicate (length part.old) 0 }
-{
-    let mut i = 0;
-    while i < part.len() {
-        part[i] = 0;
-        i += 1;
-    }
+    padded(&order.lengths[..count])
 }
 
 // Only the front of each block: no step reads more of a block that was never kept.
@@ -39,12 +24,9 @@ fn clear(saved: &mut [u16])
     requires { length saved.old ≡ 1152 }
     ensures { saved.new ≡ cleared_over saved.old }
 {
-    let mut h = 0;
-    while h < 8 {
+    for h in 0..8 {
         let a = h * 144;
-        let e = a + 16;
-        zero(&mut saved[a..e]);
-        h += 1;
+        saved[a..a + 16].fill(0);
     }
 }
 
@@ -78,9 +60,9 @@ pub fn begin(
     *counts = [most as u16, 0, 0, 0, 0];
     *sorted = long;
     *places = start(most, &long, 8);
-    *sizes = [0u16; 8];
-    *discs = [1u16; 8];
-    *quotients = [1u16; 8];
-    *taps = [0u16; 144];
+    *sizes = [0; 8];
+    *discs = [1; 8];
+    *quotients = [1; 8];
+    *taps = [0; 144];
     taps[0] = 1;
 }

@@ -3,9 +3,8 @@ ghost use Rattle.slicing.specs.Slices.{PeekDoes};
 ghost use Rattle.slices.specs.Synthesis.{synthesis};
 
 use crate::unfinished::counts_as_unfinished;
-use field257::powers::wide;
 use heads::sound::counts_as_empty;
-use job::{Head, Peeked};
+use job::Head;
 use refusal::Refusal;
 
 pub fn peek(
@@ -21,19 +20,19 @@ pub fn peek(
     quotients: &[u16; 8],
     register: &[u16; 144],
     saved: &[u16; 1152],
-) -> Peeked
+) -> Result<usize, Refusal>
     ensures { PeekDoes j sums.now held.now
         (synthesis counts.now lengths.now symbols.now places.now sizes.now discs.now
         quotients.now register.now saved.now)
         result }
 {
     if counts_as_empty(j) {
-        return Peeked::Refused(Refusal::Empty);
+        return Err(Refusal::Empty);
     }
     if !counts_as_unfinished(
         j, sums, held, counts, lengths, symbols, places, sizes, discs, quotients, register, saved,
     ) {
-        return Peeked::Refused(Refusal::NotUnfinished);
+        return Err(Refusal::NotUnfinished);
     }
-    Peeked::Length(wide(counts[3]) as usize)
+    Ok(usize::from(counts[3]))
 }

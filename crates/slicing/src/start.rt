@@ -9,7 +9,7 @@ use erasures::reading::{check_read, sums_read};
 use heads::sound::counts_as_empty;
 use heads::states::refuse;
 use job::{Answered, Head};
-use refusal::{Checked, Refusal};
+use refusal::Refusal;
 use searching::turn::start_left;
 use shapes::symbols::check_frame;
 
@@ -39,9 +39,8 @@ fn start_whole(
         (synthesis counts.new lengths.new symbols.new places.new sizes.new discs.new
         quotients.new register.new saved.new) }
 {
-    let checked = check_frame(j.shape, frame);
-    if let Checked::Refuse(r) = checked {
-        return refuse(j, r);
+    if let Err(why) = check_frame(j.shape, frame) {
+        return refuse(j, why);
     }
     write_sums(j.shape, frame, sums);
     *held = *declared;
@@ -76,9 +75,8 @@ fn start_read(
         (synthesis counts.new lengths.new symbols.new places.new sizes.new discs.new
         quotients.new register.new saved.new) }
 {
-    let checked = check_read(j.shape, declared, frame);
-    if let Checked::Refuse(r) = checked {
-        return refuse(j, r);
+    if let Err(why) = check_read(j.shape, declared, frame) {
+        return refuse(j, why);
     }
     *sums = sums_read(j.shape, declared, frame);
     *held = *declared;
@@ -116,13 +114,14 @@ pub fn start(
         return refuse(j, Refusal::Empty);
     }
     if nothing(declared) {
-        return start_whole(
+        start_whole(
             j, sums, taps, held, counts, lengths, symbols, places, sizes, discs, quotients,
             register, saved, declared, frame,
-        );
+        )
+    } else {
+        start_read(
+            j, sums, taps, held, counts, lengths, symbols, places, sizes, discs, quotients,
+            register, saved, declared, frame,
+        )
     }
-    start_read(
-        j, sums, taps, held, counts, lengths, symbols, places, sizes, discs, quotients, register,
-        saved, declared, frame,
-    )
 }

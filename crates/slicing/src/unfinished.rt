@@ -28,12 +28,9 @@ pub fn counts_as_unfinished(
         (synthesis counts.now lengths.now symbols.now places.now sizes.now discs.now
         quotients.now register.now saved.now))) }
 {
-    let phase = j.phase;
-    if !is_unfinished(phase) {
-        return false;
-    }
-    is_step_sound(
-        j.shape, sums, held, counts, lengths, symbols, places, sizes, discs, quotients, register,
-        saved,
-    )
+    is_unfinished(j.phase)
+        && is_step_sound(
+            j.shape, sums, held, counts, lengths, symbols, places, sizes, discs, quotients,
+            register, saved,
+        )
 }

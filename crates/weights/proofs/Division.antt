@@ -1,9 +1,9 @@
 -- Synthetic division, coefficient after coefficient, and what it gives: where f is g times 1 − x·z, the quotient is g.
 use mathlib.Core.Path.{◌≡◌, refl, sym, ap, ap₂, ◌∙◌}
 use mathlib.Core.List.{List}
-use Prim.Native.Nat.{ℕ, zero, suc, ◌+◌, ◌*◌, ◌%◌, ◌≤◌, ◌<◌}
+use Prim.Native.Nat.{ℕ, zero, suc, ◌+◌, ◌*◌, ◌%◌, ◌<◌}
 use native.Mathlib.Decide.{dec_lt}
-use native.Mathlib.Nat.{mod-lt, mul-le-mul}
+use native.Mathlib.Nat.{mod-lt}
 use native.Mathlib.Numerals.{add-one}
 use native.Mathlib.Omega.{arith}
 use lib.Dec.{lit<}
@@ -61,6 +61,3 @@ module _ (f : List ℕ) (x : ℕ) (from : List ℕ) where
           last = next ∙ ap (carried f x) (sym (add-one k));
           small = mod-lt (c + x * carry) (lit< tt);
         }
-
-    pub carry-fits : x < 257 → x * carry ≤ 256 * 256
-    carry-fits h = mul-le-mul (let l : x ≤ 256 = omega arith in l) (let s = a.small in let l : carry ≤ 256 = omega arith in l)

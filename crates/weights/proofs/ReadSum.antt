@@ -4,10 +4,10 @@ use mathlib.Core.List.{List}
 use Prim.Native.Nat.{ℕ, suc, ◌+◌, ◌-◌, ◌*◌, ◌%◌, ◌≤◌, ◌<◌}
 use native.Mathlib.Nat.{mul-le-mul}
 use native.Mathlib.Omega.{arith}
-use mir.Syntax.{w16, w32}
+use mir.Syntax.{w16}
 use mir.Val.{Fits}
 use lib.ListN.{length, get_or}
-use Rattle.lists.proofs.Summing.{Summed, summed-more, summed-most, summed-all}
+use Rattle.lists.proofs.Summing.{Summed, summed-more, summed-all}
 use Rattle.weights.specs.Weights.{symbol_read}
 
 module _ (coefficients sums : List ℕ) where
@@ -27,9 +27,6 @@ module _ (coefficients sums : List ℕ) where
       summed-more m (65535 * 256) term k t a r h
       (e ∙ ap (λ (j : ℕ). get_or coefficients k 0 * get_or sums j 0) (let q : m - 1 - k ≡ m - suc k = omega arith in q))
       (let l = mul-le-mul (let c : get_or coefficients k 0 ≤ 65535 = omega arith in c) (let s : get_or sums (m - 1 - k) 0 ≤ 256 = omega arith in s) in omega arith)
-
-  pub read_fits : (k t : ℕ) → Read k t → m ≤ 64 → Fits w32 t
-  read_fits k t a few = let l = summed-most m (65535 * 256) term k t a in omega arith
 
   pub read_all : (k t : ℕ) → Read k t → m ≤ k → t % 257 ≡ symbol_read coefficients sums
   unfolding symbol_read

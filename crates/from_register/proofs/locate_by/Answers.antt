@@ -37,9 +37,6 @@ returns-then-not-reaches c =
 pub overflow_add-end : goal.overflow_add-end
 overflow_add-end c = record { fits = omega (arith, c.requires.short) }
 
-pub slice_bounds-sought_columns-end : goal.slice_bounds-sought_columns-end
-slice_bounds-sought_columns-end c = let whole = c.held-1.given in omega (arith, c.requires.short, whole)
-
 pub sought_columns-sought-requires : goal.sought_columns-sought-requires
 sought_columns-sought-requires c = few-columns c.requires
 

@@ -7,11 +7,10 @@ use Rattle.rounds.proofs.round.Goals as goal
 pub loop-h-init : goal.loop-h-init
 loop-h-init c = let pre = c.requires in round-begins pre.posed.running _ pre.made
 
-pub step-requires : goal.step-requires
-step-requires c =
+pub step-requires-clause-steppable : goal.step-requires-clause-steppable
+step-requires-clause-steppable c =
     let pre = c.requires in
-    let x = pre.posed in
-    record { worked_out = x.worked_out; moduli = x.moduli; steppable = steppable x.running pre.n_lt_longest c.loop-h-test.true c.loop-h.invariant }
+    steppable pre.posed.running pre.n_lt_longest c.loop-h-test.true c.loop-h.invariant
 
 pub loop-h-preserved : goal.loop-h-preserved
 loop-h-preserved c =

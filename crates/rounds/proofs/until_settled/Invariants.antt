@@ -1,7 +1,6 @@
 -- `until_settled` makes the rounds that may change something. The invariant: n rounds are made, n being the number of rounds at the last look.
 use mathlib.Core.Path.{◌≡◌}
-use mathlib.Core.List.{List, [], ◌∷◌}
-use Prim.Native.Nat.{ℕ}
+use mathlib.Core.List.{[], ◌∷◌}
 use lib.ListN.{get_or}
 use Rattle.rounds.specs.Posed.{RoundsMade}
 use Rattle.rounds.proofs.until_settled.Given as goal

@@ -1,19 +1,10 @@
 use native.Mathlib.Omega.{arith}
 use Rattle.lists.proofs.Filling.{filled-all}
-use Rattle.weights.proofs.Division.{divided_none, divided_more, carry-fits}
+use Rattle.weights.proofs.Division.{divided_none, divided_more}
 use Rattle.weights.proofs.divide.Goals as goal
 
 pub loop-k-init : goal.loop-k-init
 loop-k-init c = divided_none _ _ _
-
-pub bounds-f-k : goal.bounds-f-k
-bounds-f-k c = let s = c.loop-k.invariant.filled.size in omega arith
-
-pub overflow_mul-carry : goal.overflow_mul-carry
-overflow_mul-carry c = omega (arith, carry-fits _ _ _ _ _ _ c.loop-k.invariant c.requires.0)
-
-pub overflow_add-carry : goal.overflow_add-carry
-overflow_add-carry c = omega (arith, carry-fits _ _ _ _ _ _ c.loop-k.invariant c.requires.0)
 
 pub loop-k-preserved : goal.loop-k-preserved
 loop-k-preserved c = divided_more _ _ _ _ _ _ c.loop-k.invariant c.from.result (omega arith) c.from.ensures

@@ -1,7 +1,6 @@
 -- `weights::weigh` meets its contract.
 use mathlib.Core.Path.{◌≡◌, ap, ◌∙◌}
 use Prim.Native.Nat.{ℕ, suc}
-use native.Mathlib.Omega.{arith}
 use lib.ListN.{length}
 use Rattle.field257.specs.Powers.{locator_of}
 use Rattle.lists.specs.Tabulate.{tabulate}
@@ -16,9 +15,6 @@ use Rattle.weights.proofs.weigh.Goals.{After-from}
 -- the locator of the column
 looked-up : (c : After-from) → c.from.result ≡ locator_of c.args.i
 looked-up c = c.from.ensures ∙ c.entry.ensures.power c.requires.powers_known
-
-pub divide-requires : goal.divide-requires
-divide-requires c = (omega (arith, looked-up (goal.at.divide-requires c).After-from), c.requires.few)
 
 pub factor-c-requires : goal.factor-c-requires
 factor-c-requires c = (search rules, λ k. rw c.divide.ensures (quotient-below _ _ _ k))

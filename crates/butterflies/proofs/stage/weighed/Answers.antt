@@ -4,9 +4,6 @@ use Prim.Native.Nat.{ℕ, ◌%◌}
 use Rattle.field257.proofs.MontgomeryProduct.{montgomery-is}
 use Rattle.butterflies.proofs.stage.weighed.Goals as goal
 
-pub product-requires : goal.product-requires
-product-requires c = (c.requires.0.small c.args.k c.requires.1, c.companion.ensures)
-
 pub returns : goal.returns
 returns c =
     record { same = ap (λ (v : ℕ). v % 257) c.product.ensures.equals ∙ montgomery-is _ _; bounded = c.product.ensures.bounded }

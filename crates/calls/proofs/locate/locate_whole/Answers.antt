@@ -9,7 +9,7 @@ use Rattle.frame.specs.Shape.{is_shape}
 use Rattle.frame.proofs.HeldSums.{held_below}
 use Rattle.frame.proofs.NothingDeclared.{nothing-declarable}
 use Rattle.job.proofs.Emptiness.{has-shape}
-use Rattle.refusal.specs.Outcome.{outcome, outcome_of, passed}
+use Rattle.refusal.specs.Outcome.{outcome, passed}
 use Rattle.locating.proofs.Locating.{from-frame}
 use Rattle.locating.proofs.Steps.{refusal-outcome, passed-frame, passed-read, passed-undeclared, locate-refused, locate-goes-on}
 use Rattle.job.proofs.Undeclared.{whole-tests, whole-sums}
@@ -23,28 +23,28 @@ use Rattle.calls.proofs.locate.locate_whole.Goals.{In_default, Start}
 shape : (c : Start) → is_shape c.args.j.shape ≡ true
 shape c = has-shape _ c.requires.full
 
-pub check_frame-checked-requires : goal.check_frame-checked-requires
-check_frame-checked-requires c = shape (goal.at.check_frame-checked-requires c).Start
+pub check_frame-requires : goal.check_frame-requires
+check_frame-requires c = shape (goal.at.check_frame-requires c).Start
 
-pub returns-in-Refuse : goal.returns-in-Refuse
-returns-in-Refuse c =
+pub returns-in-Err : goal.returns-in-Err
+returns-in-Err c =
     λ a. refusal-outcome _ _ _ c.refuse.ensures refl
     ∙ locate-refused _ _ _ c.requires.full _
-    (sym (whole-tests _ (shape (goal.at.returns-in-Refuse c).Start) _ c.requires.nothing _)
-    ∙ sym c.check_frame-checked.ensures ∙ ap outcome_of c.in-Refuse.is)
+    (sym (whole-tests _ (shape (goal.at.returns-in-Err c).Start) _ c.requires.nothing _)
+    ∙ sym c.in-Err.ensures)
 
 -- the frame is well-formed
 passes : (c : In_default) →
     let args = c.args in
     outcome (read_tests args.j.shape (declared_by args.declared.now) args.frame.now) ≡ passed
 passes c =
-    sym (whole-tests _ (has-shape _ c.requires.full) _ c.requires.nothing _) ∙ sym c.check_frame-checked.ensures ∙ ap outcome_of c.in_default.is
+    sym (whole-tests _ (has-shape _ c.requires.full) _ c.requires.nothing _) ∙ sym c.in_default.ensures
 
 -- ---- locating from its sums
 
 pub frame_sums-summed-requires : goal.frame_sums-summed-requires
 frame_sums-summed-requires c =
-    (shape (goal.at.frame_sums-summed-requires c).Start, passed-frame _ _ (sym c.check_frame-checked.ensures ∙ ap outcome_of c.in_default.is))
+    (shape (goal.at.frame_sums-summed-requires c).Start, passed-frame _ _ (sym c.in_default.ensures))
 
 pub locate_frame-requires : goal.locate_frame-requires
 locate_frame-requires c =

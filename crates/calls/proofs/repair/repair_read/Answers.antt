@@ -13,7 +13,7 @@ use Rattle.job.specs.Calls.{same_sums}
 use Rattle.job.specs.Job.{Arrays, beside, declared_sound, is_located, length_of, with_read}
 use Rattle.job.proofs.Emptiness.{has-shape}
 use Rattle.job.proofs.Marked.{located-marked, located-size}
-use Rattle.refusal.specs.Outcome.{outcome, outcome_of, passed}
+use Rattle.refusal.specs.Outcome.{outcome, passed}
 use Rattle.locating.proofs.Steps.{refusal-outcome, mended-outcome, passed-read, passed-undeclared, sound-cells}
 use Rattle.locating.proofs.Steps.{repair-unlocated, repair-refused, repair-differs, repair-uniform, repair-mends}
 use Rattle.uniform.specs.Mendable.{Mendable}
@@ -49,20 +49,20 @@ returns-then-not-cells_sound c =
 
 -- ---- the tests
 
-pub check_read-checked-requires : goal.check_read-checked-requires
-check_read-checked-requires c = shape (goal.at.check_read-checked-requires c).Start
+pub check_read-requires : goal.check_read-requires
+check_read-requires c = shape (goal.at.check_read-requires c).Start
 
-pub returns-in-Refuse : goal.returns-in-Refuse
-returns-in-Refuse c =
-    λ a. refusal-outcome _ _ _ c.refuse-in-Refuse.ensures refl
-    ∙ repair-refused _ _ c.requires.full (located (goal.at.returns-in-Refuse c).Else-not-cells_sound a) (sound-cells _ _ _ (cells (goal.at.returns-in-Refuse c).After-cells_sound ∙ c.if-not-cells_sound.false)).0 _
-    (sym c.check_read-checked.ensures ∙ ap outcome_of c.in-Refuse.is)
+pub returns-in-Err : goal.returns-in-Err
+returns-in-Err c =
+    λ a. refusal-outcome _ _ _ c.refuse-in-Err.ensures refl
+    ∙ repair-refused _ _ c.requires.full (located (goal.at.returns-in-Err c).Else-not-cells_sound a) (sound-cells _ _ _ (cells (goal.at.returns-in-Err c).After-cells_sound ∙ c.if-not-cells_sound.false)).0 _
+    (sym c.in-Err.ensures)
 
 -- the frame is well-formed
 passes : (c : In_default) →
     let args = c.args in
     outcome (read_tests args.j.shape (declared_by args.held.now) args.frame.now) ≡ passed
-passes c = sym c.check_read-checked.ensures ∙ ap outcome_of c.in_default.is
+passes c = sym c.in_default.ensures
 
 pub sums_read-summed-requires : goal.sums_read-summed-requires
 sums_read-summed-requires c =

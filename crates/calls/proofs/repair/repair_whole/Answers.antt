@@ -14,7 +14,7 @@ use Rattle.job.specs.Calls.{same_sums}
 use Rattle.job.specs.Job.{Arrays, beside, is_located, with_read}
 use Rattle.job.proofs.Emptiness.{has-shape}
 use Rattle.job.proofs.Marked.{located-marked, located-reach, located-size}
-use Rattle.refusal.specs.Outcome.{outcome, outcome_of, passed}
+use Rattle.refusal.specs.Outcome.{outcome, passed}
 use Rattle.locating.proofs.Steps.{refusal-outcome, mended-outcome, passed-frame, passed-undeclared, sound-cells}
 use Rattle.locating.proofs.Steps.{repair-refused, repair-differs, repair-uniform, repair-mends}
 use Rattle.job.proofs.Undeclared.{whole-tests, whole-sums, whole-sound, whole-mended}
@@ -36,25 +36,25 @@ located c a =
 
 -- ---- the tests
 
-pub check_frame-checked-requires : goal.check_frame-checked-requires
-check_frame-checked-requires c = shape (goal.at.check_frame-checked-requires c).Start
+pub check_frame-requires : goal.check_frame-requires
+check_frame-requires c = shape (goal.at.check_frame-requires c).Start
 
-pub returns-in-Refuse : goal.returns-in-Refuse
-returns-in-Refuse c =
+pub returns-in-Err : goal.returns-in-Err
+returns-in-Err c =
     λ a. refusal-outcome _ _ _ c.refuse.ensures refl
-    ∙ repair-refused _ _ c.requires.repairable.full (located (goal.at.returns-in-Refuse c).Start a) (nothing-declarable _ (shape (goal.at.returns-in-Refuse c).Start) _ c.requires.nothing) _
-    (sym (whole-tests _ (shape (goal.at.returns-in-Refuse c).Start) _ c.requires.nothing _)
-    ∙ sym c.check_frame-checked.ensures ∙ ap outcome_of c.in-Refuse.is)
+    ∙ repair-refused _ _ c.requires.repairable.full (located (goal.at.returns-in-Err c).Start a) (nothing-declarable _ (shape (goal.at.returns-in-Err c).Start) _ c.requires.nothing) _
+    (sym (whole-tests _ (shape (goal.at.returns-in-Err c).Start) _ c.requires.nothing _)
+    ∙ sym c.in-Err.ensures)
 
 -- the frame is well-formed
 passes : (c : In_default) →
     let args = c.args in
     outcome (read_tests args.j.shape (declared_by args.held.now) args.frame.now) ≡ passed
 passes c =
-    sym (whole-tests _ (has-shape _ c.requires.repairable.full) _ c.requires.nothing _) ∙ sym c.check_frame-checked.ensures ∙ ap outcome_of c.in_default.is
+    sym (whole-tests _ (has-shape _ c.requires.repairable.full) _ c.requires.nothing _) ∙ sym c.in_default.ensures
 
 well_formed : (c : In_default) → let args = c.args in WellFormed args.j.shape args.frame.now
-well_formed c = passed-frame _ _ (sym c.check_frame-checked.ensures ∙ ap outcome_of c.in_default.is)
+well_formed c = passed-frame _ _ (sym c.in_default.ensures)
 
 pub frame_sums-summed-requires : goal.frame_sums-summed-requires
 frame_sums-summed-requires c =
@@ -67,7 +67,7 @@ compared : (c : After-same_sums) →
 compared c =
     sym (c.same_sums.ensures
     ∙ ap (λ (l : List ℕ). same_sums l c.args.sums.now) (c.frame_sums-summed.ensures
-    ∙ whole-sums _ (has-shape _ c.requires.repairable.full) _ c.requires.nothing _ (passed-frame _ _ (sym c.check_frame-checked.ensures ∙ ap outcome_of c.in_default.is)).size))
+    ∙ whole-sums _ (has-shape _ c.requires.repairable.full) _ c.requires.nothing _ (passed-frame _ _ (sym c.in_default.ensures)).size))
 
 pub returns-then-not-same_sums : goal.returns-then-not-same_sums
 returns-then-not-same_sums c =

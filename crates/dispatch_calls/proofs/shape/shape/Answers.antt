@@ -25,11 +25,20 @@ returns-then-k-ge8 c =
     λ sums taps held x last.
     outside (lent (goal.at.returns-then-k-ge8 c).Start sums taps held x last) c.args.k (call (goal.at.returns-then-k-ge8 c).Start) c.if-k-ge8.true refl
 
-pub returns : goal.returns
-returns c =
+pub returns-in-Ok : goal.returns-in-Ok
+returns-in-Ok c =
     λ sums taps held x last.
     let k = c.args.k in
-    let p = lent (goal.at.returns c).Start sums taps held x last in
-    let done = c.shape-made.ensures (arrays_at p k) ∙ ap (λ (h : Head). step (beside h (arrays_at p k)) (call (goal.at.returns c).Start)) c.head_at.ensures in
-    inside p k (call (goal.at.returns c).Start) c.if-k-ge8.false
-    (made p k (call (goal.at.returns c).Start) done refl refl (head-put k p c.shape-made.result.head c.put_head.ensures))
+    let p = lent (goal.at.returns-in-Ok c).Start sums taps held x last in
+    let done = c.in-Ok.ensures (arrays_at p k) ∙ ap (λ (h : Head). step (beside h (arrays_at p k)) (call (goal.at.returns-in-Ok c).Start)) c.head_at-j.ensures in
+    inside p k (call (goal.at.returns-in-Ok c).Start) c.if-k-ge8.false
+    (made p k (call (goal.at.returns-in-Ok c).Start) done refl refl (head-put k p c.in-Ok.shaped c.put_head.ensures))
+
+pub returns-in-Err : goal.returns-in-Err
+returns-in-Err c =
+    λ sums taps held x last.
+    let k = c.args.k in
+    let p = lent (goal.at.returns-in-Err c).Start sums taps held x last in
+    let done = c.in-Err.ensures (arrays_at p k) ∙ ap (λ (h : Head). step (beside h (arrays_at p k)) (call (goal.at.returns-in-Err c).Start)) c.head_at-j.ensures in
+    inside p k (call (goal.at.returns-in-Err c).Start) c.if-k-ge8.false
+    (made p k (call (goal.at.returns-in-Err c).Start) done refl refl (head-put k p c.head_at-j.result c.put_head-in-Err.ensures))

@@ -8,31 +8,18 @@ use Rattle.division.proofs.generator.generator.Goals as goal
 
 pub loop-j-init : goal.loop-j-init
 loop-j-init c =
-    let power = c.wide-root.ensures.equals ∙ c.power_of_3.ensures in
-    (omega arith, omega arith, power ∙ ap power_of3 (omega arith), generator-none _)
-
-pub slice_bounds-f-end : goal.slice_bounds-f-end
-slice_bounds-f-end c = let s = c.loop-j.invariant.1 in omega arith
-
-pub overflow_sub-root : goal.overflow_sub-root
-overflow_sub-root c = let p = c.loop-j.invariant.2 in omega arith
-
-pub multiply-requires : goal.multiply-requires
-multiply-requires c = (omega arith, omega arith)
-
-pub overflow_mul-root : goal.overflow_mul-root
-overflow_mul-root c = let p = c.loop-j.invariant.2 in omega arith
+    let power = c.from-root.ensures ∙ c.power_of_3.ensures in
+    (omega arith, power ∙ ap power_of3 (omega arith), generator-none _)
 
 pub loop-j-preserved : goal.loop-j-preserved
 loop-j-preserved c =
     let at = c.loop-j in
     let made = c.multiply.ensures in
-    let (few, size, power, polynomial) = at.invariant in (
-      omega arith,
+    let (size, power, polynomial) = at.invariant in (
       same_length _ _ _ at.f polynomial (omega arith) power _ made ∙ size,
       next-root _ _ _ at.f polynomial (omega arith) power,
       generator-more _ _ _ at.f polynomial (omega arith) power _ made,
     )
 
 pub returns : goal.returns
-returns c = subst (λ (m : ℕ). GeneratorPolynomial c.args.b m c.loop-j.f) (omega arith) c.loop-j.invariant.3
+returns c = subst (λ (m : ℕ). GeneratorPolynomial c.args.b m c.loop-j.f) (omega arith) c.loop-j.invariant.2

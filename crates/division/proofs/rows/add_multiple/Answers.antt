@@ -9,9 +9,6 @@ use Rattle.division.proofs.rows.add_multiple.Goals as goal
 pub loop-a-init : goal.loop-a-init
 loop-a-init c = filled_none _ _
 
-pub bounds-cells-a : goal.bounds-cells-a
-bounds-cells-a c = let s = c.loop-a.invariant.size in omega arith
-
 pub overflow_add-cells : goal.overflow_add-cells
 overflow_add-cells c =
     let old = filled-rest _ _ _ _ c.loop-a.invariant c.loop-a.a (omega arith) (omega arith) in
@@ -19,16 +16,10 @@ overflow_add-cells c =
     let r = c.times.ensures in
     omega arith
 
-pub bounds-cells-a-in-loop-a : goal.bounds-cells-a-in-loop-a
-bounds-cells-a-in-loop-a c = let s = c.loop-a.invariant.size in omega arith
-
 pub loop-a-preserved : goal.loop-a-preserved
 loop-a-preserved c =
     filled_more _ _ c.loop-a.a _ c.loop-a.cells c.loop-a.invariant (let s = c.loop-a.invariant.size in omega arith)
     (ap₂ ◌+◌ (filled-rest _ _ _ _ c.loop-a.invariant c.loop-a.a (omega arith) (omega arith)) c.times.ensures)
-
-pub shape_of-cells : goal.shape_of-cells
-shape_of-cells c = let s = c.loop-a.invariant.size in omega arith
 
 pub returns : goal.returns
 returns c =

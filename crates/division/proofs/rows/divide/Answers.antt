@@ -16,8 +16,5 @@ loop-i-preserved c =
     divided_more _ _ _ c.requires.divisor c.loop-i.i _ c.loop-i.invariant c.loop-i-test.true _
     c.add_multiple.ensures
 
-pub shape_of-cells : goal.shape_of-cells
-shape_of-cells c = c.loop-i.invariant.size
-
 pub returns : goal.returns
 returns c = divided_all _ _ _ _ _ c.loop-i.invariant c.loop-i-test.false

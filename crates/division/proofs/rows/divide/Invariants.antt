@@ -4,6 +4,3 @@ use Rattle.division.proofs.rows.divide.Given as goal
 
 abbrev pub invariant-loop-i : goal.invariant-loop-i
 invariant-loop-i l = Divided l.m l.generator l.initial.cells l.i l.cells
-
-abbrev pub decreases-loop-i : goal.decreases-loop-i
-decreases-loop-i l = l.i

@@ -1,18 +1,10 @@
 -- `division::rows::encode_row` meets its contract.
+use Rattle.std.proofs.Common.{rules}
 use mathlib.Core.Path.{◌≡◌}
-use Prim.Native.Nat.{◌-◌}
 use native.Mathlib.Omega.{arith}
-use borrow.Rule.Slice.PartMut.{put_mid, same_len_mid}
 use lib.ListN.{length}
 use Rattle.frame.proofs.Remainder.{length_part, part_small, completed-by_remainder}
 use Rattle.division.proofs.rows.encode_row.Goals as goal
-use Rattle.division.proofs.rows.encode_row.Goals.{After-cells-3-1}
-
--- the cells after the division
-refilled : (c : After-cells-3-1) →
-    length (put_mid 0 (length c.args.row.now - 0) c.data_cells-cells.result c.divide.new.cells) ≡ 256
-refilled c =
-    omega (arith, same_len_mid 0 (length c.args.row.now - 0) c.data_cells-cells.result c.divide.new.cells c.divide.auto.cells)
 
 pub divide-requires : goal.divide-requires
 divide-requires c =
@@ -25,14 +17,8 @@ divide-requires c =
       divisor = c.requires.divisor;
       reach = omega (arith, size);
       narrow = omega (arith, size);
-      small = part_small m row cells c.requires.reach c.requires.narrow room c.data_cells-cells.ensures c.slice_known-1.given;
+      small = part_small m row cells c.requires.reach c.requires.narrow room c.data_cells-cells.ensures (search rules);
     }
-
-pub slice_bounds-put_negatives-end : goal.slice_bounds-put_negatives-end
-slice_bounds-put_negatives-end c = omega (arith, refilled c)
-
-pub put_negatives-requires : goal.put_negatives-requires
-put_negatives-requires c = omega (arith, refilled c)
 
 pub returns : goal.returns
 returns c =

@@ -9,21 +9,15 @@ use Rattle.lists.proofs.Filling.{filled_none, filled_more}
 use Rattle.division.proofs.rows.put_negatives.Goals as goal
 
 pub loop-k-init : goal.loop-k-init
-loop-k-init c = (omega arith, filled_none _ _)
-
-pub bounds-row-k : goal.bounds-row-k
-bounds-row-k c = let s = c.loop-k.invariant.1.size in omega arith
+loop-k-init c = filled_none _ _
 
 pub loop-k-preserved : goal.loop-k-preserved
 loop-k-preserved c =
-    (omega arith, filled_more _ _ c.loop-k.k _ c.loop-k.row c.loop-k.invariant.1 (let s = c.loop-k.invariant.1.size in omega arith) refl)
-
-pub shape_of-row : goal.shape_of-row
-shape_of-row c = c.loop-k.invariant.1.size
+    filled_more _ _ c.loop-k.k _ c.loop-k.row c.loop-k.invariant (let s = c.loop-k.invariant.size in omega arith) refl
 
 pub returns : goal.returns
 returns c =
     let row = c.args.row.now in
-    c.loop-k.invariant.1.entries
+    c.loop-k.invariant.entries
     ∙ ap (λ (m : ℕ). tabulate (length row) (λ k. cond (ltb k m) ((257 - get_or c.args.cells.now k 0 % 257) % 257) (get_or row k 0)))
     (let q : c.loop-k.k ≡ c.args.m = omega arith in q)

@@ -1,5 +1,3 @@
-use Prim.Native.Nat.{◌≤◌}
-use native.Mathlib.Nat.{mul-le-mul}
 use native.Mathlib.Omega.{arith}
 use Rattle.lists.proofs.Filling.{filled_none, filled_more}
 use Rattle.factors.proofs.WeightsTable.{length-factors, weights-all}
@@ -7,9 +5,6 @@ use Rattle.factors.proofs.table.weights.Goals as goal
 
 pub loop-i-init : goal.loop-i-init
 loop-i-init c = rw c.factors-t.ensures (filled_none _ _)
-
-pub overflow_mul-b : goal.overflow_mul-b
-overflow_mul-b c = omega (arith, mul-le-mul c.requires (let l : c.loop-i.i ≤ 255 = omega arith in l))
 
 pub loop-i-preserved : goal.loop-i-preserved
 loop-i-preserved c = filled_more _ _ c.loop-i.i _ c.loop-i.t c.loop-i.invariant (omega (arith, length-factors)) (c.entry.ensures.power c.powers-powers.ensures)

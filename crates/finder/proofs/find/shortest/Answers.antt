@@ -1,8 +1,7 @@
 -- `shortest` answers and leaves the register that Algorithm 4 finds.
 use mathlib.Core.List.{List}
 use mathlib.Core.Path.{◌≡◌, subst, sym, ◌∙◌}
-use Prim.Native.Nat.{ℕ, ◌+◌, ◌≤◌, ◌<◌}
-use native.Mathlib.Nat.{mod-lt}
+use Prim.Native.Nat.{ℕ, ◌+◌, ◌≤◌}
 use native.Mathlib.Omega.{arith}
 use lib.ListN.{length, get_or-replicate, length-replicate}
 use lib.Seq.{length-take-le}
@@ -24,9 +23,6 @@ fine {lengths = lengths} {symbols = symbols} {room = room} same ok =
 pub worked_out-f-requires : goal.worked_out-f-requires
 worked_out-f-requires c = taken (accepted _ _ _ _ c.requires)
 
-pub overflow_cast-moduli : goal.overflow_cast-moduli
-overflow_cast-moduli c = record { fits = omega (arith, (fine c.worked_out-f.ensures.0 c.requires).modulus, c.worked_out-f.ensures.0) }
-
 pub by_length-order-requires : goal.by_length-order-requires
 by_length-order-requires c = sortable (fine c.worked_out-f.ensures.0 c.requires)
 
@@ -37,13 +33,6 @@ all_backwards-requires c =
 pub start-requires : goal.start-requires
 start-requires c =
     startable (fine c.worked_out-f.ensures.0 c.requires) c.longest-most.ensures c.by_length-order.ensures
-
-pub overflow_cast-state : goal.overflow_cast-state
-overflow_cast-state c =
-    let worked = c.worked_out-f in
-    let t = worked.ensures.1.taken in
-    let positive : 0 < worked.result.p = omega (arith, t.two_or_more) in
-    record { fits = rw worked.ensures.1.unit (omega (arith, mod-lt 65536 positive, t.modulus)) }
 
 pub rounds-requires : goal.rounds-requires
 rounds-requires c =

@@ -1,7 +1,7 @@
 -- `kept::order::next_unfinished` meets its contract.
 use mathlib.Core.Bool.{Bool}
 use mathlib.Core.List.{List}
-use Prim.Native.Nat.{ℕ, ◌-◌, ◌<◌}
+use Prim.Native.Nat.{ℕ}
 use Rattle.job.specs.Job.{is_unfinished_phase}
 use Rattle.kept.specs.Kept.{heads, head_at}
 use Rattle.kept.proofs.InOrder.{Looking}
@@ -12,8 +12,4 @@ abbrev pub unfinished : (states extents checks marks : List (List ℕ)) → ℕ 
 unfinished states extents checks marks k = is_unfinished_phase (head_at (heads states extents checks marks) k).phase
 
 abbrev pub invariant-loop-i : goal.invariant-loop-i
-invariant-loop-i l =
-    (l.k < 8) × ((extents checks marks : List (List ℕ)) → Looking (unfinished l.states extents checks marks) l.last l.i l.k)
-
-abbrev pub decreases-loop-i : goal.decreases-loop-i
-decreases-loop-i l = 8 - l.i
+invariant-loop-i l = (extents checks marks : List (List ℕ)) → Looking (unfinished l.states extents checks marks) l.last l.i

@@ -11,12 +11,11 @@ loop-k-init c = filled_none _ (zeros 64)
 pub loop-k-preserved : goal.loop-k-preserved
 loop-k-preserved c =
     let at = c.loop-k in
-    let t = c.loop-k-test.true in
     let few = c.requires in
-    filled_more _ (zeros 64) at.k _ _ at.invariant (let s = at.invariant.size in omega arith) (c.symbol.ensures ∙ sym (lane-at _ _ _ at.k t))
+    filled_more _ (zeros 64) at.k _ _ at.invariant (let s = at.invariant.size in omega arith)
+    (c.symbol.ensures ∙ sym (lane-at _ _ _ at.k c.loop-k-test.true))
 
 pub returns : goal.returns
 returns c =
     let at = c.loop-k in
-    let left = c.loop-k-test.false in
     filled-zeros _ 64 at.k _ at.invariant (λ k l. lane_past _ _ _ k (omega arith))

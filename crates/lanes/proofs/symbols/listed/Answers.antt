@@ -1,54 +1,42 @@
 use mathlib.Core.Path.{◌≡◌, sym}
-use Prim.Native.Nat.{◌<◌}
+use mathlib.Core.List.{◌∷◌, [], ◌++◌}
+use Prim.Native.Nat.{◌+◌}
 use native.Mathlib.Omega.{arith}
-use lib.ListN.{get_or, get_or-eq_default}
+use lib.ListN.{length, length-append, get_or-eq_default}
+use Rattle.std.proofs.lemmas.Iterator.Consumers.{YieldsList-end, YieldsList-from_enumerate, YieldsList-from_first, YieldsList-turn}
 use Rattle.columns.specs.Columns.{members}
-use Rattle.columns.proofs.Walk.{walk_start, walk-next, walk-member, walk_end, walk-rises}
+use Rattle.columns.specs.Rising.{to_come}
 use Rattle.lists.proofs.Filling.{filled_none, filled_more, filled-zeros}
 use Rattle.lists.proofs.Zeros.{zeros}
+use Rattle.lanes.proofs.MembersGiven.{Turn, numbered, all_numbered}
 use Rattle.lanes.proofs.symbols.listed.Goals as goal
-use Rattle.lanes.proofs.symbols.listed.Goals.{In-loop-i}
+use Rattle.lanes.proofs.symbols.listed.Goals.{In-Some}
 
-pub loop-i-init : goal.loop-i-init
-loop-i-init c = (walk_start _ _ c.next-i.ensures, filled_none _ (zeros 64))
+turn : (c : In-Some) → Turn c.args.set (length c.loop-k.yielded) c.in-Some.k c.in-Some.i
+turn c =
+    numbered _ _ _ _ (YieldsList-turn (YieldsList-from_enumerate (YieldsList-from_first (λ x. x) to_come (members c.args.set) cc) cc)
+    c.loop-k.yielded _ c.loop-k.yielded_by _ _ (c.in-Some.k, c.in-Some.i) c.in-Some.is c.next.ensures.steps)
 
--- the walk stands at column k of the set, which has a place
-stands : (c : In-loop-i) →
-    let at = c.loop-i in
-    (at.k < 64) × (get_or (members c.args.set) at.k 0 ≡ at.i)
-stands c =
-    let (less, here) = walk-member _ _ _ c.loop-i.invariant.0 c.loop-i-test.true in
-    let few = c.requires in
-    (omega arith, here)
+pub loop-k-init : goal.loop-k-init
+loop-k-init c = filled_none _ (zeros 64)
 
 pub overflow_cast-list : goal.overflow_cast-list
-overflow_cast-list c = let t = c.loop-i-test.true in omega arith
+overflow_cast-list c = let t = turn c in omega arith
 
-pub offset_bounds-list-k : goal.offset_bounds-list-k
-offset_bounds-list-k c = omega (arith, (stands c).0)
-
-pub bounds-list-k : goal.bounds-list-k
-bounds-list-k c = (stands c).0
-
-pub overflow_add-k : goal.overflow_add-k
-overflow_add-k c = omega (arith, (stands c).0)
-
-pub loop-i-smaller : goal.loop-i-smaller
-loop-i-smaller c =
-    let t = c.loop-i-test.true in
-    let r = walk-rises _ _ _ c.loop-i.invariant.0 _ t c.next-i-in-loop-i.ensures in
-    omega arith
-
-pub loop-i-preserved : goal.loop-i-preserved
-loop-i-preserved c =
-    let at = c.loop-i in
-    let (few, here) = stands (goal.at.loop-i-preserved c).In-loop-i in (
-      walk-next _ _ _ at.invariant.0 _ c.loop-i-test.true c.next-i-in-loop-i.ensures,
-      filled_more _ (zeros 64) at.k _ _ at.invariant.1 (let s = at.invariant.1.size in omega arith) (sym here),
-    )
+pub loop-k-preserved : goal.loop-k-preserved
+loop-k-preserved c =
+    let at = c.loop-k in
+    let t = turn c in
+    let less = t.inside in
+    let few = c.requires in
+    let more : length (at.yielded ++ ((c.in-Some.k, c.in-Some.i) ∷ [])) ≡ length at.yielded + 1 = length-append at.yielded ((c.in-Some.k, c.in-Some.i) ∷ []) in
+    rw (more, t.number)
+    (filled_more _ (zeros 64) (length at.yielded) _ _ at.invariant (let s = at.invariant.size in omega arith) (sym t.here))
 
 pub returns : goal.returns
 returns c =
-    let at = c.loop-i in
-    let done = walk_end _ _ _ at.invariant.0 c.loop-i-test.false in
-    filled-zeros _ 64 at.k _ at.invariant.1 (λ k l. get_or-eq_default (members _) 0 (let e = done in omega arith))
+    let at = c.loop-k in
+    let all = all_numbered c.args.set (length at.yielded) _
+    (YieldsList-end (YieldsList-from_enumerate (YieldsList-from_first (λ x. x) to_come (members c.args.set) cc) cc)
+    at.yielded _ at.yielded_by _ _ c.in-None.is c.next.ensures.steps) in
+    filled-zeros _ 64 (length at.yielded) _ at.invariant (λ k l. get_or-eq_default (members _) 0 (let e = all in omega arith))

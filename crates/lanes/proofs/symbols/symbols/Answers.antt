@@ -1,7 +1,6 @@
 -- `lanes::symbols::symbols` meets its contract.
 use mathlib.Core.Path.{◌≡◌, ap, ◌∙◌}
 use Prim.Native.Nat.{ℕ}
-use native.Mathlib.Omega.{arith}
 use lib.ListN.{length, get_or}
 use Rattle.columns.specs.Columns.{members}
 use Rattle.lanes.specs.Symbols.{locators_to, symbols_in}
@@ -27,9 +26,6 @@ run-lanes-requires c =
     rw c.size-m.ensures (runnable c.args.b c.args.set c.locator_polynomial-f.result c.args.sums.now c.listed-list.result
     c.locators_to-x.result c.locator_polynomial-f.ensures c.listed-list.ensures (locators (goal.at.run-lanes-requires c).After-locators_to-x) _ c.requires.1
     c.companions-z.ensures)
-
-pub divided-requires : goal.divided-requires
-divided-requires c = omega (arith, c.size-m.ensures, c.requires.1.few)
 
 pub returns : goal.returns
 returns c =

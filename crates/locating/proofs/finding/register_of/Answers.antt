@@ -8,12 +8,12 @@ use Rattle.locating.proofs.Lending.{Lent, lent_findable, lent-answered, lent-lef
 use Rattle.lists.specs.Total.{total}
 use borrow.Author.Rules.{rules}
 use Rattle.locating.proofs.finding.register_of.Goals as goal
-use Rattle.locating.proofs.finding.register_of.Goals.{After-all_remaining, After-shortest-arg-1}
+use Rattle.locating.proofs.finding.register_of.Goals.{After-all_remaining, After-sum_count}
 
 -- ---- nothing is declared
 
 -- the sums are lent as they are held
-lent-whole : (c : After-shortest-arg-1) →
+lent-whole : (c : After-sum_count) →
     let args = c.args in
     Lent args.s.rows args.s.checks args.sums.now (held_sequences args.s args.sums.now)
 lent-whole c =
@@ -21,12 +21,12 @@ lent-whole c =
 
 pub shortest-requires : goal.shortest-requires
 shortest-requires c =
-    lent_findable (lent-whole (goal.at.shortest-requires c).After-shortest-arg-1) _ c.sum_count.ensures _ c.requires.zeros
+    lent_findable (lent-whole (goal.at.shortest-requires c).After-sum_count) _ c.sum_count.ensures _ c.requires.zeros
 
 pub returns-then-none : goal.returns-then-none
 returns-then-none c =
     let pre = c.requires in
-    let lent = lent-whole (goal.at.returns-then-none c).After-shortest-arg-1 in
+    let lent = lent-whole (goal.at.returns-then-none c).After-sum_count in
     let e = none-taken c.args.s pre.shape c.args.sums.now pre.small c.args.declared.now
     (sym pre.flag ∙ c.if-none.true) in
     register-said _ _ _ _ _ _ e (lent-answered lent _ c.sum_count.ensures _ pre.zeros _ _ c.shortest.ensures)
@@ -58,8 +58,8 @@ pub shortest_left-requires : goal.shortest_left-requires
 shortest_left-requires c =
     lent_findable (lent-left-of (goal.at.shortest_left-requires c).After-all_remaining) _ (counted-left (goal.at.shortest_left-requires c).After-all_remaining) _ c.requires.zeros
 
-pub returns : goal.returns
-returns c =
+pub returns-else-none : goal.returns-else-none
+returns-else-none c =
     let zeros = c.requires.zeros in
-    register-said _ _ _ _ _ _ refl (lent-answered (lent-left-of (goal.at.returns c).After-all_remaining) _ (counted-left (goal.at.returns c).After-all_remaining) _ zeros _ _ c.shortest_left.ensures)
-    (lent-left (lent-left-of (goal.at.returns c).After-all_remaining) _ (counted-left (goal.at.returns c).After-all_remaining) _ zeros _ _ c.shortest_left.ensures)
+    register-said _ _ _ _ _ _ refl (lent-answered (lent-left-of (goal.at.returns-else-none c).After-all_remaining) _ (counted-left (goal.at.returns-else-none c).After-all_remaining) _ zeros _ _ c.shortest_left.ensures)
+    (lent-left (lent-left-of (goal.at.returns-else-none c).After-all_remaining) _ (counted-left (goal.at.returns-else-none c).After-all_remaining) _ zeros _ _ c.shortest_left.ensures)

@@ -1,7 +1,6 @@
 -- `locating::from_sums::locate_from` meets its contract.
-use mathlib.Core.Path.{refl, sym, ap, ◌∙◌}
-use Rattle.finder.specs.Finder.{answer_of}
-use Rattle.locating.proofs.Locating.{never-refused, held-register, located_so}
+use mathlib.Core.Path.{refl, ◌∙◌}
+use Rattle.locating.proofs.Locating.{held-register, located_so}
 use Rattle.locating.proofs.from_sums.locate_from.Goals as goal
 
 pub register_of-found-requires : goal.register_of-found-requires
@@ -9,18 +8,10 @@ register_of-found-requires c =
     let pre = c.requires in
     record { shape = pre.shape; flag = pre.flag; declarable = pre.declarable; small = pre.small; zeros = refl }
 
--- the finder never refuses
-pub returns-in_default : goal.returns-in_default
-returns-in_default c =
-    λ a f. absurd (never-refused c.args.s c.args.declared.now c.args.sums.now _ _ c.register_of-found.ensures _ (sym (ap answer_of c.in_default.is)))
-
 pub locate_by-requires : goal.locate_by-requires
-locate_by-requires c =
-    held-register c.args.s c.args.declared.now c.args.sums.now _ _ c.register_of-found.ensures _ _
-    (sym (ap answer_of c.in-Register.is)) _ c.requires
+locate_by-requires c = held-register c.args.s c.args.declared.now c.args.sums.now _ _ c.register_of-found.ensures _ c.requires
 
 pub returns : goal.returns
 returns c =
     λ a f. c.locate_by.ensures a f
-    ∙ located_so c.args.s c.args.declared.now c.args.sums.now _ _ c.register_of-found.ensures _ _
-    (sym (ap answer_of c.in-Register.is)) c.requires.shape _ f
+    ∙ located_so c.args.s c.args.declared.now c.args.sums.now _ _ c.register_of-found.ensures c.requires.shape _ f

@@ -1,12 +1,8 @@
-use native.Mathlib.Omega.{arith}
 use Rattle.remaining.proofs.Multiples.{adding_none, next_fits, adding_more, adding_all}
 use Rattle.remaining.proofs.row.add_multiple.Goals as goal
 
 pub loop-j-init : goal.loop-j-init
 loop-j-init c = adding_none _ _ _ _ _
-
-pub bounds-sums-from : goal.bounds-sums-from
-bounds-sums-from c = c.requires.inside _ c.loop-j-test.true
 
 pub overflow_add-totals : goal.overflow_add-totals
 overflow_add-totals c = next_fits c.requires c.loop-j.invariant c.loop-j-test.true c.times.ensures
@@ -16,9 +12,3 @@ loop-j-preserved c = adding_more c.requires c.loop-j.invariant c.loop-j-test.tru
 
 pub returns : goal.returns
 returns c = adding_all c.requires c.loop-j.invariant c.loop-j-test.false
-
-pub overflow_add-from : goal.overflow_add-from
-overflow_add-from c = omega (arith, c.requires.inside _ c.loop-j-test.true)
-
-pub offset_bounds-sums-from : goal.offset_bounds-sums-from
-offset_bounds-sums-from c = omega (arith, c.requires.inside _ c.loop-j-test.true)

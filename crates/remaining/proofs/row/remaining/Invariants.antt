@@ -1,10 +1,6 @@
 -- `remaining::row::remaining` meets its contract.
-use Prim.Native.Nat.{◌+◌, ◌-◌}
 use Rattle.remaining.proofs.RowLeft.{Multiplied}
 use Rattle.remaining.proofs.row.remaining.Given as goal
 
 abbrev pub invariant-loop-k : goal.invariant-loop-k
 invariant-loop-k l = Multiplied l.f l.sums l.e l.n l.k l.totals
-
-abbrev pub decreases-loop-k : goal.decreases-loop-k
-decreases-loop-k l = l.e + 1 - l.k

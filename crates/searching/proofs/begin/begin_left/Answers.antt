@@ -9,9 +9,9 @@ use Rattle.locating.proofs.Lending.{Lent, left-lent, left-counted}
 use borrow.Author.Rules.{rules}
 use Rattle.searching.proofs.Beginning.{lent_beginnable, lent-begun}
 use Rattle.searching.proofs.begin.begin_left.Goals as goal
-use Rattle.searching.proofs.begin.begin_left.Goals.{After-all_remaining-left, After-told-2-1}
+use Rattle.searching.proofs.begin.begin_left.Goals.{After-all_remaining-left}
 
-lent : (c : After-told-2-1) →
+lent : (c : After-all_remaining-left) →
     let args = c.args in
     let left = c.all_remaining-left.result in
     Lent args.s.rows left.lengths left.symbols
@@ -28,8 +28,8 @@ counted c = left-counted c.args.s c.requires.shape _ _ c.all_remaining-left.resu
 
 pub begin_lent-requires : goal.begin_lent-requires
 begin_lent-requires c =
-    lent_beginnable (lent (goal.at.begin_lent-requires c).After-told-2-1) _ (counted (goal.at.begin_lent-requires c).After-all_remaining-left)
+    lent_beginnable (lent (goal.at.begin_lent-requires c).After-all_remaining-left) _ (counted (goal.at.begin_lent-requires c).After-all_remaining-left)
 
 pub returns : goal.returns
 returns c =
-    lent-begun (lent (goal.at.returns c).After-told-2-1) _ (counted (goal.at.returns c).After-all_remaining-left) refl _ c.begin_lent.ensures
+    lent-begun (lent (goal.at.returns c).After-all_remaining-left) _ (counted (goal.at.returns c).After-all_remaining-left) refl _ c.begin_lent.ensures

@@ -6,10 +6,10 @@ use Rattle.locating.proofs.Lending.{Lent, held-lent}
 use borrow.Author.Rules.{rules}
 use Rattle.searching.proofs.Beginning.{lent_beginnable, lent-begun}
 use Rattle.searching.proofs.begin.begin_whole.Goals as goal
-use Rattle.searching.proofs.begin.begin_whole.Goals.{After-begin_lent-arg-10-1}
+use Rattle.searching.proofs.begin.begin_whole.Goals.{After-sum_count}
 
 -- the sums are lent as they are held
-lent : (c : After-begin_lent-arg-10-1) →
+lent : (c : After-sum_count) →
     let args = c.args in
     Lent args.s.rows args.s.checks args.sums.now (held_sequences args.s args.sums.now)
 lent c =
@@ -20,4 +20,4 @@ begin_lent-requires c = lent_beginnable (lent c) _ c.sum_count.ensures
 
 pub returns : goal.returns
 returns c =
-    lent-begun (lent (goal.at.returns c).After-begin_lent-arg-10-1) _ c.sum_count.ensures refl _ c.begin_lent.ensures
+    lent-begun (lent (goal.at.returns c).After-sum_count) _ c.sum_count.ensures refl _ c.begin_lent.ensures

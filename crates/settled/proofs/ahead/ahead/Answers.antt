@@ -5,26 +5,8 @@ use Rattle.settled.proofs.ahead.ahead.Goals as goal
 pub loop-i-init : goal.loop-i-init
 loop-i-init c = taken-off-none _ _ _ _ (omega (arith, c.requires.modulus.taken.two_or_more))
 
-pub take_off-requires : goal.take_off-requires
-take_off-requires c =
-    let pre = c.requires in
-    let few = c.padded-end.ensures.few in
-    let sums = c.loop-i.invariant in
-    record {
-      odd = record { modulus = pre.modulus; not-two = pre.not-two; lent = pre.lent; factor = rw c.from.ensures (pre.residues c.loop-i.i (omega arith)) };
-      cells = record {
-        width = sums.width;
-        residues = sums.residues;
-        within = omega (arith, pre.within, few);
-        inside = omega (arith, pre.sequence, pre.within, few);
-      };
-    }
-
 pub loop-i-preserved : goal.loop-i-preserved
 loop-i-preserved c = taken-off-more _ _ _ _ c.loop-i.invariant (rw c.from.ensures at c.take_off.ensures)
-
-pub returns : goal.returns
-returns c = taken-off-all _ _ _ _ c.loop-i.invariant (omega arith) (omega (arith, c.padded-end.ensures.enough))
 
 -- after the last tap
 pub returns-2 : goal.returns-2

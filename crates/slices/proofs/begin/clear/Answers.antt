@@ -1,5 +1,5 @@
 use mathlib.Core.Path.{◌≡◌, sym, ap, ◌∙◌}
-use Prim.Native.Nat.{ℕ, ◌-◌}
+use Prim.Native.Nat.{ℕ}
 use native.Mathlib.Omega.{arith}
 use borrow.Author.Rules.{rules}
 use lib.ListN.{length}
@@ -9,21 +9,19 @@ use Rattle.slices.proofs.Beginning.{all-cleared, front-within, fronts, none-clea
 use Rattle.slices.proofs.begin.clear.Goals as goal
 
 pub loop-h-init : goal.loop-h-init
-loop-h-init c = (search rules, none-cleared _ c.requires)
+loop-h-init c = none-cleared _ c.requires
 
-pub slice_bounds-zero-end : goal.slice_bounds-zero-end
-slice_bounds-zero-end c = let at = c.loop-h in front-within _ {h = at.h} (search rules) at.invariant.1
+pub slice_bounds-fill-end : goal.slice_bounds-fill-end
+slice_bounds-fill-end c = let at = c.loop-h in front-within _ {h = at.h} (search rules) at.invariant
 
 pub loop-h-preserved : goal.loop-h-preserved
-loop-h-preserved c =
-    let at = c.loop-h in
-    (search rules, one-cleared _ {h = at.h} (search rules) at.invariant.1 c.zero.ensures)
+loop-h-preserved c = let at = c.loop-h in one-cleared _ {h = at.h} (search rules) at.invariant (c.fill.ensures.after (search rules))
 
 pub shape_of-saved : goal.shape_of-saved
-shape_of-saved c = ap length c.loop-h.invariant.1 ∙ length_backwards _ _ ∙ sym c.requires
+shape_of-saved c = ap length c.loop-h.invariant ∙ length_backwards _ _ ∙ sym c.requires
 
 pub returns : goal.returns
 returns c =
     let at = c.loop-h in
     let old = c.args.saved.now in
-    at.invariant.1 ∙ ap (λ (h : ℕ). backwards_over (fronts h) old) (let e : at.h ≡ 8 = omega arith in e) ∙ all-cleared old
+    at.invariant ∙ ap (λ (h : ℕ). backwards_over (fronts h) old) (let e : at.h ≡ 8 = omega arith in e) ∙ all-cleared old

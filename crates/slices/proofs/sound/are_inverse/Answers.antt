@@ -6,6 +6,6 @@ use Rattle.slices.proofs.sound.are_inverse.Goals as goal
 
 pub overflow_mul-result : goal.overflow_mul-result
 overflow_mul-result c =
-    let less : c.args.quotient ≤ 257 = omega (arith, c.requires) in
-    let fits : c.args.disc ≤ 65536 = omega (arith, c.ranges.disc.fits) in
+    let less : c.from.result ≤ 257 = omega (arith, c.requires, c.from.ensures) in
+    let fits : c.from-2.result ≤ 65536 = omega (arith, c.from-2.ensures, c.ranges.disc.fits) in
     record { fits = omega (arith, mul-le-mul less fits) }

@@ -1,94 +1,48 @@
--- `symbols_are_sound` answers whether the next step can sum what it sums.
-use mathlib.Core.Path.{◌≡◌, ap, ◌∙◌}
-use mathlib.Core.Bool.{Bool}
-use mathlib.Core.List.{[]}
-use Prim.Native.Nat.{ℕ, ◌+◌, ◌-◌, ◌*◌}
-use native.Mathlib.Numerals.{add-one}
+-- `symbols_are_sound` answers whether what the next step sums are residues.
+use mathlib.Core.Path.{◌≡◌, ap, ap₂, ◌∙◌}
+use Prim.Native.Nat.{ℕ, suc, ◌+◌, ◌-◌, ◌*◌}
 use native.Mathlib.Omega.{arith}
-use lib.Dec.{ltb}
-use lib.ListN.{length, get_or}
 use borrow.Author.Rules.{rules}
+use borrow.Author.Tests.{lt-leb}
+use lib.Dec.{ltb}
+use lib.ListN.{get_or}
 use Rattle.lists.specs.Tabulate.{every}
-use Rattle.slices.specs.Synthesis.{synthesis, symbols_sound}
-use Rattle.slices.proofs.Answers.{suffices, remains, next-within, next_past}
-use Rattle.slices.proofs.Tests.{Counts, counts_say}
+use Rattle.slices.specs.Synthesis.{symbols_sound}
+use Rattle.slices.proofs.Answers.{remains}
+use Rattle.slices.proofs.Part.{every_part}
+use Rattle.slices.proofs.Tests.{counts_say}
 use Rattle.slices.proofs.sound.symbols_are_sound.Goals as goal
-use Rattle.slices.proofs.sound.symbols_are_sound.Goals.{Start}
 
-counts-at : (c : Start) → Counts 8 (synthesis c.args.counts.now c.args.lengths.now [] [] [] [] [] [] [])
-counts-at c = (counts_say 8 _).0 c.requires
+pub prove-unreachable-requires : goal.prove-unreachable-requires
+prove-unreachable-requires c = let step = ((counts_say 8 _).0 c.requires).step in omega (arith, c.from-h.ensures)
 
-pub overflow_cast-longest : goal.overflow_cast-longest
-overflow_cast-longest c = record { fits = omega (arith, (counts-at (goal.at.overflow_cast-longest c).Start).few) }
-
-pub overflow_cast-n : goal.overflow_cast-n
-overflow_cast-n c =
-    let counts = counts-at (goal.at.overflow_cast-n c).Start in record { fits = omega (arith, counts.few, counts.round) }
-
-pub overflow_cast-h : goal.overflow_cast-h
-overflow_cast-h c = record { fits = omega (arith, (counts-at (goal.at.overflow_cast-h c).Start).step) }
-
-pub overflow_cast-l : goal.overflow_cast-l
-overflow_cast-l c =
-    let counts = counts-at (goal.at.overflow_cast-l c).Start in record { fits = omega (arith, counts.few, counts.round, counts.grown) }
-
-pub overflow_add-n : goal.overflow_add-n
-overflow_add-n c =
-    let counts = counts-at (goal.at.overflow_add-n c).Start in record { fits = omega (arith, counts.few, counts.round) }
-
-pub offset_bounds-lengths-h : goal.offset_bounds-lengths-h
-offset_bounds-lengths-h c = record { fits = omega (arith, (counts-at (goal.at.offset_bounds-lengths-h c).Start).step) }
-
-pub bounds-lengths-h : goal.bounds-lengths-h
-bounds-lengths-h c = omega (arith, (counts-at (goal.at.bounds-lengths-h c).Start).step)
-
-pub overflow_cast-lengths : goal.overflow_cast-lengths
-overflow_cast-lengths c =
-    let counts = counts-at (goal.at.overflow_cast-lengths c).Start in
-    record { fits = omega (arith, counts.few, counts.shorter _ counts.step) }
+pub overflow_sub-first : goal.overflow_sub-first
+overflow_sub-first c = let round = ((counts_say 8 _).0 c.requires).round in omega (arith, c.from-n.ensures, c.from-longest.ensures)
 
 pub overflow_sub-longest : goal.overflow_sub-longest
-overflow_sub-longest c = let counts = counts-at (goal.at.overflow_sub-longest c).Start in counts.shorter _ counts.step
+overflow_sub-longest c =
+    let counts = (counts_say 8 _).0 c.requires in
+    rw (c.from.ensures, c.from-longest.ensures, c.from-h.ensures) (counts.shorter _ counts.step)
 
-pub overflow_add-l : goal.overflow_add-l
-overflow_add-l c =
-    let counts = counts-at (goal.at.overflow_add-l c).Start in record { fits = omega (arith, counts.few, counts.round, counts.grown) }
+pub slice_bounds-every-end : goal.slice_bounds-every-end
+slice_bounds-every-end c =
+    let counts = (counts_say 8 _).0 c.requires in
+    omega (arith, counts.few, counts.round, counts.step, counts.grown, c.from-h.ensures, c.from-n.ensures, c.from-l.ensures, c.from-longest.ensures)
 
-pub returns-then-n-l : goal.returns-then-n-l
+pub returns-else-n-l : goal.returns-else-n-l
 unfolding symbols_sound
-returns-then-n-l c = suffices _ _ (next-within _ _ c.if-n-l.true)
-
-pub overflow_mul-h : goal.overflow_mul-h
-overflow_mul-h c = record { fits = omega (arith, (counts-at (goal.at.overflow_mul-h c).Start).step) }
-
-pub overflow_add-n-2 : goal.overflow_add-n-2
-overflow_add-n-2 c =
-    let counts = counts-at (goal.at.overflow_add-n-2 c).Start in record { fits = omega (arith, counts.few, counts.round) }
-
-pub overflow_sub-longest-2 : goal.overflow_sub-longest-2
-overflow_sub-longest-2 c = omega (arith, (counts-at (goal.at.overflow_sub-longest-2 c).Start).round)
-
-pub overflow_add-h : goal.overflow_add-h
-overflow_add-h c =
-    let counts = counts-at (goal.at.overflow_add-h c).Start in record { fits = omega (arith, counts.few, counts.step) }
-
-pub overflow_add-l-2 : goal.overflow_add-l-2
-overflow_add-l-2 c =
-    let counts = counts-at (goal.at.overflow_add-l-2 c).Start in record { fits = omega (arith, counts.few, counts.round, counts.grown) }
-
-pub residues-requires : goal.residues-requires
-residues-requires c =
-    let counts = counts-at (goal.at.residues-requires c).Start in
-    let width : length c.args.symbols.now ≡ 1152 = search rules in
-    omega (arith, counts.few, counts.round, counts.step, counts.grown, width)
-
-pub returns : goal.returns
-unfolding symbols_sound
-returns c =
-    let args = c.args in
-    let counts = args.counts.now in
-    let test : ℕ → ℕ → Bool = λ m n.
-    every m (λ i. ltb (get_or args.symbols.now (get_or counts 2 0 * 144 + (get_or counts 0 0 - n) + i) 0) 257)
-    in
-    remains _ _ (next_past _ _ c.if-n-l.false)
-    (c.residues.ensures ∙ ap (λ (m : ℕ). test m (get_or counts 1 0 + 1)) (add-one _) ∙ ap (test _) (add-one _))
+returns-else-n-l c =
+    let N = get_or c.args.counts.now 0 0 in
+    let n = get_or c.args.counts.now 1 0 in
+    let h = get_or c.args.counts.now 2 0 in
+    let l = get_or c.args.counts.now 4 0 in
+    let symbols = c.args.symbols.now in
+    let counts = (counts_say 8 _).0 c.requires in
+    let long : c.from.result ≡ get_or c.args.lengths.now h 0 = c.from.ensures ∙ ap (λ (k : ℕ). get_or c.args.lengths.now k 0) c.from-h.ensures in
+    let first : ℕ = c.from-h.result * 144 + (c.from-longest.result - (c.from-n.result + 1)) in
+    remains _ _ (lt-leb _ _ (omega (arith, c.if-n-l.false, long, c.from-longest.ensures, c.from-n.ensures, c.from-l.ensures)))
+    (c.every.ensures (λ v. ltb v 257) (λ v r b p. search rules)
+    ∙ every_part (λ v. ltb v 257) symbols first (c.from-l.result + 1) (omega arith)
+    (omega (arith, counts.few, counts.round, counts.step, counts.grown, c.from-h.ensures, c.from-n.ensures, c.from-l.ensures, c.from-longest.ensures, c.told-symbols))
+    ∙ ap₂ (λ (m a : ℕ). every m (λ i. ltb (get_or symbols (a + i) 0) 257)) (let e : c.from-l.result + 1 ≡ suc l = omega (arith, c.from-l.ensures) in e)
+    (let e : first ≡ h * 144 + (N - suc n) = omega (arith, c.from-h.ensures, c.from-longest.ensures, c.from-n.ensures) in e))

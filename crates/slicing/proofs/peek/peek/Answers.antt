@@ -1,7 +1,6 @@
 -- `slicing::peek::peek` meets its contract.
 use mathlib.Core.Path.{◌≡◌, sym, ◌∙◌}
 use mathlib.Core.Bool.{false}
-use native.Mathlib.Omega.{arith}
 use Rattle.job.specs.Job.{counts_empty}
 use Rattle.searching.proofs.Calling.{peek-empty, peek-other, peek-gives}
 use Rattle.slicing.proofs.peek.peek.Goals as goal
@@ -21,10 +20,7 @@ pub returns-then-not-counts_as_unfinished : goal.returns-then-not-counts_as_unfi
 returns-then-not-counts_as_unfinished c =
     λ taps. peek-other _ (full (goal.at.returns-then-not-counts_as_unfinished c).Else-counts_as_empty) (sym (c.counts_as_unfinished.ensures taps) ∙ c.if-not-counts_as_unfinished.true)
 
-pub overflow_cast-result : goal.overflow_cast-result
-overflow_cast-result c = record { fits = omega (arith, c.wide.ensures.below) }
-
 pub returns : goal.returns
 returns c =
     λ taps. peek-gives _ (full (goal.at.returns c).Else-counts_as_empty) (sym (c.counts_as_unfinished.ensures taps) ∙ c.if-not-counts_as_unfinished.false) _
-    c.wide.ensures.equals
+    c.from.ensures

@@ -9,7 +9,7 @@ use Rattle.frame.specs.Shape.{is_shape}
 use Rattle.frame.proofs.Declarable.{well_formed_declarable}
 use Rattle.frame.proofs.HeldSums.{held_below}
 use Rattle.job.proofs.Emptiness.{has-shape}
-use Rattle.refusal.specs.Outcome.{outcome, outcome_of, passed}
+use Rattle.refusal.specs.Outcome.{outcome, passed}
 use Rattle.locating.proofs.Steps.{refusal-outcome, passed-read}
 use Rattle.searching.proofs.Calling.{start-refused, start-goes-on}
 use Rattle.slicing.proofs.start.start_read.Goals as goal
@@ -22,20 +22,20 @@ use Rattle.slicing.proofs.start.start_read.Goals.{In_default, Start}
 shape : (c : Start) → is_shape c.args.j.shape ≡ true
 shape c = has-shape _ c.requires.full
 
-pub check_read-checked-requires : goal.check_read-checked-requires
-check_read-checked-requires c = shape (goal.at.check_read-checked-requires c).Start
+pub check_read-requires : goal.check_read-requires
+check_read-requires c = shape (goal.at.check_read-requires c).Start
 
-pub returns-in-Refuse : goal.returns-in-Refuse
-returns-in-Refuse c =
+pub returns-in-Err : goal.returns-in-Err
+returns-in-Err c =
     refusal-outcome _ _ _ c.refuse.ensures refl
     ∙ start-refused _ _ _ c.requires.full _
-    (sym c.check_read-checked.ensures ∙ ap outcome_of c.in-Refuse.is)
+    (sym c.in-Err.ensures)
 
 -- the frame is well-formed
 passes : (c : In_default) →
     let args = c.args in
     outcome (read_tests args.j.shape (declared_by args.declared.now) args.frame.now) ≡ passed
-passes c = sym c.check_read-checked.ensures ∙ ap outcome_of c.in_default.is
+passes c = sym c.in_default.ensures
 
 -- ---- the search from its sums
 

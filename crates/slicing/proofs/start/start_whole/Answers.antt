@@ -8,7 +8,7 @@ use Rattle.frame.specs.DeclaredCells.{declared_by, read_tests}
 use Rattle.frame.specs.Shape.{is_shape}
 use Rattle.frame.proofs.HeldSums.{held_below}
 use Rattle.job.proofs.Emptiness.{has-shape}
-use Rattle.refusal.specs.Outcome.{outcome, outcome_of, passed}
+use Rattle.refusal.specs.Outcome.{outcome, passed}
 use Rattle.locating.proofs.Steps.{refusal-outcome, passed-frame, passed-read}
 use Rattle.searching.proofs.Calling.{start-refused, start-goes-on}
 use Rattle.job.proofs.Undeclared.{whole-tests, whole-sums}
@@ -22,28 +22,28 @@ use Rattle.slicing.proofs.start.start_whole.Goals.{In_default, Start}
 shape : (c : Start) → is_shape c.args.j.shape ≡ true
 shape c = has-shape _ c.requires.full
 
-pub check_frame-checked-requires : goal.check_frame-checked-requires
-check_frame-checked-requires c = shape (goal.at.check_frame-checked-requires c).Start
+pub check_frame-requires : goal.check_frame-requires
+check_frame-requires c = shape (goal.at.check_frame-requires c).Start
 
-pub returns-in-Refuse : goal.returns-in-Refuse
-returns-in-Refuse c =
+pub returns-in-Err : goal.returns-in-Err
+returns-in-Err c =
     refusal-outcome _ _ _ c.refuse.ensures refl
     ∙ start-refused _ _ _ c.requires.full _
-    (sym (whole-tests _ (shape (goal.at.returns-in-Refuse c).Start) _ c.requires.nothing _)
-    ∙ sym c.check_frame-checked.ensures ∙ ap outcome_of c.in-Refuse.is)
+    (sym (whole-tests _ (shape (goal.at.returns-in-Err c).Start) _ c.requires.nothing _)
+    ∙ sym c.in-Err.ensures)
 
 -- the frame is well-formed
 passes : (c : In_default) →
     let args = c.args in
     outcome (read_tests args.j.shape (declared_by args.declared.now) args.frame.now) ≡ passed
 passes c =
-    sym (whole-tests _ (has-shape _ c.requires.full) _ c.requires.nothing _) ∙ sym c.check_frame-checked.ensures ∙ ap outcome_of c.in_default.is
+    sym (whole-tests _ (has-shape _ c.requires.full) _ c.requires.nothing _) ∙ sym c.in_default.ensures
 
 -- ---- the search from its sums
 
 pub write_sums-requires : goal.write_sums-requires
 write_sums-requires c =
-    (shape (goal.at.write_sums-requires c).Start, passed-frame _ _ (sym c.check_frame-checked.ensures ∙ ap outcome_of c.in_default.is))
+    (shape (goal.at.write_sums-requires c).Start, passed-frame _ _ (sym c.in_default.ensures))
 
 pub start_whole-requires : goal.start_whole-requires
 start_whole-requires c =

@@ -1,5 +1,5 @@
 use Prim.Native.Nat.{◌+◌}
-use Rattle.weights.proofs.ReadSum.{Read, read_more, read_fits, read_all}
+use Rattle.weights.proofs.ReadSum.{Read, read_more, read_all}
 use Rattle.lists.proofs.Summing.{summed-none}
 use borrow.Author.Rules.{rules}
 use native.Mathlib.Omega.{arith}
@@ -12,9 +12,6 @@ loop-k-init c = summed-none _ _ _
 -- one coefficient more
 grown : (c : After-times-total) → Read c.args.coefficients.now c.args.sums.now (c.loop-k.k + 1) (c.loop-k.total + c.times-total.result)
 grown c = read_more _ _ c.loop-k.k c.loop-k.total c.loop-k.invariant _ c.loop-k-test.true c.times-total.ensures (search rules) (c.requires.sums-small _)
-
-pub overflow_add-total : goal.overflow_add-total
-overflow_add-total c = read_fits _ _ _ _ (grown c) c.requires.few
 
 pub loop-k-preserved : goal.loop-k-preserved
 loop-k-preserved c = grown c
