@@ -1,7 +1,6 @@
 -- `encoder::encode::encode_frame` meets its contract: by each way its answer and the frame that it leaves.
-use Rattle.std.proofs.Common.{arith, rules}
+use Rattle.std.proofs.Common.{arith}
 use Rattle.std.proofs.lemmas.Grind.{common_steps}
-use Rattle.frame.specs.Encode.{encode_tests}
 use Rattle.frame.proofs.RowPlace.{frame_small}
 use Rattle.uniform.specs.Encodable.{EncodableFrame}
 use Rattle.encoder.proofs.encode.encode_frame.Goals as goal

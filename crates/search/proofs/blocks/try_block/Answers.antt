@@ -5,8 +5,8 @@ use native.Mathlib.Omega.{arith}
 use lib.ListN.{get_or}
 use Rattle.columns.specs.Columns.{marking}
 use Rattle.decoding.specs.Locating.{is_root}
-use Rattle.search.proofs.Trials.{room, block-starts, size_powers, factors, root-here, other-here, sound-words}
-use Rattle.search.proofs.Trials.{block-other, block-root, block-ends, block-all}
+use Rattle.search.proofs.Trials.{room, size_powers, factors, root-here, other-here, sound-words}
+use Rattle.search.proofs.Trials.{block-other, block-root, block-ends}
 use Rattle.search.proofs.blocks.try_block.Goals as goal
 use Rattle.search.proofs.blocks.try_block.Goals.{In-loop-i, then-v-i-eq0+else-left-eq0, else-v-i-eq0}
 

@@ -1,4 +1,3 @@
-use native.Mathlib.Omega.{arith}
 use Rattle.lists.proofs.Filling.{filled_none}
 use Rattle.search.proofs.Valuing.{factor, stepping_more, stepping_all}
 use Rattle.search.proofs.values.step.Goals as goal

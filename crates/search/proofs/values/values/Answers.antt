@@ -1,4 +1,4 @@
-use Rattle.search.proofs.Valuing.{valued_none, valued_more, valued_all}
+use Rattle.search.proofs.Valuing.{valued_none, valued_more}
 use Rattle.search.proofs.values.values.Goals as goal
 
 pub loop-tap-init : goal.loop-tap-init
