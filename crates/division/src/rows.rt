@@ -9,7 +9,7 @@ ghost use Rattle.frame.specs.Completion.{completed};
 ghost use Rattle.frame.specs.Frame.{check_sum};
 ghost use Rattle.lists.specs.Tabulate.{tabulate};
 
-use polynomials::values::times;
+use field::narrow::product as times;
 
 // The data of a row, with zeros in its first m columns and after it.
 fn data_cells(row: &[u16], m: usize) -> [u32; 256]

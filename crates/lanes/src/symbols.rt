@@ -11,7 +11,7 @@ use field257::inverses::inverse;
 use field257::montgomery::companions;
 use field257::powers::entry;
 use polynomials::locator::locator_polynomial;
-use polynomials::values::times;
+use field::narrow::product as times;
 
 // The columns of the set, rising, and zeros after them.
 fn listed(set: Columns) -> [u16; 64]

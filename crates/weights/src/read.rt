@@ -3,7 +3,7 @@ ghost use Rattle.std.specs.Prelude.{◌≡◌};
 ghost use Rattle.weights.specs.Weighable.{Readable};
 ghost use Rattle.weights.specs.Weights.{symbol_read};
 
-use polynomials::values::times;
+use field::narrow::product as times;
 
 // The coefficients times the sums, the last sum first. 64 products of 65535 and 256 fit the sum, so that it is reduced once.
 pub fn read_off(coefficients: &[u16], sums: &[u16]) -> u16
