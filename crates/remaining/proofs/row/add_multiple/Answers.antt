@@ -1,8 +1,9 @@
-use Rattle.remaining.proofs.Multiples.{adding_none, next_fits, adding_more, adding_all}
+use Rattle.lists.proofs.Filling.{filled_none}
+use Rattle.remaining.proofs.Multiples.{next_fits, adding_more, adding_all}
 use Rattle.remaining.proofs.row.add_multiple.Goals as goal
 
 pub loop-j-init : goal.loop-j-init
-loop-j-init c = adding_none _ _ _ _ _
+loop-j-init c = filled_none _ _
 
 pub overflow_add-totals : goal.overflow_add-totals
 overflow_add-totals c = next_fits c.requires c.loop-j.invariant c.loop-j-test.true c.times.ensures
