@@ -3,7 +3,7 @@ use Rattle.std.proofs.Common.{◌≡◌, ◌∙◌, ap, sym, rules}
 use Rattle.refusal.specs.Number.{number}
 use Rattle.refusal.specs.Outcome.{passed, refused}
 use Rattle.refusal.proofs.Outcomes.{given-passed, given-refused}
-use Rattle.search.specs.Search.{Answer, answer, nothing, search_tests}
+use Rattle.search.specs.Search.{answer, nothing, search_tests}
 use Rattle.search.specs.declared.Sought.{Sought}
 use Rattle.search.proofs.Answers.{in_range}
 use Rattle.search.proofs.roots.search.Goals as goal
