@@ -2,7 +2,7 @@
 -- backwards.
 use mathlib.Core.Path.{◌≡◌, sym, ap, ◌∙◌}
 use mathlib.Core.List.{List}
-use Prim.Native.Nat.{ℕ, suc, ◌+◌, ◌-◌, ◌*◌, ◌/◌, ◌%◌, ◌≤◌, ◌<◌, zero-le}
+use Prim.Native.Nat.{ℕ, suc, ◌+◌, ◌-◌, ◌*◌, ◌/◌, ◌%◌, ◌≤◌, ◌<◌}
 use native.Mathlib.Decide.{dec_le}
 use native.Mathlib.Nat.{mul-le-mul, zero-mul}
 use native.Mathlib.Omega.{arith}
@@ -15,8 +15,7 @@ use Rattle.lists.proofs.Tabulated.{length-tabulate, get_d_tabulate}
 use Rattle.lists.proofs.Totals.{total_ext, total-bound}
 use Rattle.register.specs.Register.{discrepancy}
 use Rattle.register.specs.Sequences.{symbol}
-use Rattle.discrepancy.specs.Discrepancies.{Ending, InReach, Loose, Narrow, Summable, sum_at, sequence_in, due_at}
-use Rattle.discrepancy.specs.Modulus.{WorkedOut}
+use Rattle.discrepancy.specs.Discrepancies.{InReach, Loose, Narrow, Summable, sum_at, sequence_in, due_at}
 use Rattle.discrepancy.specs.declared.Modulus.{Modulus}
 use Rattle.lists.proofs.Halves.{Halved, total_first}
 
@@ -85,13 +84,6 @@ module _ {f : Modulus} {l : ℕ} {taps symbols : List ℕ} {from : ℕ} (s : Sum
     pub whole_below : low + 65536 * high ≤ 129 * (p * p)
     whole_below = rw whole all-below
 
--- a residue stands for itself
-pub residue-loose : {p r : ℕ} → 257 < p → r < p → Loose p r
-residue-loose more less = record { small = λ le. absurd (let no : ⊥ = omega arith in no); large = λ _. less }
-
-pub zero-loose : {p : ℕ} → Loose p 0
-zero-loose = record { small = λ _. zero-le; large = λ more. omega arith }
-
 module _ {p N l h size n : ℕ} {symbols : List ℕ} (r : InReach p N l h size n symbols) where
   abbrev s : List ℕ
   s = sequence_in symbols h size
@@ -121,13 +113,3 @@ module _ {p N l h size n : ℕ} {symbols : List ℕ} (r : InReach p N l h size n
         (e ∙ ap (λ (x : ℕ). x % p)
         (total_ext (suc l) (λ k. get_or σ k 0 * get_or symbols (h * 144 + (N - n) + k) 0) (λ k. get_or σ k 0 * symbol s (n + size - N - k))
         (λ k b. ap (λ (x : ℕ). get_or σ k 0 * x) (back k (omega arith)))))
-
-    pub summable : {f : Modulus} {taps : List ℕ} → f.p ≡ p → WorkedOut f → Ending f.p l taps → Summable f l taps symbols (h * 144 + (N - n))
-    summable same worked ending =
-        record {
-          modulus = worked;
-          ending = ending;
-          short = omega (arith, r.grown, r.longest);
-          inside = omega (arith, r.grown, r.longest, r.sequence);
-          below = λ i le. rw same (r.below asked i le);
-        }

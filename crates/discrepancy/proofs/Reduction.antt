@@ -1,6 +1,6 @@
 -- The taps of a register less q·x^e·τ, worked tap by tap: `reduced` by no tap of τ, by one more, and by all of them; and its entries at one length and
 -- at another.
-use mathlib.Core.Path.{◌≡◌, sym, ap, ap₂, subst, ◌∙◌}
+use mathlib.Core.Path.{◌≡◌, sym, ap, ap₂, ◌∙◌}
 use mathlib.Core.Logic.{◌≢◌}
 use mathlib.Core.List.{List, []}
 use Prim.Native.Nat.{ℕ, suc, ◌+◌, ◌-◌, ◌*◌, ◌%◌, ◌≤◌, ◌<◌}
@@ -9,13 +9,12 @@ use native.Mathlib.Nat.{mul-one, mod-eq_of_lt, add-sub_cancel_left, pow-zero}
 use native.Mathlib.Numerals.{add-one}
 use native.Mathlib.Omega.{arith}
 use lib.ListN.{length, get_or, take, set, length-take, length-set, get_or-eq_default}
-use lib.Seq.{ext_get_or, take_all, get_or-take, get_or-set_same, get_or-set_other}
+use lib.Seq.{ext_get_or, get_or-take, get_or-set_same, get_or-set_other}
 use Rattle.field.specs.Coefficients.{reduced, shifted}
 use Rattle.field.specs.Residue.{minus, times, inverse, quotient}
 use Rattle.field.proofs.Coefficients.{minus-zero, shifted-below, shifted-above, length-reduced, get_or-reduced}
 use Rattle.field.proofs.Remainders.{mod-mul-mod, mul-mod-mod}
 use Rattle.lists.proofs.Entries.{get_or-take-suc}
-use Rattle.discrepancy.specs.Modulus.{Moduli}
 
 -- x^e·τ has no coefficient past its last
 pub shifted_past : (e : ℕ) (τ : List ℕ) (k : ℕ) → e + length τ ≤ k → shifted e τ k ≡ 0
@@ -43,10 +42,6 @@ module _ (p l : ℕ) (σ : List ℕ) (q e : ℕ) where
   reduced-none len less =
       ext_get_or 0 σ (reduced p l σ q e []) (len ∙ sym (length-reduced p l σ q e []))
       (λ i h. sym (get_or-reduced p l σ q e [] i (omega arith) ∙ tap-kept [] i (shifted_none e i) (less i)))
-
-  pub reduced-all : (τ : List ℕ) (i n : ℕ) {now : List ℕ} →
-      now ≡ reduced p l σ q e (take i (take n τ)) → n ≤ i → now ≡ reduced p l σ q e (take n τ)
-  reduced-all τ i n eq h = eq ∙ ap (λ (ρ : List ℕ). reduced p l σ q e ρ) (take_all i (take n τ) (omega (arith, length-take n τ)))
 
   -- the tap at which one more entry of τ comes into play
   next-tap : (τ : List ℕ) (i : ℕ) {now : List ℕ} → now ≡ reduced p l σ q e (take i τ) →
@@ -118,10 +113,6 @@ set_below p now k v less small i = pick (ℕ_discrete i k) (dec_lt k (length now
     pick (yes same) (no past) =
         rw (get_or-eq_default (set now k v) 0 (let b : length (set now k v) ≤ i = omega (arith, length-set now k v) in b)) (omega arith)
     pick (no other) _ = rw (get_or-set_other now k i v 0 other) (less i)
-
--- what holds of the modulus that an array is made of holds of any that it is made of
-pub each-modulus : (P : ℕ → Type 0) {p : ℕ} {moduli : List ℕ} → Moduli p moduli → P p → (r : ℕ) → Moduli r moduli → P r
-each-modulus P lent holds r other = subst P (sym (lent.each 0 (omega arith)) ∙ other.each 0 (omega arith)) holds
 
 -- ---- the factors of a turn modulo an odd p, whose inverse modulo 2^16 is v: z, read from the array, is p, and w is z less (p − u)
 

@@ -45,6 +45,7 @@ fn fill_checks(s: Shape, frame: &mut [u16])
 }
 
 // The check cells are filled from the data cells; what the check cells hold before plays no part. A frame that would be uniform is left as it is.
+#[tactic(auto, unfolding(frame::specs::Encode::encode_tests))]
 pub fn encode_frame(s: Shape, frame: &mut [u16]) -> Result<(), Refusal>
     requires { is_shape s ≡ true }
     ensures answer { outcome_of result ≡ outcome (encode_tests s frame.old) }

@@ -28,13 +28,10 @@ pub fn alone(
     requires { Startable longest lengths.now count }
     ensures { result ≡ alone_mark longest lengths.now count l places.now sizes.now }
 {
-    for h in 0..count {
+    (0..count).all(|h| {
         let place = usize::from(places[h]);
         let size = usize::from(sizes[h]);
         let long = usize::from(lengths[h]);
-        if place + usize::min(l, long) > size + longest {
-            return false;
-        }
-    }
-    true
+        place + usize::min(l, long) <= size + longest
+    })
 }

@@ -16,7 +16,7 @@ use refusal::{Refusal, require};
 use shapes::symbols::all_below;
 
 // 0 in the columns of the set.
-// Kept as a while: it goes from one marked column to the next, and not by one.
+// Kept as a while: it ends at the first marked column past the row, and an iterator over the set would not.
 fn clear(set: Columns, row: &mut [u16])
     requires { length row.old ≤ 256 }
     ensures { row.new ≡ cleared (length row.old) set row.old }
@@ -52,6 +52,7 @@ fn as_read(s: Shape, declared: &[u64; 32], frame: &[u16]) -> [u16; 2048]
 }
 
 // The refusals of a frame of which cells are declared.
+#[tactic(auto, unfolding(frame::specs::DeclaredCells::read_tests))]
 pub fn check_read(s: Shape, declared: &[u64; 32], frame: &[u16]) -> Result<(), Refusal>
     requires { is_shape s ≡ true }
     ensures { outcome_of result ≡ outcome (read_tests s (declared_by declared.now) frame.now) }

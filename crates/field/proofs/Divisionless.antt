@@ -1,5 +1,5 @@
 -- Remainders without a division. The quotient by p that a reciprocal of p in parts of a power of two gives (Barrett) is right or one too small, so at most
--- one p is left to take off; and a difference of residues goes below 0 by less than p.
+-- one p is left to take off.
 use mathlib.Core.Path.{◌≡◌, sym, ap, ◌∙◌}
 use Prim.Native.Nat.{ℕ, ◌+◌, ◌-◌, ◌*◌, ◌/◌, ◌%◌, ◌≤◌, ◌<◌}
 use native.Mathlib.Nat.{
@@ -20,9 +20,6 @@ use native.Mathlib.Omega.{arith}
 -- a number below p that differs from v by a multiple of p is the remainder
 remainder_is : (v k p r : ℕ) → r + k * p ≡ v → r < p → r ≡ v % p
 remainder_is v k p r e less = sym (ap (λ (x : ℕ). x % p) (sym e) ∙ add-mul-mod_self_right r k p ∙ mod-eq_of_lt less)
-
-pub halves_fit : {x y : ℕ} → x < 65536 → y < 65536 → x * y < 4294967296
-halves_fit {x} {y} hx hy = omega (arith, mul-le-mul (let e : x ≤ 65535 = omega arith in e) (let e : y ≤ 65535 = omega arith in e))
 
 -- a number whose quotient by p is below 2^24, times the wide reciprocal of p
 pub wide-reciprocal-fits : (p : ℕ) {v m : ℕ} → v ≤ 16777215 * p → m ≡ 1099511627776 / p → m * v < 18446744073709551616
@@ -62,11 +59,3 @@ module _ {b p v m : ℕ} (base : 0 < b) (pos : 0 < p) (within : v ≤ b) (recipr
   corrected above =
       let below : v - t * p - p < p = omega (arith, one-short) in
       (remainder_is v (t + 1) p (v - t * p - p) (omega (arith, not-above)) below, below)
-
--- ---- the difference of two residues
-
-pub taken : {p a b : ℕ} → a < p → b ≤ p → b ≤ a → a - b ≡ (a + (p - b)) % p
-taken {p} {a} {b} ha hb le = remainder_is (a + (p - b)) 1 p (a - b) (omega arith) (omega arith)
-
-pub borrowed : {p a b : ℕ} → a < p → b ≤ p → a < b → a + (p - b) ≡ (a + (p - b)) % p
-borrowed {p} {a} {b} ha hb less = sym (mod-eq_of_lt (let e : a + (p - b) < p = omega arith in e))

@@ -3,12 +3,8 @@ use mathlib.Core.Path.{◌≡◌, sym, ap, ap₂, ◌∙◌}
 use Prim.Native.Nat.{ℕ, ◌+◌, ◌-◌, ◌*◌, ◌/◌, ◌%◌, ◌≤◌, ◌<◌}
 use native.Mathlib.Nat.{add-mod-mod, add-mul-mod_self_right, div-add-mod', mod-add-mod, mod-eq_of_lt, mod-lt, mul_assoc, mul-le-mul, mul-le-mul_right, mul-one}
 use native.Mathlib.Omega.{arith}
-use Rattle.field.proofs.Divisionless.{halves_fit}
 use Rattle.field.proofs.Remainders.{mod-mul-mod, mul-mod-mod, same_remainder}
 use Rattle.field.specs.Residue.{minus, times}
-
-pub top_fits : {x y : ℕ} → x < 65536 → y < 65536 → x * y / 65536 < 65536
-top_fits hx hy = omega (arith, halves_fit hx hy)
 
 pub top_below : {x y p : ℕ} → x < 65536 → y ≤ p → 0 < p → x * y / 65536 < p
 top_below {x} {y} {p} hx hy pos = omega (arith, mul-le-mul (let e : x ≤ 65535 = omega arith in e) hy)

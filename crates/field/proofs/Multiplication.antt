@@ -4,7 +4,7 @@ use mathlib.Core.Path.{◌≡◌, refl, sym, ap, ap₂, ◌∙◌}
 use mathlib.Core.Bool.{Bool, cond}
 use mathlib.Core.List.{List}
 use Prim.Native.Nat.{ℕ, zero, suc, ◌+◌, ◌-◌, ◌*◌, ◌%◌, ◌≤◌, ◌<◌}
-use native.Mathlib.Nat.{mul-le-mul, zero-add}
+use native.Mathlib.Nat.{zero-add}
 use native.Mathlib.Numerals.{add-one}
 use native.Mathlib.Omega.{arith}
 use mir.Syntax.{w16}
@@ -27,10 +27,6 @@ pub shifted-suc : (f : List ℕ) (k : ℕ) → shifted 1 f (suc k) ≡ get_or f 
 unfolding shifted
 shifted-suc f k =
     ap₂ (λ (b : Bool) (m : ℕ). cond b 0 (get_or f m 0)) (le-ltb (suc k) 1 (omega arith)) (let q : suc k - 1 ≡ k = omega arith in q)
-
--- a coefficient of 16 bits times a residue
-pub product-fits : (c v : ℕ) → c ≤ 257 → Fits w16 v → c * v ≤ 257 * 65535
-product-fits c v le fits = mul-le-mul le (let l : v ≤ 65535 = omega arith in l)
 
 module _ (p a b : ℕ) where
   -- coefficient k, made from the one below it and from itself

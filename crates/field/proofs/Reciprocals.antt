@@ -85,11 +85,5 @@ module _ {v p m : ℕ} (dividend : Dividend v p m) where
   pub reciprocal-fits : m * v < 18446744073709551616
   reciprocal-fits = omega (arith, split, fraction-below, quotient-below, dividend.modulus)
 
-  pub fraction-fits : (m * v) % 281474976710656 * p < 18446744073709551616
-  fraction-fits = omega (arith, mul-le-mul (let e : (m * v) % 281474976710656 ≤ 281474976710655 = omega arith in e) dividend.modulus)
-
   pub remainder_is : (m * v) % 281474976710656 * p / 281474976710656 ≡ v % p
   remainder_is = rw fraction-is (omega (arith, scaled, excess_small))
-
-  pub remainder_below : (m * v) % 281474976710656 * p / 281474976710656 < p
-  remainder_below = rw remainder_is rest_below

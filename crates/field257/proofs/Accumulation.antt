@@ -6,7 +6,7 @@ use Prim.Native.Nat.{ℕ, zero, suc, ◌+◌, ◌*◌, ◌%◌, ◌^◌, ◌≤�
 use native.Mathlib.Nat.{add-mod, le_antisymm, mul-le-mul, pow-suc, pow-zero, suc-mul, zero-mul}
 use native.Mathlib.Numerals.{add-one}
 use native.Mathlib.Omega.{arith}
-use mir.Syntax.{w16, w32, w64}
+use mir.Syntax.{w16}
 use mir.Val.{Fits}
 use lib.Pow.{pow-add}
 use lib.ListN.{length, get_or}
@@ -61,15 +61,6 @@ module _ (x : List ℕ) (j : ℕ) where
     }
 
   module _ (i e t : ℕ) (a : Accumulated i e t) where
-    pub fits : length x ≤ 256 → Fits w64 t
-    fits le = let b = a.bounded in let w = a.within in omega arith
-
-    pub exponent-fits : length x ≤ 256 → j < 16777216 → Fits w32 e
-    exponent-fits le h =
-        let w = a.within in
-        let m = mul-le-mul (let z : i ≤ 256 = omega arith in z) (let z : j ≤ 16777215 = omega arith in z) in
-        omega (arith, a.exponent)
-
     pub finished : length x ≤ i → t % 257 ≡ value 257 x (power_of3 j)
     unfolding value
     finished le = a.terms ∙ ap (λ (k : ℕ). total k term % 257) (le_antisymm a.within le)

@@ -1,5 +1,5 @@
 // Powers of 3 modulo 257: the locators of the columns, and the weights of the check sums.
-ghost use Rattle.std.specs.Prelude.{◌≡◌, ◌%◌, ◌<◌, get_or};
+ghost use Rattle.std.specs.Prelude.{◌≡◌, ◌%◌, get_or};
 ghost use Rattle.field257.specs.Table.{table};
 ghost use Rattle.field257.specs.Powers.{power_of3};
 
@@ -25,13 +25,6 @@ pub fn powers() -> [u16; 256]
     ensures { result ≡ table }
 {
     POWERS
-}
-
-pub fn wide(x: u16) -> u32
-    ensures equals { result ≡ x }
-    ensures below { result < 65536 }
-{
-    x as u32
 }
 
 // The entry of what is lent in which the table has 3 to the power e modulo 257, for every e: the powers come round after 256. For loops, to which the table is

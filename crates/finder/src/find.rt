@@ -45,7 +45,7 @@ fn shortest(p: u32, lengths: &[u16], symbols: &[u16], taps: &mut [u16]) -> Regis
         saved: [0; 1152],
     };
     state.taps[0] = 1;
-    rounds(&problem, &mut state);
+    rounds(problem, &mut state);
     let l = state.length;
     let e = l + 1;
     taps[..e].copy_from_slice(&state.taps[..e]);

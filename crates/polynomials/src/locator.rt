@@ -5,7 +5,7 @@ ghost use Rattle.columns.specs.Columns.{members};
 ghost use Rattle.field257.specs.LocatorPolynomial.{locator_polynomial};
 
 use crate::factor::multiply;
-use columns::{Columns, next};
+use columns::Columns;
 use field257::powers::entry;
 
 // The coefficients, and zeros after them. Only those that a factor can change are multiplied.
@@ -16,11 +16,9 @@ pub fn locator_polynomial(powers: &[u16; 256], set: Columns) -> [u16; 65]
     let mut f = [0u16; 65];
     f[0] = 1;
     let mut e = 1;
-    let mut i = next(set, 0);
-    while i < 256 {
+    for i in set.members() {
         e += 1;
         multiply(&mut f[0..e], 257 - u32::from(entry(powers, i as u32)), 1);
-        i = next(set, i + 1);
     }
     f
 }

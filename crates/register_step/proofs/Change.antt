@@ -71,17 +71,13 @@ module _ (p n h d : ℕ) (x : Parts) {taps : List ℕ} (less : taps ≡ reduced_
       rw (le-ltb (get_or x.places h 0 + x.length) (n + get_or x.sizes h 0) short)
       (ap (λ (t : List ℕ). parts x.length x.places x.sizes x.discs x.quotients t x.saved) less)
 
-  pub changed-grows : {q : ℕ} {saved : List ℕ} → q ≡ quotient p (65536 % p) d → saved ≡ replaced (h * 144) 144 x.saved x.taps →
-      get_or x.places h 0 + x.length < n + get_or x.sizes h 0 →
-      parts (n + get_or x.sizes h 0 - get_or x.places h 0) (set x.places h n) (set x.sizes h x.length) (set x.discs h d)
-      (set x.quotients h q) taps saved
-      ≡ changed_parts p n h d x
+  pub changed-grows : {l q : ℕ} {saved : List ℕ} → l ≡ n + get_or x.sizes h 0 - get_or x.places h 0 → q ≡ quotient p (65536 % p) d →
+      saved ≡ replaced (h * 144) 144 x.saved x.taps → get_or x.places h 0 + x.length < n + get_or x.sizes h 0 →
+      parts l (set x.places h n) (set x.sizes h x.length) (set x.discs h d) (set x.quotients h q) taps saved ≡ changed_parts p n h d x
   unfolding changed_parts
-  changed-grows over kept long =
+  changed-grows size over kept long =
       rw (lt-ltb (get_or x.places h 0 + x.length) (n + get_or x.sizes h 0) long)
-      (λ i.
-      parts (n + get_or x.sizes h 0 - get_or x.places h 0) (set x.places h n) (set x.sizes h x.length) (set x.discs h d)
-      (set x.quotients h (over i)) (less i) (kept i))
+      (λ i. parts (size i) (set x.places h n) (set x.sizes h x.length) (set x.discs h d) (set x.quotients h (over i)) (less i) (kept i))
 
 -- the taps by a number that stands for d, at any discrepancy over which the saved quotient stands
 module _ {p n h d : ℕ} {x : Parts} (c : Changeable p n h d x) where
@@ -264,5 +260,5 @@ module _ {p n h d : ℕ} {x : Parts} (positive : 0 < p) (c : Changeable p n h d 
   change-made = pick (dec_lt (place + x.length) (n + size))
     where
       pick : Dec (place + x.length < n + size) → Stepped p (changed p n h d (state_of x)) (changed_parts p n h d x)
-      pick (yes long) = subst (λ (y : Parts). Stepped p (changed p n h d (state_of x)) y) (changed-grows p n h d x refl refl refl long) (grows long)
+      pick (yes long) = subst (λ (y : Parts). Stepped p (changed p n h d (state_of x)) y) (changed-grows p n h d x refl refl refl refl long) (grows long)
       pick (no short) = subst (λ (y : Parts). Stepped p (changed p n h d (state_of x)) y) (changed-stays p n h d x refl (omega arith)) (stays (omega arith))

@@ -8,7 +8,7 @@ pub mod step;
 use discrepancy::Modulus;
 
 // What all steps read: the modulus, and an array of it; the length of the longest sequence; and the first `count` sequences, each backwards in its block of the
-// symbols.
+// symbols. It goes by value: behind a reference its fields would be read anew at each step.
 #[derive(Clone, Copy)]
 pub struct Problem<'a> {
     pub f: Modulus,

@@ -10,13 +10,13 @@ use crate::{Problem, State};
 use discrepancy::due::due;
 use discrepancy::sums::residue;
 
-pub fn step(problem: &Problem, n: usize, h: usize, state: &mut State)
-    requires worked_out { WorkedOut problem.now.f }
-    requires moduli { Moduli problem.now.f.p problem.now.moduli.now }
-    requires steppable { Steppable problem.now.f.p problem.now.longest h (get_or problem.now.lengths.now h 0) n problem.now.symbols.now
+pub fn step(problem: Problem, n: usize, h: usize, state: &mut State)
+    requires worked_out { WorkedOut problem.f }
+    requires moduli { Moduli problem.f.p problem.moduli.now }
+    requires steppable { Steppable problem.f.p problem.longest h (get_or problem.lengths.now h 0) n problem.symbols.now
         (parts_of state.old) }
     ensures { parts_of state.new
-        ≡ step_parts problem.now.f.p problem.now.longest (sequence_in problem.now.symbols.now h (get_or problem.now.lengths.now h 0)) n h
+        ≡ step_parts problem.entry.f.p problem.entry.longest (sequence_in problem.entry.symbols.now h (get_or problem.entry.lengths.now h 0)) n h
         (parts_of state.old) }
 {
     let f = problem.f;

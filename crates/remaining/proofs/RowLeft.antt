@@ -2,7 +2,7 @@
 -- terms of its entry.
 use mathlib.Core.Path.{◌≡◌, sym, ap, ap₂, ◌∙◌}
 use mathlib.Core.List.{List}
-use Prim.Native.Nat.{ℕ, suc, ◌+◌, ◌-◌, ◌*◌, ◌%◌, ◌≤◌, ◌<◌, zero-le}
+use Prim.Native.Nat.{ℕ, suc, ◌+◌, ◌-◌, ◌*◌, ◌%◌, ◌≤◌, ◌<◌}
 use native.Mathlib.Nat.{mul-le-mul}
 use native.Mathlib.Numerals.{add-one}
 use native.Mathlib.Omega.{arith}
@@ -27,16 +27,12 @@ term f x e j i = get_or f i 0 * get_or x (e + suc j - i - 1) 0
 
 -- for each of n entries the first k coefficients are multiplied with the sums that they meet
 pub record Multiplied (f x : List ℕ) (e n k : ℕ) (totals : List ℕ) : Type 0 where
-  pub within : k ≤ e + 1
   pub held : Totals n (λ j. total k (term f x e j)) totals
 
 pub multiplied_none : (f x : List ℕ) (e n : ℕ) → Multiplied f x e n 0 (zeros 64)
 multiplied_none f x e n =
     let none : ℕ = 0 in
-    record {
-      within = zero-le;
-      held = record { size = length-replicate 64 none; each = λ j l. zeros-entry 64 j ∙ sym (total-zero (term f x e j)) };
-    }
+    record { held = record { size = length-replicate 64 none; each = λ j l. zeros-entry 64 j ∙ sym (total-zero (term f x e j)) } }
 
 module _ {f x : List ℕ} {e n k : ℕ} {totals : List ℕ} (a : Multiplied f x e n k totals) where
   one_more : k ≤ e → (j : ℕ) → j < n → grown totals (get_or f k 0) x (e - k) j ≡ total (k + 1) (term f x e j)
@@ -45,10 +41,7 @@ module _ {f x : List ℕ} {e n k : ℕ} {totals : List ℕ} (a : Multiplied f x 
       ∙ sym (total-suc k (term f x e j)) ∙ ap (λ (m : ℕ). total m (term f x e j)) (sym (add-one k))
 
   pub multiplied_more : k ≤ e → {after : List ℕ} → Totals n (grown totals (get_or f k 0) x (e - k)) after → Multiplied f x e n (k + 1) after
-  multiplied_more le b = record {
-    within = omega arith;
-    held = record { size = b.size; each = λ j l. b.each j l ∙ one_more le j l };
-  }
+  multiplied_more le b = record { held = record { size = b.size; each = λ j l. b.each j l ∙ one_more le j l } }
 
   -- where the coefficients are those of the locator polynomial of a set
   module _ {powers left : List ℕ} {J : Columns} (r : Removable powers J x left) (count : e ≡ length (members J)) (places : n ≡ length left)
@@ -67,11 +60,11 @@ module _ {f x : List ℕ} {e n k : ℕ} {totals : List ℕ} (a : Multiplied f x 
     }
 
     -- with all of them the totals, reduced, are what is left
-    pub multiplied_all : e < k → tabulate n (λ j. get_or totals j 0 % 257) ≡ remaining J x
+    pub multiplied_all : k ≡ e + 1 → tabulate n (λ j. get_or totals j 0 % 257) ≡ remaining J x
     unfolding remaining discrepancy
     multiplied_all past =
         ap (λ (m : ℕ). tabulate m (λ j. get_or totals j 0 % 257)) (places ∙ r.places)
         ∙ tabulate_ext _ _ _ (λ j l.
         ap (λ (t : ℕ). t % 257) (a.held.each j (omega (arith, r.places))
-        ∙ ap (λ (m : ℕ). total m (term f x e j)) (let q : k ≡ suc (length (members J)) = omega (arith, a.within) in q)
+        ∙ ap (λ (m : ℕ). total m (term f x e j)) (let q : k ≡ suc (length (members J)) = omega arith in q)
         ∙ total_ext _ _ _ (λ i _. ap₂ (λ (c ε : ℕ). c * get_or x (ε + suc j - i - 1) 0) (agree i) count)))

@@ -22,7 +22,7 @@ use Rattle.frame.proofs.Declarable.{declared-few}
 use Rattle.frame.proofs.HeldParts.{part-below}
 use Rattle.frame.proofs.HeldRows.{sums-room, length_part, part_held, part-lent}
 use Rattle.frame.proofs.Shapes.{shape-ranges}
-use Rattle.lists.proofs.Parts.{length-replaced, part-replaced}
+use Rattle.lists.proofs.Parts.{part-replaced}
 use Rattle.lists.proofs.Tabulated.{every-at}
 use Rattle.lists.proofs.Testing.{Tested, tested-none}
 use Rattle.lists.proofs.Totals.{total-zero, total-suc}
@@ -39,9 +39,6 @@ module _ (J : Columns) (x y : List ℕ) (m : ℕ) (few : length x ≤ 64) (e : m
   fits : length y ≡ n - 0
   fits = ap length written ∙ length-remaining J x ∙ (let q : length x - length (members J) ≡ n - 0 = omega arith in q)
 
-  pub written-length : length (put_mid 0 (n - 0) (zeros 64) y) ≡ 64
-  written-length = length-replaced 0 (n - 0) (zeros 64) y (omega arith) fits
-
   pub written-part : mid_of 0 (n - 0) (put_mid 0 (n - 0) (zeros 64) y) ≡ remaining J x
   written-part = part-replaced 0 (n - 0) (zeros 64) y (omega arith) fits ∙ written
 
@@ -52,27 +49,26 @@ module _ (s : Shape) (D : Declared) (M : Columns) (sums : List ℕ) where
   abbrev pub row_test : ℕ → Bool
   row_test h = passes_row M (D h) (get_or (held_sequences s sums) h [])
 
-  -- the rows before h pass; their sums stand in `at` places
+  -- the rows before h pass; their sums stand in `at` places, and those of the next row end within 512
   pub record TestedBefore (h at : ℕ) : Type 0 where
+    pub rows-most : s.rows ≤ 8
     pub sums-passed : at ≡ sums_before s h
+    pub sums-end : h < s.rows → at + checks_of s h ≤ 512
     pub tested : Tested s.rows row_test h true
 
-  -- where the sums of the next row lie
-  pub record RowLent (h at : ℕ) : Type 0 where
-    pub row_number : h < 8
-    pub most : checks_of s h ≤ 64
-    pub sums-end : at + checks_of s h ≤ 512
+  module _ (asked : Testable s D M sums) where
+    before : (h at : ℕ) → at ≡ sums_before s h → Tested s.rows row_test h true → TestedBefore h at
+    before h at passed t = record {
+      rows-most = (shape-ranges s asked.shape).rows-most;
+      sums-passed = passed;
+      sums-end = λ l. omega (arith, sums-room s asked.shape h l);
+      tested = t;
+    }
 
-  pub before-none : TestedBefore 0 0
-  before-none = record { sums-passed = sym (total-zero (checks_of s)); tested = tested-none _ _ }
+    pub before-none : TestedBefore 0 0
+    before-none = before 0 0 (sym (total-zero (checks_of s))) (tested-none _ _)
 
   module _ (asked : Testable s D M sums) (sized : length sums ≡ 512) (h at : ℕ) (passed : at ≡ sums_before s h) (l : h < s.rows) where
-    pub row-lent : RowLent h at
-    row-lent =
-        let r = shape-ranges s asked.shape in
-        let rows = r.rows-most in
-        record { row_number = omega arith; most = (r.checks h l).most; sums-end = omega (arith, sums-room s asked.shape h l) }
-
     few : length (members (either M (D h))) ≤ checks_of s h
     unfolding left_reach
     few =
@@ -93,7 +89,7 @@ module _ (s : Shape) (D : Declared) (M : Columns) (sums : List ℕ) where
           record {
             powers_known = known;
             few = subst⁻¹ (λ (K : Columns). length (members (either M K)) ≤ length lent) same (let f = few in omega arith);
-            sums-few = (let m = row-lent.most in omega arith);
+            sums-few = (let m = ((shape-ranges s asked.shape).checks h l).most in omega arith);
             sums-small = part-below sums asked.sums-small at (at + c - at);
           }
 
@@ -101,5 +97,5 @@ module _ (s : Shape) (D : Declared) (M : Columns) (sums : List ℕ) where
       pub row-tested : (b : Bool) → b ≡ passes_row M J lent → row_test h ≡ b
       row-tested b r = sym (r ∙ ap₂ (λ (K : Columns) (x : List ℕ). passes_row M K x) same lent-held)
 
-      pub passed-more : at + c ≡ sums_before s (h + 1)
-      passed-more = ap₂ ◌+◌ passed e ∙ sym (ap (sums_before s) (add-one h) ∙ total-suc h (checks_of s))
+      pub before-more : Tested s.rows row_test (h + 1) true → TestedBefore (h + 1) (at + c)
+      before-more = before asked (h + 1) (at + c) (ap₂ ◌+◌ passed e ∙ sym (ap (sums_before s) (add-one h) ∙ total-suc h (checks_of s)))

@@ -36,11 +36,11 @@ module _ (s : Shape) (shape : is_shape s ≡ true) where
   ranges : Ranges s
   ranges = shape-ranges s shape
 
-  pub left-most : (D : Declared) (h : ℕ) → h < s.rows → checks_left s D h ≤ 64
+  left-most : (D : Declared) (h : ℕ) → h < s.rows → checks_left s D h ≤ 64
   left-most D h l = let m = (ranges.checks h l).most in omega arith
 
   -- what is left of all rows fits 512 places
-  pub left-fits : (D : Declared) → total s.rows (checks_left s D) ≤ 512
+  left-fits : (D : Declared) → total s.rows (checks_left s D) ≤ 512
   left-fits D = let rows = ranges.rows-most in omega (arith, total-bound s.rows 64 (checks_left s D) (left-most D))
 
 -- ---- what has been written
@@ -50,30 +50,48 @@ module _ (s : Shape) (D : Declared) (sums : List ℕ) where
   abbrev left_of : ℕ → List ℕ
   left_of h = remaining (D h) (part_of s sums h)
 
+  -- where the next row lies, of 8 at most: its sums and what is left of them end within 512 places
+  pub record RowRoom (h at count : ℕ) : Type 0 where
+    pub rows-most : s.rows ≤ 8
+    pub few : h < s.rows → erasures D h ≤ checks_of s h
+    pub most : h < s.rows → checks_of s h ≤ 64
+    pub sums-end : h < s.rows → at + checks_of s h ≤ 512
+    pub left_end : h < s.rows → count + checks_left s D h ≤ 512
+
   -- after h rows: the sums of `at` places are passed, and what is left of them stands in `count` places
   pub record LeftBefore (h at count : ℕ) (lengths symbols : List ℕ) : Type 0 where
     pub rows-passed : h ≤ s.rows
     pub sums-passed : at ≡ sums_before s h
     pub places : count ≡ total h (checks_left s D)
+    pub room : RowRoom h at count
     pub counted : Filled (checks_left s D) (zeros 8) h lengths
     pub appended : Appended 512 left_of h count symbols
 
-  -- where the next row lies: its sums and what is left of them end within 512 places
-  pub record RowRoom (h at count : ℕ) : Type 0 where
-    pub row_number : h < 8
-    pub few : erasures D h ≤ checks_of s h
-    pub most : checks_of s h ≤ 64
-    pub sums-end : at + checks_of s h ≤ 512
-    pub left_end : count + checks_left s D h ≤ 512
+  module _ (shape : is_shape s ≡ true) (ok : declarable s D ≡ true) where
+    row_room : (h at count : ℕ) → at ≡ sums_before s h → count ≡ total h (checks_left s D) → RowRoom h at count
+    row_room h at count passed places =
+        let r = shape-ranges s shape in
+        let fits = left-fits s shape D in
+        record {
+          rows-most = r.rows-most;
+          few = λ l. declared-few s D ok h l;
+          most = λ l. (r.checks h l).most;
+          sums-end = λ l. omega (arith, sums-room s shape h l);
+          left_end = λ l. omega (arith, total-within (checks_left s D) h s.rows l);
+        }
 
-  pub left-none : LeftBefore 0 0 0 (zeros 8) (zeros 512)
-  left-none = record {
-    rows-passed = zero-le;
-    sums-passed = sym (total-zero (checks_of s));
-    places = sym (total-zero (checks_left s D));
-    counted = filled_none (checks_left s D) (zeros 8);
-    appended = appended-none 512 left_of;
-  }
+    pub left-none : LeftBefore 0 0 0 (zeros 8) (zeros 512)
+    left-none =
+        let passed = sym (total-zero (checks_of s)) in
+        let places = sym (total-zero (checks_left s D)) in
+        record {
+          rows-passed = zero-le;
+          sums-passed = passed;
+          places = places;
+          room = row_room 0 0 0 passed places;
+          counted = filled_none (checks_left s D) (zeros 8);
+          appended = appended-none 512 left_of;
+        }
 
   module _ (shape : is_shape s ≡ true) (sized : length sums ≡ 512) where
     length-left : (h : ℕ) → h < s.rows → length (left_of h) ≡ checks_left s D h
@@ -84,33 +102,18 @@ module _ (s : Shape) (D : Declared) (sums : List ℕ) where
     left_at h l = get_d_tabulate s.rows _ h [] l ∙ ap (remaining (D h)) (part_held s sums h l)
 
     module _ (h at count : ℕ) (lengths symbols : List ℕ) (a : LeftBefore h at count lengths symbols) (l : h < s.rows) where
-      pub row_room : declarable s D ≡ true → RowRoom h at count
-      row_room ok =
-          let r = shape-ranges s shape in
-          let rows = r.rows-most in
-          let fits = left-fits s shape D in
-          let within = total-within (checks_left s D) h s.rows l in
-          let passed = a.sums-passed in
-          let places = a.places in
-          record {
-            row_number = omega arith;
-            few = declared-few s D ok h l;
-            most = (r.checks h l).most;
-            sums-end = omega (arith, sums-room s shape h l);
-            left_end = omega arith;
-          }
-
       one_more : (f : ℕ → ℕ) → total (h + 1) f ≡ total h f + f h
       one_more f = ap (λ (k : ℕ). total k f) (add-one h) ∙ total-suc h f
 
       -- the next row is written: y is what is left of its sums as they are lent, n how much that is
-      pub left-more : (c n : ℕ) (J : Columns) (y : List ℕ) → c ≡ checks_of s h → J ≡ D h → n ≡ length (members J) → count + (c - n) ≤ 512
+      pub left-more : declarable s D ≡ true → (c n : ℕ) (J : Columns) (y : List ℕ) → c ≡ checks_of s h → J ≡ D h → n ≡ length (members J) → count + (c - n) ≤ 512
           → y ≡ remaining J (mid_of at (at + c - at) sums)
           → LeftBefore (h + 1) (at + c) (count + (c - n)) (set lengths h (c - n)) (put_mid count (count + (c - n) - count) symbols y)
-      left-more c n J y e same m room written = record {
+      left-more ok c n J y e same m room written = record {
         rows-passed = omega arith;
-        sums-passed = ap₂ ◌+◌ a.sums-passed e ∙ sym (one_more (checks_of s));
-        places = ap₂ ◌+◌ a.places left ∙ sym (one_more (checks_left s D));
+        sums-passed = passed;
+        places = places;
+        room = row_room shape ok (h + 1) (at + c) (count + (c - n)) passed places;
         counted =
             filled_more (checks_left s D) (zeros 8) h (c - n) lengths a.counted
             (let z = a.counted.size in let r = (shape-ranges s shape).rows-most in omega arith) left;
@@ -121,6 +124,12 @@ module _ (s : Shape) (D : Declared) (sums : List ℕ) where
         where
           left : c - n ≡ checks_left s D h
           left = ap₂ ◌-◌ e (m ∙ ap (λ (K : Columns). length (members K)) same)
+
+          passed : at + c ≡ sums_before s (h + 1)
+          passed = ap₂ ◌+◌ a.sums-passed e ∙ sym (one_more (checks_of s))
+
+          places : count + (c - n) ≡ total (h + 1) (checks_left s D)
+          places = ap₂ ◌+◌ a.places left ∙ sym (one_more (checks_left s D))
 
     -- where what is left of a row begins
     before-left : (h : ℕ) → h ≤ s.rows → length (joined (tabulate h left_of)) ≡ total h (checks_left s D)

@@ -10,6 +10,7 @@ use field257::powers::powers;
 use frame::Shape;
 
 // The lengths of the sequences; their symbols, one sequence after the other; how many symbols these are.
+// Kept as a buffer of fixed size with its count beside: the library has no heap, and so no Vec.
 #[derive(Clone, Copy)]
 pub struct Left {
     pub lengths: [u16; 8],

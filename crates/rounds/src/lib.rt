@@ -9,11 +9,11 @@ use register_step::{Problem, State};
 use settled::test::is_settled;
 
 // Round n + 1: a step for each sequence.
-fn round(problem: &Problem, n: usize, state: &mut State)
-    requires posed { Posed problem.now }
-    requires n_lt_longest { n < problem.now.longest }
-    requires made { RoundsMade problem.now n state.old }
-    ensures { RoundsMade problem.now (n + 1) state.new }
+fn round(problem: Problem, n: usize, state: &mut State)
+    requires posed { Posed problem }
+    requires n_lt_longest { n < problem.longest }
+    requires made { RoundsMade problem n state.old }
+    ensures { RoundsMade problem.entry (n + 1) state.new }
 {
     for h in 0..problem.count {
         step(problem, n + 1, h, state);
@@ -21,11 +21,11 @@ fn round(problem: &Problem, n: usize, state: &mut State)
 }
 
 // The rounds from + 1 .. to.
-fn advance(problem: &Problem, from: usize, to: usize, state: &mut State)
-    requires posed { Posed problem.now }
-    requires from_le_to { (from ≤ to) × (to ≤ problem.now.longest) }
-    requires made { RoundsMade problem.now from state.old }
-    ensures { RoundsMade problem.now to state.new }
+fn advance(problem: Problem, from: usize, to: usize, state: &mut State)
+    requires posed { Posed problem }
+    requires from_le_to { (from ≤ to) × (to ≤ problem.longest) }
+    requires made { RoundsMade problem from state.old }
+    ensures { RoundsMade problem.entry to state.new }
 {
     for n in from..to {
         round(problem, n, state);
@@ -34,11 +34,11 @@ fn advance(problem: &Problem, from: usize, to: usize, state: &mut State)
 
 // All rounds, as long as they may change something. Where fewer than half as many taps as rounds were needed the register is likely settled, and is tested
 // after 9 rounds and after 17; the rounds that are left are not made where it is.
-fn until_settled(problem: &Problem, state: &mut State)
-    requires posed { Posed problem.now }
-    requires fact { (problem.now.f.p ≡ 2 → ⊥) × (17 < problem.now.longest) }
-    requires made { RoundsMade problem.now 0 state.old }
-    ensures { RoundsMade problem.now problem.now.longest state.new }
+fn until_settled(problem: Problem, state: &mut State)
+    requires posed { Posed problem }
+    requires fact { (problem.f.p ≡ 2 → ⊥) × (17 < problem.longest) }
+    requires made { RoundsMade problem 0 state.old }
+    ensures { RoundsMade problem.entry problem.entry.longest state.new }
 {
     let mut n = 0;
     for to in [9, 17, problem.longest] {
@@ -52,10 +52,10 @@ fn until_settled(problem: &Problem, state: &mut State)
 
 // All rounds, as long as they may change something. Where there are few it does not pay to look whether the register is settled, and modulo 2 the test does not
 // serve.
-pub fn rounds(problem: &Problem, state: &mut State)
-    requires posed { Posed problem.now }
-    requires made { RoundsMade problem.now 0 state.old }
-    ensures { RoundsMade problem.now problem.now.longest state.new }
+pub fn rounds(problem: Problem, state: &mut State)
+    requires posed { Posed problem }
+    requires made { RoundsMade problem 0 state.old }
+    ensures { RoundsMade problem.entry problem.entry.longest state.new }
 {
     if problem.longest < 24 || problem.f.p == 2 {
         advance(problem, 0, problem.longest, state);

@@ -1,5 +1,5 @@
 -- The answers of the search as the code makes them.
-use mathlib.Core.Path.{◌≡◌, refl, sym, ap, ap₂, ◌∙◌}
+use mathlib.Core.Path.{◌≡◌, refl, ap₂, ◌∙◌}
 use mathlib.Core.Bool.{and-eq-true_iff}
 use mathlib.Core.List.{List}
 use Prim.Native.Nat.{ℕ, ◌≤◌, ◌<◌}
@@ -13,12 +13,10 @@ use Rattle.decoding.specs.Searching.{searched}
 use Rattle.decoding.proofs.Searching.{search-none, search-ends, none_tried}
 use Rattle.field.proofs.Coefficients.{residues-past}
 use Rattle.frame.specs.Shape.{columns_in_range}
-use Rattle.lists.specs.Tabulate.{every}
 use Rattle.lists.proofs.Tabulated.{every-at}
 use Rattle.refusal.specs.Outcome.{passed, outcome}
 use Rattle.refusal.proofs.Orders.{no_fail, passed-pass}
 use Rattle.search.specs.Search.{nothing, sought, search_tests}
-use Rattle.search.specs.declared.Sought.{Sought}
 
 -- the search ends after i columns, with what they have
 pub ended : (n : ℕ) (σ : List ℕ) (i : ℕ) {r : Columns} {t : ℕ} → r ≡ searched σ i → t ≡ i → i ≡ tried_for n σ

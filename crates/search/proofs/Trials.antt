@@ -2,7 +2,7 @@
 use mathlib.Core.Path.{◌≡◌, refl, sym, ap, subst⁻¹, ◌∙◌}
 use mathlib.Core.Bool.{true, false, ◌||◌}
 use mathlib.Core.List.{List, [], ◌∷◌}
-use Prim.Native.Nat.{ℕ, ◌+◌, ◌-◌, ◌%◌, ◌≤◌, ◌<◌}
+use Prim.Native.Nat.{ℕ, ◌+◌, ◌-◌, ◌%◌, ◌≤◌, ◌<◌, min}
 use native.Mathlib.Omega.{arith}
 use lib.Dec.{eqb}
 use lib.ListN.{length, get_or, take, drop, length-drop}
@@ -11,6 +11,7 @@ use borrow.Author.Tests.{eq-eqb, ne_eqb}
 use Rattle.columns.specs.Columns.{has, marking, columns_of, Sound}
 use Rattle.columns.proofs.Marks.{none-marked, columns_of-sound}
 use Rattle.decoding.specs.Locating.{is_root}
+use Rattle.decoding.specs.Search.{tried_for}
 use Rattle.decoding.specs.Searching.{searched, Trying}
 use Rattle.decoding.proofs.Searching.{search-none, search-root, search-other}
 use Rattle.decoding.proofs.Searching.{trying-starts, trying-root, trying-other, trying-ends}
@@ -23,6 +24,12 @@ use Rattle.search.specs.Block.{Searching, Blockable, Tried}
 use Rattle.search.specs.Values.{Points}
 use Rattle.weights.specs.Weights.{carried}
 use Rattle.weights.proofs.CarriedRoot.{carried-root}
+
+-- Columns below i are tried: the search is over, or it goes on.
+pub record SoFar (σ : List ℕ) (n i left : ℕ) (words : List ℕ) : Type 0 where
+  pub marked : marking words ≡ searched σ i
+  pub ends : left ≡ 0 → i ≡ tried_for n σ
+  pub goes_on : 0 < left → Searching σ n i left words
 
 -- the search starts with no column tried
 pub searching-starts : (σ : List ℕ) (n : ℕ) → 2 ≤ length σ → Searching σ n 0 (length σ - 1) (0 ∷ 0 ∷ 0 ∷ 0 ∷ [])
@@ -55,20 +62,17 @@ module _ (σ : List ℕ) (n from : ℕ) where
     room = let w = asked.searching.whole asked.more in omega (arith, asked.few, asked.more)
 
     -- it ends after 64 columns, or with the last
-    block-starts : (to : ℕ) → to ≤ from + 64 → to ≤ n → (to < n → to ≡ from + 64) → from < to → InBlock to from most words₀
-    block-starts to end last whole some = record {
-      block = record { aligned = asked.searching.whole asked.more; some = some; end = end; last = last; whole = whole };
-      started = omega arith;
-      within = omega arith;
-      marked = asked.searching.marked;
-      trying = asked.searching.trying;
-    }
-
-    pub starts-cut : (to : ℕ) → n < from + 64 → to ≡ n → InBlock to from most words₀
-    starts-cut to cut e = block-starts to (omega arith) (omega arith) (λ l. absurd (let z : ⊥ = omega arith in z)) (let m = asked.more in omega arith)
-
-    pub starts-whole : (to : ℕ) → from + 64 ≤ n → to ≡ from + 64 → InBlock to from most words₀
-    starts-whole to more e = block-starts to (omega arith) (omega arith) (λ l. e) (omega arith)
+    pub block-starts : (to : ℕ) → to ≡ min (from + 64) n → InBlock to from most words₀
+    block-starts to e =
+        let more = asked.more in
+        record {
+          block =
+              record { aligned = asked.searching.whole more; some = omega arith; end = omega arith; last = omega arith; whole = λ less. omega arith };
+          started = omega arith;
+          within = omega arith;
+          marked = asked.searching.marked;
+          trying = asked.searching.trying;
+        }
 
     -- ---- the locators of the block
 

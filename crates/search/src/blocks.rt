@@ -26,13 +26,9 @@ pub fn try_block(
 {
     let end = from + 64;
     let v = values(taps, &powers[from..end]);
-    let mut to = end;
-    if columns < end {
-        to = columns;
-    }
+    let to = end.min(columns);
     let mut left = wanted;
-    let mut i = from;
-    while i < to {
+    for i in from..to {
         if v[i - from] % 257 == 0 {
             mark(words, i);
             left -= 1;
@@ -40,7 +36,6 @@ pub fn try_block(
                 return Trial { left, tried: i + 1 };
             }
         }
-        i += 1;
     }
     Trial { left, tried: to }
 }

@@ -1,7 +1,7 @@
 // The search for roots of taps at the columns.
 ghost use Rattle.std.specs.Prelude.{◌≡◌, ◌≤◌};
 ghost use Rattle.refusal.specs.Outcome.{outcome_of, outcome};
-ghost use Rattle.search.specs.Search.{nothing, sought, search_tests, answer_of, answer};
+ghost use Rattle.search.specs.Search.{sought, search_tests, answer_of, answer};
 
 use crate::Sought;
 use crate::blocks::try_block;
@@ -11,46 +11,35 @@ use refusal::{Refusal, require};
 use shapes::shape::columns_in_range;
 use shapes::symbols::all_below;
 
-// No column found, none tried.
-fn nothing() -> Sought
-    ensures { result ≡ nothing }
-{
-    let columns = columns::empty();
-    Sought { columns, tried: 0 }
-}
-
 // For callers who know that there are no more than 256 columns. With one tap or none there is nothing to find.
 pub fn sought_columns(columns: usize, taps: &[u16]) -> Sought
     requires { columns ≤ 256 }
     ensures { result ≡ sought columns taps.now }
 {
     if taps.len() < 2 {
-        return nothing();
+        return Sought {
+            columns: columns::empty(),
+            tried: 0,
+        };
     }
     let powers = powers();
-    let mut words = [0u64; 4];
+    let mut words = [0; 4];
     let mut left = taps.len() - 1;
     let mut tried = 0;
-    while tried < columns {
+    // Kept as a while: how far it comes is what try_block answers.
+    while left > 0 && tried < columns {
         let trial = try_block(&powers, taps, columns, tried, left, &mut words);
         left = trial.left;
         tried = trial.tried;
-        if left == 0 {
-            let found = Columns { words };
-            return Sought {
-                columns: found,
-                tried,
-            };
-        }
     }
-    let found = Columns { words };
     Sought {
-        columns: found,
+        columns: Columns { words },
         tried,
     }
 }
 
 // The refusals of the search.
+#[tactic(auto, unfolding(crate::specs::Search::search_tests))]
 fn check(columns: usize, taps: &[u16]) -> Result<(), Refusal>
     ensures { outcome_of result ≡ outcome (search_tests columns taps.now) }
 {

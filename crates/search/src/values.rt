@@ -13,10 +13,8 @@ fn step(tap: u16, x: &[u16], z: &[u16; 64], v: &mut [u16; 64])
     requires { Steppable tap x.now z.now v.old }
     ensures { v.new ≡ tabulate 64 (λ i. tap + montgomery (get_or v.old i 0) (get_or x.now i 0)) }
 {
-    let mut i = 0;
-    while i < 64 {
+    for i in 0..64 {
         v[i] = tap + product(v[i], x[i], z[i]);
-        i += 1;
     }
 }
 
@@ -26,11 +24,9 @@ pub fn values(taps: &[u16], x: &[u16]) -> [u16; 64]
     ensures { (i : ℕ) → i < 64 → get_or result i 0 % 257 ≡ carried taps.now (get_or x.now i 0) (length taps.now) }
 {
     let z = companions(x);
-    let mut v = [0u16; 64];
-    let mut k = 0;
-    while k < taps.len() {
-        step(light(taps[k]), x, &z, &mut v);
-        k += 1;
+    let mut v = [0; 64];
+    for tap in taps {
+        step(light(*tap), x, &z, &mut v);
     }
     v
 }

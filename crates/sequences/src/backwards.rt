@@ -10,8 +10,9 @@ fn backwards(to: &mut [u16], s: &[u16])
     requires { length to.old ≡ length s.now }
     ensures { to.new ≡ tabulate (length s.now) (λ k. get_or s.now (length s.now - suc k) 0) }
 {
-    to.copy_from_slice(s);
-    to.reverse();
+    for (k, x) in to.iter_mut().enumerate() {
+        *x = s[s.len() - 1 - k];
+    }
 }
 
 // Each of the first sequences in its block.

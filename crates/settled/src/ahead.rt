@@ -7,9 +7,9 @@ use reduction::taking::take_off;
 use register_step::{Problem, State};
 
 // The discrepancies at the last `count` symbols of sequence h, which stands backwards in its block: each over −2^16.
-pub fn ahead(problem: &Problem, state: &State, h: usize, count: usize) -> [u16; 144]
-    requires { Foreseeable problem.now.f problem.now.moduli.now state.now.length state.now.taps h count }
-    ensures { Ahead problem.now.f.p state.now.length state.now.taps problem.now.symbols.now (h * 144) count result }
+pub fn ahead(problem: Problem, state: &State, h: usize, count: usize) -> [u16; 144]
+    requires { Foreseeable problem.f problem.moduli.now state.now.length state.now.taps h count }
+    ensures { Ahead problem.entry.f.p state.now.length state.now.taps problem.entry.symbols.now (h * 144) count result }
 {
     let mut cells = [0u16; 144];
     let end = padded(count);

@@ -7,10 +7,10 @@ use register_step::{Problem, State};
 use sequences::zeros::all_zero;
 
 // Whether the register is settled in sequence h: of its last symbols, `left` of them, those are looked at that ask something of it.
-fn is_settled_in(problem: &Problem, state: &State, h: usize, left: usize) -> bool
-    requires { Testable problem.now.f problem.now.moduli.now state.now.length state.now.taps h (get_or problem.now.lengths.now h 0) }
-    ensures { result ≡ settled_in problem.now.f.p state.now.length state.now.taps problem.now.symbols.now h
-        (get_or problem.now.lengths.now h 0) left }
+fn is_settled_in(problem: Problem, state: &State, h: usize, left: usize) -> bool
+    requires { Testable problem.f problem.moduli.now state.now.length state.now.taps h (get_or problem.lengths.now h 0) }
+    ensures { result ≡ settled_in problem.entry.f.p state.now.length state.now.taps problem.entry.symbols.now h
+        (get_or problem.entry.lengths.now h 0) left }
 {
     let long = usize::from(problem.lengths[h]);
     let count = left.min(long.saturating_sub(state.length));
@@ -19,11 +19,11 @@ fn is_settled_in(problem: &Problem, state: &State, h: usize, left: usize) -> boo
 }
 
 // Whether it is settled in the first `count` sequences, with `left` rounds to come. Modulo 2 this is not asked.
-pub fn is_settled(problem: &Problem, state: &State, left: usize) -> bool
-    requires { (problem.now.count ≤ 8) × ((h : ℕ) → h < problem.now.count →
-        Testable problem.now.f problem.now.moduli.now state.now.length state.now.taps h (get_or problem.now.lengths.now h 0)) }
-    ensures { result ≡ settled problem.now.f.p state.now.length state.now.taps problem.now.symbols.now problem.now.lengths.now
-        problem.now.count left }
+pub fn is_settled(problem: Problem, state: &State, left: usize) -> bool
+    requires { (problem.count ≤ 8) × ((h : ℕ) → h < problem.count →
+        Testable problem.f problem.moduli.now state.now.length state.now.taps h (get_or problem.lengths.now h 0)) }
+    ensures { result ≡ settled problem.entry.f.p state.now.length state.now.taps problem.entry.symbols.now problem.entry.lengths.now
+        problem.entry.count left }
 {
     for h in 0..problem.count {
         if !is_settled_in(problem, state, h, left) {

@@ -33,7 +33,7 @@ pub fn rows_coded<F: Fn(usize) -> usize>(s: Shape, a: u16, count: F) -> bool
     requires { SummedRows s a (F.pre count) (F.post count) }
     ensures { (m : ℕ → ℕ) → ((h n : ℕ) → h < s.rows → F.post count h n → n ≡ m h) → result ≡ every s.rows (λ h. constant_coded s.exponent s.columns a (m h)) }
 {
-    let mut most = 0;
+    let mut most: usize = 0;
     for h in 0..s.rows {
         most = most.max(count(h));
     }

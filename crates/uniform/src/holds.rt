@@ -16,10 +16,8 @@ pub fn all_hold(cells: &[u16], a: u16) -> bool
 pub fn kept_hold(cells: &[u16], set: Columns, a: u16) -> bool
     ensures { result ≡ every (length cells.now) (λ k. has set k || eqb (get_or cells.now k 0) a) }
 {
-    for (k, x) in cells.iter().enumerate() {
-        if *x != a && !contains(set, k) {
-            return false;
-        }
-    }
-    true
+    cells
+        .iter()
+        .enumerate()
+        .all(|(k, x)| *x == a || contains(set, k))
 }

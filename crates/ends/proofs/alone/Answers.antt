@@ -1,32 +1,22 @@
-use mathlib.Core.Path.{refl}
-use mathlib.Core.Bool.{true}
+-- `alone` answers the alone mark.
+use mathlib.Core.Path.{◌≡◌, refl, ◌∙◌}
+use mathlib.Core.Bool.{true, false}
 use native.Mathlib.Omega.{arith}
 use borrow.Author.Rules.{rules}
-use Rattle.ends.specs.Ends.{alone_mark}
-use Rattle.ends.proofs.Marking.{mark-passes, mark-fails}
-use Rattle.lists.proofs.Testing.{tested-none, tested_out, tested-pass, tested-all}
+use borrow.Author.Tests.{tests}
+use Rattle.std.proofs.lemmas.Iterator.{cases_from_all, YieldsList-from_range}
+use Rattle.lists.proofs.Tabulated.{every_ext}
+use Rattle.ends.specs.Ends.{alone_mark, mark_test}
+use Rattle.ends.proofs.Marking.{compared, compared-marks}
+use Rattle.ends.proofs.Ranges.{decided}
 use Rattle.ends.proofs.alone.Goals as goal
-
-pub loop-h-init : goal.loop-h-init
-loop-h-init c = tested-none _ _
-
-pub returns-then-place-min : goal.returns-then-place-min
-unfolding alone_mark
-returns-then-place-min c =
-    let args = c.args in
-    let h = c.loop-h.h in
-    tested_out _ _ h (search rules)
-    (mark-fails args.longest args.lengths.now args.l args.places.now args.sizes.now h c.min.result (c.requires.shorter h (search rules)) (omega arith)
-    (omega arith))
-
-pub loop-h-preserved : goal.loop-h-preserved
-loop-h-preserved c =
-    let args = c.args in
-    let h = c.loop-h.h in
-    tested-pass _ _ h true c.loop-h.invariant (search rules) true refl
-    (mark-passes args.longest args.lengths.now args.l args.places.now args.sizes.now h c.min.result (c.requires.shorter h (search rules)) (omega arith)
-    (omega arith))
 
 pub returns : goal.returns
 unfolding alone_mark
-returns c = tested-all _ _ _ _ c.loop-h.invariant (omega arith)
+returns c =
+    let a = c.args in
+    let test = compared a.longest a.lengths.now a.l a.places.now a.sizes.now in
+    decided a.count test c.all.result
+    (cases_from_all _ _ _ (λ h. test h ≡ true) (λ h. test h ≡ false) c.all.ensures.ran (YieldsList-from_range 0 a.count a.count refl (omega arith))
+    (λ x q k. search (rules, tests)) (λ x q k. search (rules, tests)))
+    ∙ every_ext a.count test (mark_test a.longest a.lengths.now a.l a.places.now a.sizes.now) (λ h b. compared-marks _ _ _ _ _ h (c.requires.shorter h b))

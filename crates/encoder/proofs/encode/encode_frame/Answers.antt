@@ -1,7 +1,6 @@
 -- `encoder::encode::encode_frame` meets its contract: by each way its answer and the frame that it leaves.
-use Rattle.std.proofs.Common.{arith, rules}
+use Rattle.std.proofs.Common.{arith}
 use Rattle.std.proofs.lemmas.Grind.{common_steps}
-use Rattle.frame.specs.Encode.{encode_tests}
 use Rattle.frame.proofs.RowPlace.{frame_small}
 use Rattle.uniform.specs.Encodable.{EncodableFrame}
 use Rattle.encoder.proofs.encode.encode_frame.Goals as goal
@@ -23,19 +22,3 @@ encodes_uniform-requires c = encodable c
 
 pub fill_checks-requires : goal.fill_checks-requires
 fill_checks-requires c = encodable (goal.at.fill_checks-requires c).In_ok-require-2
-
-pub returns-in_err-require : goal.returns-in_err-require
-unfolding encode_tests
-returns-in_err-require c = search rules
-
-pub returns-in_err-require-2 : goal.returns-in_err-require-2
-unfolding encode_tests
-returns-in_err-require-2 c = search rules
-
-pub returns-in_err-require-3 : goal.returns-in_err-require-3
-unfolding encode_tests
-returns-in_err-require-3 c = search rules
-
-pub returns : goal.returns
-unfolding encode_tests
-returns c = search rules

@@ -38,22 +38,6 @@ generator_for-held-requires c =
     let p = place (goal.at.generator_for-held-requires c).In-loop-h in
     (c.loop-h.invariant.1, omega (arith, c.from-checks.ensures))
 
-pub overflow_mul-a : goal.overflow_mul-a
-overflow_mul-a c = let p = place (goal.at.overflow_mul-a c).In-loop-h in omega arith
-
-pub overflow_add-e : goal.overflow_add-e
-overflow_add-e c = let p = place (goal.at.overflow_add-e c).In-loop-h in omega arith
-
-pub offset_bounds-frame-a : goal.offset_bounds-frame-a
-offset_bounds-frame-a c = let p = place (goal.at.offset_bounds-frame-a c).In-loop-h in omega arith
-
-pub slice_bounds-encode_row-start : goal.slice_bounds-encode_row-start
-slice_bounds-encode_row-start c = let p = place (goal.at.slice_bounds-encode_row-start c).In-loop-h in omega arith
-
-pub slice_bounds-encode_row-end-in-loop-h : goal.slice_bounds-encode_row-end-in-loop-h
-slice_bounds-encode_row-end-in-loop-h c =
-    let p = place (goal.at.slice_bounds-encode_row-end-in-loop-h c).In-loop-h in let q = c.loop-h.invariant.0.size in omega arith
-
 pub encode_row-requires : goal.encode_row-requires
 encode_row-requires c =
     let p = place (goal.at.encode_row-requires c).In-loop-h in
@@ -73,9 +57,6 @@ loop-h-preserved c = (
       (ap first_columns c.from-checks.ensures) (c.encode_row.ensures _ c.generator_for-held.ensures),
   c.generator_for-held.ensures,
 )
-
-pub shape_of-frame : goal.shape_of-frame
-shape_of-frame c = c.loop-h.invariant.0.size
 
 pub returns : goal.returns
 unfolding encoded

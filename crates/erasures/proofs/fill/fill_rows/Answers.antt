@@ -41,35 +41,14 @@ bounds-s-h c = let p = place c in omega arith
 pub overflow_add-to : goal.overflow_add-to
 overflow_add-to c = omega (arith, ends c)
 
-pub overflow_mul-a : goal.overflow_mul-a
-overflow_mul-a c = let p = place (goal.at.overflow_mul-a c).In-loop-h in omega arith
-
-pub overflow_add-e : goal.overflow_add-e
-overflow_add-e c = let p = place (goal.at.overflow_add-e c).In-loop-h in omega arith
-
 pub cells_of-requires : goal.cells_of-requires
 cells_of-requires c = let p = place (goal.at.cells_of-requires c).In-loop-h in omega arith
 
 pub offset_bounds-sums-at : goal.offset_bounds-sums-at
 offset_bounds-sums-at c = omega (arith, ends (goal.at.offset_bounds-sums-at c).After-from)
 
-pub slice_bounds-mend_row-start : goal.slice_bounds-mend_row-start
-slice_bounds-mend_row-start c = omega (arith, ends (goal.at.slice_bounds-mend_row-start c).After-from)
-
 pub slice_bounds-mend_row-end : goal.slice_bounds-mend_row-end
 slice_bounds-mend_row-end c = omega (arith, ends (goal.at.slice_bounds-mend_row-end c).After-from)
-
-pub offset_bounds-frame-a : goal.offset_bounds-frame-a
-offset_bounds-frame-a c = let p = place (goal.at.offset_bounds-frame-a c).In-loop-h in omega arith
-
-pub slice_bounds-mend_row-start-in-loop-h : goal.slice_bounds-mend_row-start-in-loop-h
-slice_bounds-mend_row-start-in-loop-h c = let p = place (goal.at.slice_bounds-mend_row-start-in-loop-h c).In-loop-h in omega arith
-
-pub slice_bounds-mend_row-end-in-loop-h : goal.slice_bounds-mend_row-end-in-loop-h
-slice_bounds-mend_row-end-in-loop-h c =
-    let p = place (goal.at.slice_bounds-mend_row-end-in-loop-h c).In-loop-h in
-    let s = c.loop-h.invariant.rows.size in
-    omega arith
 
 pub mend_row-requires : goal.mend_row-requires
 mend_row-requires c =
@@ -85,9 +64,6 @@ loop-h-preserved c =
     let at = c.loop-h in
     filled_more _ _ _ _ _ c.requires at.h at.at at.frame at.invariant c.loop-h-test.true c.from.result
     c.from.ensures c.either.result (set_is (goal.at.loop-h-preserved c).After-either) _ c.mend_row.ensures
-
-pub shape_of-frame : goal.shape_of-frame
-shape_of-frame c = c.loop-h.invariant.rows.size
 
 pub returns : goal.returns
 returns c = filled-all _ _ _ _ _ _ _ _ c.loop-h.invariant c.loop-h-test.false

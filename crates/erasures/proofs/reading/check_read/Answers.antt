@@ -11,14 +11,6 @@ use Rattle.erasures.proofs.reading.check_read.Goals.{After-as_read-read}
 pub overflow_mul-s : goal.overflow_mul-s
 overflow_mul-s c = omega (arith, frame_small _ c.requires)
 
-pub returns-in_err-require : goal.returns-in_err-require
-unfolding read_tests
-returns-in_err-require c = search rules
-
-pub returns-in_err-require-2 : goal.returns-in_err-require-2
-unfolding read_tests
-returns-in_err-require-2 c = search rules
-
 whole : (c : After-as_read-read) → length c.args.frame.now ≡ c.args.s.rows * c.args.s.columns
 whole c = grind (arith, common_steps)
 

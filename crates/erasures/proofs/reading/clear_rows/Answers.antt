@@ -18,23 +18,8 @@ place c =
 pub loop-h-init : goal.loop-h-init
 loop-h-init c = changed-none _ _ _ _
 
-pub overflow_mul-a : goal.overflow_mul-a
-overflow_mul-a c = let p = place (goal.at.overflow_mul-a c).In-loop-h in omega arith
-
-pub overflow_add-e : goal.overflow_add-e
-overflow_add-e c = let p = place (goal.at.overflow_add-e c).In-loop-h in omega arith
-
 pub cells_of-requires : goal.cells_of-requires
 cells_of-requires c = let p = place (goal.at.cells_of-requires c).In-loop-h in omega arith
-
-pub offset_bounds-frame-a : goal.offset_bounds-frame-a
-offset_bounds-frame-a c = let p = place (goal.at.offset_bounds-frame-a c).In-loop-h in omega arith
-
-pub slice_bounds-clear-start : goal.slice_bounds-clear-start
-slice_bounds-clear-start c = let p = place (goal.at.slice_bounds-clear-start c).In-loop-h in omega arith
-
-pub slice_bounds-clear-end : goal.slice_bounds-clear-end
-slice_bounds-clear-end c = let p = place (goal.at.slice_bounds-clear-end c).In-loop-h in let q = c.loop-h.invariant.size in omega arith
 
 pub clear-requires : goal.clear-requires
 clear-requires c =
@@ -46,9 +31,6 @@ loop-h-preserved c =
     more-at_sets cleared length-cleared _ _ _ _ c.loop-h.h _ c.loop-h.invariant (place (goal.at.loop-h-preserved c).In-loop-h).inside _ _ c.loop-h-test.true
     c.cells_of.ensures
     c.clear.ensures
-
-pub shape_of-frame : goal.shape_of-frame
-shape_of-frame c = c.loop-h.invariant.size
 
 pub returns : goal.returns
 unfolding as_read

@@ -21,7 +21,7 @@ pub wide_remainder-requires : goal.wide_remainder-requires
 wide_remainder-requires c =
     let pre = c.requires in
     let taken = pre.0.taken in
-    let small = leb-true _ _ (sym c.is_small.ensures ∙ c.if-is_small.true) in
+    let small : c.args.f.p ≤ 257 = leb-true _ _ (sym c.is_small.ensures ∙ c.if-is_small.true) in
     rw (c.from-then-is_small.ensures, c.from.ensures) record {
       positive = omega (arith, taken.two_or_more);
       modulus = taken.modulus;

@@ -16,7 +16,6 @@ pub returns : goal.returns
 returns c =
     let pre = c.requires in
     let reduced = rw (c.from-place.ensures, c.from-size.ensures) at c.reduce_keeping.ensures.by_index in
-    rw (c.from-place.ensures, c.from-size.ensures)
-    (changed-grows _ _ _ _ _ (by-sum pre.changeable _ pre.loose.1 reduced)
+    changed-grows _ _ _ _ _ (by-sum pre.changeable _ pre.loose.1 reduced) (omega arith)
     (c.quotient.ensures.equals ∙ ap (λ (x : ℕ). quotient_of c.args.f.p x c.args.d) pre.worked_out.unit)
-    c.reduce_keeping.ensures.saved_after (omega arith))
+    c.reduce_keeping.ensures.saved_after (omega arith)

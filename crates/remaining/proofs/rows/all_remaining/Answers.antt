@@ -7,17 +7,9 @@ use Rattle.columns.specs.Columns.{members}
 use Rattle.frame.specs.DeclaredCells.{declared_by, erasures}
 use Rattle.frame.proofs.HeldParts.{part-below}
 use Rattle.lists.proofs.Appending.{appended-length}
-use Rattle.remaining.proofs.RowsLeft.{RowRoom, left-none, row_room, left-more, left-all}
+use Rattle.remaining.proofs.RowsLeft.{left-none, left-more, left-all}
 use Rattle.remaining.proofs.rows.all_remaining.Goals as goal
-use Rattle.remaining.proofs.rows.all_remaining.Goals.{After-size, At-loop-h, In-loop-h}
-
-place : (c : In-loop-h) →
-    let args = c.args in
-    let loop = c.loop-h in
-    RowRoom args.s (declared_by args.declared.now) args.sums.now loop.h loop.at loop.count
-place c =
-    let asked = c.requires in
-    row_room _ _ _ asked.shape (omega arith) _ _ _ _ _ c.loop-h.invariant c.loop-h-test.true asked.declared
+use Rattle.remaining.proofs.rows.all_remaining.Goals.{After-size}
 
 -- as many cells of the row are declared
 sized : (c : After-size) →
@@ -25,35 +17,18 @@ sized : (c : After-size) →
 sized c = c.size.ensures ∙ ap (λ J. length (members J)) c.cells_of-cells.ensures
 
 pub loop-h-init : goal.loop-h-init
-loop-h-init c = left-none _ _ _
-
-pub bounds-s-h : goal.bounds-s-h
-bounds-s-h c = let p = place c in omega arith
-
-pub cells_of-cells-requires : goal.cells_of-cells-requires
-cells_of-cells-requires c = let p = place (goal.at.cells_of-cells-requires c).In-loop-h in omega arith
+loop-h-init c = left-none _ _ _ c.requires.shape c.requires.declared
 
 pub overflow_sub-left : goal.overflow_sub-left
-overflow_sub-left c = let p = place (goal.at.overflow_sub-left c).In-loop-h in omega (arith, sized c, c.from-checks.ensures)
-
-pub overflow_add-to : goal.overflow_add-to
-overflow_add-to c = let p = place (goal.at.overflow_add-to c).In-loop-h in omega (arith, c.from-checks.ensures)
-
-pub offset_bounds-sums-at : goal.offset_bounds-sums-at
-offset_bounds-sums-at c = let p = place (goal.at.offset_bounds-sums-at c).In-loop-h in omega arith
-
-pub slice_bounds-remaining-end : goal.slice_bounds-remaining-end
-slice_bounds-remaining-end c = let p = place (goal.at.slice_bounds-remaining-end c).In-loop-h in omega (arith, c.from-checks.ensures)
+overflow_sub-left c = omega (arith, sized c)
 
 pub slice_bounds-symbols-end : goal.slice_bounds-symbols-end
 slice_bounds-symbols-end c =
-    let p = place (goal.at.slice_bounds-symbols-end c).In-loop-h in
     let size = appended-length _ _ _ _ _ c.loop-h.invariant.appended in
-    omega (arith, sized (goal.at.slice_bounds-symbols-end c).After-size, c.from-checks.ensures)
+    omega (arith, sized (goal.at.slice_bounds-symbols-end c).After-size)
 
 pub remaining-requires : goal.remaining-requires
 remaining-requires c =
-    let p = place (goal.at.remaining-requires c).In-loop-h in
     let checks = c.from-checks.ensures in
     let taken = sized (goal.at.remaining-requires c).After-size in
     let all : length c.args.sums.now ≡ 512 = omega arith in
@@ -72,15 +47,11 @@ remaining-requires c =
       places = omega arith;
     }
 
-pub overflow_cast-lengths : goal.overflow_cast-lengths
-overflow_cast-lengths c = let p = place (goal.at.overflow_cast-lengths c).In-loop-h in omega (arith, c.from-checks.ensures)
-
 pub loop-h-preserved : goal.loop-h-preserved
 loop-h-preserved c =
-    let p = place (goal.at.loop-h-preserved c).In-loop-h in
-    left-more _ _ _ c.requires.shape (omega arith) _ _ _ _ _ c.loop-h.invariant c.loop-h-test.true c.from-checks.result
-    c.size.result c.cells_of-cells.result _ c.from-checks.ensures c.cells_of-cells.ensures
-    c.size.ensures (omega (arith, c.from-checks.ensures, sized (goal.at.loop-h-preserved c).After-size)) c.remaining.ensures
+    let fits = sized (goal.at.loop-h-preserved c).After-size in
+    left-more _ _ _ c.requires.shape (omega arith) _ _ _ _ _ c.loop-h.invariant c.loop-h-test.true c.requires.declared c.from-checks.result
+    c.size.result c.cells_of-cells.result _ c.from-checks.ensures c.cells_of-cells.ensures c.size.ensures (omega arith) c.remaining.ensures
 
 pub returns : goal.returns
 returns c =

@@ -5,10 +5,10 @@ use native.Mathlib.Omega.{arith}
 use lib.ListN.{get_or}
 use Rattle.columns.specs.Columns.{marking}
 use Rattle.decoding.specs.Locating.{is_root}
-use Rattle.search.proofs.Trials.{room, starts-cut, starts-whole, size_powers, factors, root-here, other-here, sound-words}
-use Rattle.search.proofs.Trials.{block-other, block-root, block-ends, block-all}
+use Rattle.search.proofs.Trials.{room, size_powers, factors, root-here, other-here, sound-words}
+use Rattle.search.proofs.Trials.{block-other, block-root, block-ends}
 use Rattle.search.proofs.blocks.try_block.Goals as goal
-use Rattle.search.proofs.blocks.try_block.Goals.{In-loop-i, then-columns-end, else-columns-end, then-v-i-eq0+else-left-eq0, else-v-i-eq0}
+use Rattle.search.proofs.blocks.try_block.Goals.{In-loop-i, then-v-i-eq0+else-left-eq0, else-v-i-eq0}
 
 -- whether the column is a root
 abbrev value-here : In-loop-i → ℕ
@@ -26,13 +26,6 @@ other c =
 
 pub values-v-requires : goal.values-v-requires
 values-v-requires c = factors _ _ _ _ _ _ c.requires
-
-pub loop-i-init : goal.loop-i-init
-loop-i-init c =
-    elim c.if-columns-end.branch [
-      | then-columns-end w ↦ starts-cut _ _ _ _ _ _ c.requires _ w.if-columns-end.true w.to-is
-      | else-columns-end w ↦ starts-whole _ _ _ _ _ _ c.requires _ w.if-columns-end.false w.to-is
-    ]
 
 pub mark-requires : goal.mark-requires
 mark-requires c =
@@ -58,28 +51,5 @@ loop-i-preserved c =
       | else-v-i-eq0 w ↦ block-other _ _ _ _ at.i at.left _ at.invariant t _ _ (other inside w.if-v-i-eq0.false) w.words-is w.left-is
     ]
 
-pub returns : goal.returns
-returns c =
-    let at = c.loop-i in
-    block-all _ _ _ _ at.i at.left _ at.invariant c.loop-i-test.false
-
-pub overflow_add-end : goal.overflow_add-end
-overflow_add-end c = omega (arith, room _ _ _ _ _ _ c.requires)
-
-pub offset_bounds-powers-from : goal.offset_bounds-powers-from
-offset_bounds-powers-from c = omega (arith, room _ _ _ _ _ _ c.requires)
-
 pub slice_bounds-values-end : goal.slice_bounds-values-end
 slice_bounds-values-end c = omega (arith, room _ _ _ _ _ _ c.requires, size_powers _ _ _ _ _ _ c.requires)
-
-pub overflow_sub-i : goal.overflow_sub-i
-overflow_sub-i c = c.loop-i.invariant.started
-
-pub offset_bounds-v-i : goal.offset_bounds-v-i
-offset_bounds-v-i c = omega (arith, c.loop-i-test.true, c.loop-i.invariant.block.end)
-
-pub bounds-v-i : goal.bounds-v-i
-bounds-v-i c = omega (arith, c.loop-i-test.true, c.loop-i.invariant.block.end)
-
-pub overflow_sub-left : goal.overflow_sub-left
-overflow_sub-left c = let t = c.loop-i.invariant.trying in t.more

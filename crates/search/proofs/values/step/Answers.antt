@@ -1,5 +1,3 @@
-use Prim.Native.Nat.{◌-◌}
-use native.Mathlib.Omega.{arith}
 use Rattle.lists.proofs.Filling.{filled_none}
 use Rattle.search.proofs.Valuing.{factor, stepping_more, stepping_all}
 use Rattle.search.proofs.values.step.Goals as goal
@@ -10,9 +8,6 @@ loop-i-init c = filled_none _ _
 pub product-requires : goal.product-requires
 product-requires c = factor _ _ _ _ c.requires c.loop-i.i c.loop-i-test.true
 
-pub overflow_add-v : goal.overflow_add-v
-overflow_add-v c = omega (arith, c.requires.light, c.product.ensures.bounded)
-
 pub loop-i-preserved : goal.loop-i-preserved
 loop-i-preserved c =
     let at = c.loop-i in
@@ -20,9 +15,3 @@ loop-i-preserved c =
 
 pub returns : goal.returns
 returns c = let at = c.loop-i in stepping_all _ _ _ _ c.requires at.i _ at.invariant c.loop-i-test.false
-
-pub bounds-v-i : goal.bounds-v-i
-bounds-v-i c = c.loop-i-test.true
-
-pub bounds-x-i : goal.bounds-x-i
-bounds-x-i c = omega (arith, c.loop-i-test.true, c.requires.factors.size)

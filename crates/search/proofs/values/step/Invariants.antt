@@ -1,10 +1,6 @@
 -- `search::values::step` meets its contract.
-use Prim.Native.Nat.{◌-◌}
 use Rattle.search.proofs.Valuing.{Stepping}
 use Rattle.search.proofs.values.step.Given as goal
 
 abbrev pub invariant-loop-i : goal.invariant-loop-i
 invariant-loop-i l = Stepping l.tap l.x l.initial.v l.i l.v
-
-abbrev pub decreases-loop-i : goal.decreases-loop-i
-decreases-loop-i l = 64 - l.i

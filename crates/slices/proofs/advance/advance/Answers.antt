@@ -47,7 +47,9 @@ made : (c : After-single_step-l) →
     ≡ step_parts c.modulus-f.result.p (all_rounds x) (sequence_in a.symbols.now (steps x) (long x)) (rounds x + 1) (steps x) (parts_in x)
 made c =
     let a = c.args in
-    let long-is : c.from.result ≡ get_or a.lengths.now (get_or a.counts.now 2 0) 0 = c.from.ensures ∙ ap (λ (h : ℕ). get_or a.lengths.now h 0) c.from-h.ensures in
+    let long-is : c.from.result ≡ get_or a.lengths.now (get_or a.counts.now 2 0) 0 =
+    c.from.ensures ∙ ap (λ (h : ℕ). get_or a.lengths.now h 0) c.from-h.ensures
+    in
     c.single_step-l.ensures
     ∙ (λ i.
     step_parts c.modulus-f.result.p (c.from-longest.ensures i) (sequence_in a.symbols.now (c.from-h.ensures i) (long-is i))

@@ -43,6 +43,7 @@ returns-else-n-l c =
     remains _ _ (lt-leb _ _ (omega (arith, c.if-n-l.false, long, c.from-longest.ensures, c.from-n.ensures, c.from-l.ensures)))
     (c.every.ensures (λ v. ltb v 257) (λ v r b p. search rules)
     ∙ every_part (λ v. ltb v 257) symbols first (c.from-l.result + 1) (omega arith)
-    (omega (arith, counts.few, counts.round, counts.step, counts.grown, c.from-h.ensures, c.from-n.ensures, c.from-l.ensures, c.from-longest.ensures, c.told-symbols))
+    (let few = counts.few in let round = counts.round in let step = counts.step in let grown = counts.grown in
+    omega (arith, c.from-h.ensures, c.from-n.ensures, c.from-l.ensures, c.from-longest.ensures, c.told-symbols))
     ∙ ap₂ (λ (m a : ℕ). every m (λ i. ltb (get_or symbols (a + i) 0) 257)) (let e : c.from-l.result + 1 ≡ suc l = omega (arith, c.from-l.ensures) in e)
     (let e : first ≡ h * 144 + (N - suc n) = omega (arith, c.from-h.ensures, c.from-longest.ensures, c.from-n.ensures) in e))

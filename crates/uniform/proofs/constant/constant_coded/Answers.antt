@@ -16,17 +16,6 @@ returns-then-a-eq0 c = zeros-coded _ _ _ _ c.if-a-eq0.true
 pub loop-j-init : goal.loop-j-init
 loop-j-init c = tested-none _ _
 
-pub slice_bounds-value_at-end : goal.slice_bounds-value_at-end
-slice_bounds-value_at-end c = sym (length-take-le c.args.n (replicate 256 c.args.a) c.requires.narrow)
-
-pub overflow_cast-j : goal.overflow_cast-j
-overflow_cast-j c = let few = c.requires.few in let t = c.loop-j-test.true in omega arith
-
-pub overflow_add-b : goal.overflow_add-b
-overflow_add-b c =
-    let asked = c.requires in
-    omega (arith, asked.exponent, asked.few, c.loop-j-test.true)
-
 pub value_at-requires : goal.value_at-requires
 value_at-requires c = evaluable _ _ _ _ c.requires _ c.powers-powers.ensures _ c.loop-j-test.true
 
@@ -40,6 +29,3 @@ loop-j-preserved c =
     let at = c.loop-j in
     tested-pass _ _ at.j true at.invariant c.loop-j-test.true true refl
     (ap (λ (x : ℕ). eqb x 0) (sum-value _ _ _ _ c.requires _ _ c.value_at.ensures.equals) ∙ eq-eqb _ 0 c.if-value_at-ne0.false)
-
-pub returns : goal.returns
-returns c = tested-all _ _ _ _ c.loop-j.invariant c.loop-j-test.false

@@ -24,6 +24,3 @@ pub loop-h-preserved : goal.loop-h-preserved
 loop-h-preserved c =
     tested-pass _ _ c.loop-h.h true c.loop-h.invariant c.loop-h-test.true true refl
     (tested (goal.at.loop-h-preserved c).After-all_hold ∙ c.if-not-all_hold.false)
-
-pub returns : goal.returns
-returns c = tested-all _ _ _ _ c.loop-h.invariant c.loop-h-test.false

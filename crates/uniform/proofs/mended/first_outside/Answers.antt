@@ -3,16 +3,8 @@ use mathlib.Core.Bool.{not}
 use Rattle.columns.proofs.FirstOutside.{passed_none, passed-more, passed_out, passed-all}
 use Rattle.uniform.proofs.mended.first_outside.Goals as goal
 
-pub loop-k-init : goal.loop-k-init
-loop-k-init c = passed_none _ _
-
 pub returns-then-not-contains : goal.returns-then-not-contains
 returns-then-not-contains c = passed_out _ _ _ c.loop-k.invariant (ap not (sym c.contains.ensures ∙ c.if-not-contains.true))
-
-pub loop-k-preserved : goal.loop-k-preserved
-loop-k-preserved c =
-    passed-more _ _ _ c.loop-k.invariant c.loop-k-test.true
-    (ap not (sym c.contains.ensures ∙ c.if-not-contains.false))
 
 pub returns : goal.returns
 returns c = passed-all _ _ _ c.loop-k.invariant c.loop-k-test.false

@@ -28,23 +28,8 @@ tested c =
 pub loop-h-init : goal.loop-h-init
 loop-h-init c = tested-none _ _
 
-pub overflow_mul-from : goal.overflow_mul-from
-overflow_mul-from c = let p = place (goal.at.overflow_mul-from c).In-loop-h in omega arith
-
-pub overflow_add-to : goal.overflow_add-to
-overflow_add-to c = let p = place (goal.at.overflow_add-to c).In-loop-h in omega arith
-
 pub cells_of-requires : goal.cells_of-requires
 cells_of-requires c = let p = place (goal.at.cells_of-requires c).In-loop-h in omega arith
-
-pub offset_bounds-frame-from : goal.offset_bounds-frame-from
-offset_bounds-frame-from c = let p = place (goal.at.offset_bounds-frame-from c).In-loop-h in omega arith
-
-pub slice_bounds-kept_hold-start : goal.slice_bounds-kept_hold-start
-slice_bounds-kept_hold-start c = let p = place (goal.at.slice_bounds-kept_hold-start c).In-loop-h in omega arith
-
-pub slice_bounds-kept_hold-end : goal.slice_bounds-kept_hold-end
-slice_bounds-kept_hold-end c = let p = place (goal.at.slice_bounds-kept_hold-end c).In-loop-h in omega arith
 
 pub returns-then-not-kept_hold : goal.returns-then-not-kept_hold
 returns-then-not-kept_hold c =
@@ -54,6 +39,3 @@ pub loop-h-preserved : goal.loop-h-preserved
 loop-h-preserved c =
     let at = c.loop-h in
     tested-pass _ _ at.h true at.invariant c.loop-h-test.true true refl (tested (goal.at.loop-h-preserved c).After-kept_hold ∙ c.if-not-kept_hold.false)
-
-pub returns : goal.returns
-returns c = tested-all _ _ _ _ c.loop-h.invariant c.loop-h-test.false
