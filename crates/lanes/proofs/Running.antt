@@ -24,7 +24,7 @@ module _ (m : ℕ) (f sums x z : List ℕ) where
       size = let none : ℕ = 0 in length-replicate 64 none
 
   module _ (asked : Runnable m f sums x z) (k : ℕ) (q v t : List ℕ) (a : Running k q v t) (inside : k < m) where
-    pub steppable : Steppable m (get_or f k 0) (get_or sums (m - 1 - k) 0) x z q v t
+    steppable : Steppable m (get_or f k 0) (get_or sums (m - 1 - k) 0) x z q v t
     steppable = record {
       lent = asked.lent;
       whole = a.whole;
@@ -40,8 +40,3 @@ module _ (m : ℕ) (f sums x z : List ℕ) where
           lane-more f (get_or x i 0) sums m k _ _ _ (a.lanes i l) inside (get_or f k 0) (get_or sums (m - 1 - k) 0) _ _ _ refl refl (s.quotients i l)
           (s.values i l) (s.totals i l) (s.small i l) steppable.sum;
     }
-
-  pub running-all : (k : ℕ) (q v t : List ℕ) → Running k q v t → k ≡ m → Ran m f sums x (record { values = v; totals = t })
-  running-all k q v t a e =
-      let done : Running m q v t = rw e at a in
-      record { values = λ i l. (done.lanes i l).value; totals = λ i l. (done.lanes i l).read }

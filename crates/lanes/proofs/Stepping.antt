@@ -37,7 +37,7 @@ module _ (n c s : ℕ) (x z q₀ v₀ t₀ : List ℕ) where
   }
 
   module _ (asked : Steppable n c s x z q₀ v₀ t₀) (i : ℕ) (q v t : List ℕ) (so_far : Stepping i q v t) (inside : i < n) where
-    pub lane : i < 64
+    lane : i < 64
     lane = let few = asked.lent.few in omega arith
 
     -- in each of the arrays lane i is as it was, and is filled next

@@ -36,11 +36,11 @@ module _ (s : Shape) (shape : is_shape s ≡ true) where
   ranges : Ranges s
   ranges = shape-ranges s shape
 
-  pub left-most : (D : Declared) (h : ℕ) → h < s.rows → checks_left s D h ≤ 64
+  left-most : (D : Declared) (h : ℕ) → h < s.rows → checks_left s D h ≤ 64
   left-most D h l = let m = (ranges.checks h l).most in omega arith
 
   -- what is left of all rows fits 512 places
-  pub left-fits : (D : Declared) → total s.rows (checks_left s D) ≤ 512
+  left-fits : (D : Declared) → total s.rows (checks_left s D) ≤ 512
   left-fits D = let rows = ranges.rows-most in omega (arith, total-bound s.rows 64 (checks_left s D) (left-most D))
 
 -- ---- what has been written
