@@ -1,5 +1,5 @@
 -- What the second locator answers and leaves. The field is that of 257.
-use Rattle.std.specs.Prelude.{◌≡◌, ℕ, ◌+◌, ◌*◌, ◌^◌, ◌<◌, ◌≤◌, Bool, false, ◌⊎◌, ◌↔◌, List, length, ◌≢◌, slice_index}
+use Rattle.std.specs.Prelude.{Option, None, Some, ◌≡◌, ℕ, ◌+◌, ◌*◌, ◌^◌, ◌<◌, ◌≤◌, Bool, false, ◌⊎◌, ◌↔◌, List, length, ◌≢◌, slice_index}
 use Rattle.plain.specs.Plain.{Each, Tells, capped, rem, sum}
 use Rattle.elimination.specs.Equations.{Echelon, LeadsRow, Numbers, Room, SolvesRows}
 use Rattle.brute.specs.Registers.{Produces, Residues, Shortest}
@@ -32,6 +32,11 @@ pub record MarkedRoots (n : ℕ) (table : List ℕ) (old new : List ℕ) (column
   pub marked : Marked old new columns
   pub roots : Determined n table → (t : ℕ → ℕ) → Numbers 257 t → SolvesRows 257 n table t →
       (i : ℕ) → i < columns → i < length old → (slice_index new i ≡ 1) ↔ RootAt n t i
+
+-- the number of a refusal, and 0 where there is none
+abbrev pub number_in : Option ℕ → ℕ
+number_in None = 0
+number_in (Some n) = n
 
 -- What the numbers of the second locator say. 24: the shortest register, of length `size`, is not the only one. 25: it is, and some row has
 -- fewer checks than it is long. Otherwise no row has; the columns at whose inverse locators it is 0 are marked, and the answer is 0 where as

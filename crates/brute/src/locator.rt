@@ -1,17 +1,17 @@
 // The second locator, which asks elimination: whether a column is named is whether its equation follows from those of the taps.
 ghost use Rattle.std.specs.Prelude.{ℕ, ◌%◌, ◌^◌, ◌<◌, length, slice_index};
-ghost use Rattle.brute.specs.Locating.{Located, MarkedRoots, Named};
+ghost use Rattle.brute.specs.Locating.{Located, MarkedRoots, Named, number_in};
 ghost use Rattle.plain.specs.Plain.{Tells};
 ghost use Rattle.plain.specs.Written.{Wrote};
 
 use crate::shortest::shortest;
-use plain::values::{get, put, times};
+use plain::values::{put, times};
 use plain_frames::frames::{power, size};
 
-// What locating must answer: the number of the refusal, or 0, and the length of the shortest register.
-#[derive(Clone, Copy)]
+// What locating must answer: the number of the refusal, if it refuses (SPECIFICATION.md, "Refusals"); and in any case the length of the shortest register.
+#[derive(Clone, Copy, PartialEq)]
 pub struct Expected {
-    pub number: u32,
+    pub refused: Option<u32>,
     pub length: usize,
 }
 
@@ -19,12 +19,7 @@ pub struct Expected {
 fn short_row(checks: &[u16], c: usize) -> bool
     ensures { Tells result ((h : ℕ) × (h < length checks.now) × (slice_index checks.now h < c)) }
 {
-    for h in 0..checks.len() {
-        if (get(checks, h) as usize) < c {
-            return true;
-        }
-    }
-    false
+    checks.iter().any(|n| usize::from(*n) < c)
 }
 
 // The equation that the register is 0 at y: the powers of y, times the taps, add up to 0.
@@ -42,7 +37,7 @@ fn pose_root(table: &mut [u16], y: u16, n: usize)
 fn names(table: &mut [u16], i: u16, n: usize) -> bool
     ensures { Named n i table.old table.new result }
 {
-    let y = power(power(3, i as usize), 255);
+    let y = power(power(3, usize::from(i)), 255);
     pose_root(table, y, n);
     elimination::follows(elimination::add(257, table, n))
 }
@@ -52,31 +47,38 @@ fn mark(table: &mut [u16], columns: u16, n: usize, named: &mut [u16])
 {
     for i in 0..columns {
         let marked = names(table, i, n);
-        put(named, i as usize, marked as u16);
+        put(named, usize::from(i), u16::from(marked));
     }
 }
 
 // What locating answers for these check sums; the marks of the named columns are left in the lent array.
 pub fn locate(columns: u16, checks: &[u16], sums: &[u16], named: &mut [u16]) -> Expected
-    ensures { Located columns checks.now sums.now named.old named.new result.number result.length }
+    ensures { Located columns checks.now sums.now named.old named.new (number_in result.refused) result.length }
 {
     let mut table = elimination::table();
     let found = shortest(257, checks, sums, &mut table);
     let length = found.length;
     if !found.alone {
-        return Expected { number: 24, length };
+        return Expected {
+            refused: Some(24),
+            length,
+        };
     }
     if short_row(checks, length) {
-        return Expected { number: 25, length };
+        return Expected {
+            refused: Some(25),
+            length,
+        };
     }
-    mark(
-        &mut table,
-        columns,
-        std::num::wrapping_add_usize(length, 1),
-        named,
-    );
+    mark(&mut table, columns, length.wrapping_add(1), named);
     if size(named) != length {
-        return Expected { number: 26, length };
+        return Expected {
+            refused: Some(26),
+            length,
+        };
     }
-    Expected { number: 0, length }
+    Expected {
+        refused: None,
+        length,
+    }
 }

@@ -8,7 +8,7 @@ use elimination::{add, clear, contradicts, determined};
 use plain::sequences::{discrepancy, sequence};
 use plain::values::{before, put};
 
-#[derive(Clone, Copy)]
+#[derive(Clone, Copy, PartialEq)]
 pub struct Answer {
     pub length: usize,
     pub alone: bool,
@@ -43,7 +43,7 @@ fn add_sequence(p: u16, table: &mut [u16], s: &[u16], l: usize) -> bool
 fn solvable(p: u16, lengths: &[u16], symbols: &[u16], l: usize, table: &mut [u16]) -> bool
     ensures { Solvable p l lengths.now symbols.now table.old table.new result }
 {
-    clear(table, std::num::wrapping_add_usize(l, 1));
+    clear(table, l.wrapping_add(1));
     for h in 0..lengths.len() {
         if !add_sequence(p, table, sequence(lengths, symbols, h), l) {
             return false;

@@ -24,21 +24,13 @@ pub enum Added {
 pub fn follows(added: Added) -> bool
     ensures { Tells result (added ≡ Follows) }
 {
-    match added {
-        Added::Follows => true,
-        Added::Leads => false,
-        Added::Contradicts => false,
-    }
+    matches!(added, Added::Follows)
 }
 
 pub fn contradicts(added: Added) -> bool
     ensures { Tells result (added ≡ Contradicts) }
 {
-    match added {
-        Added::Follows => false,
-        Added::Leads => false,
-        Added::Contradicts => true,
-    }
+    matches!(added, Added::Contradicts)
 }
 
 pub fn table() -> [u16; 16641]
@@ -51,10 +43,8 @@ pub fn table() -> [u16; 16641]
 fn place(k: usize, j: usize) -> usize
     ensures { result ≡ place_of k j }
 {
-    if k < SPAN {
-        if j < SPAN {
-            return k * SPAN + j;
-        }
+    if k < SPAN && j < SPAN {
+        return k * SPAN + j;
     }
     SPAN * SPAN
 }
@@ -110,10 +100,7 @@ fn keep(table: &mut [u16], k: usize, n: usize)
 fn is_new(table: &[u16], k: usize) -> bool
     ensures { Tells result ((get_or table.now k 0 ≡ 0 → ⊥) × (value_at table.now k k ≡ 0)) }
 {
-    if get(table, k) == 0 {
-        return false;
-    }
-    value(table, k, k) == 0
+    get(table, k) != 0 && value(table, k, k) == 0
 }
 
 // Adds the equation of row 0, which has n values.
@@ -137,6 +124,7 @@ pub fn add(p: u16, table: &mut [u16], n: usize) -> Added
 pub fn determined(table: &[u16], n: usize) -> bool
     ensures { Tells result (Each 1 n (λ k. LeadsRow table.now k)) }
 {
+    // Kept as a loop: the proof search gives up on `all` over the range.
     for k in 1..n {
         if value(table, k, k) == 0 {
             return false;

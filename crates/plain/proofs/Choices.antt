@@ -1,5 +1,5 @@
 -- The definitions by cases on a test, each clause as an equation.
-use Rattle.std.proofs.Common.{◌≡◌, ℕ, ◌+◌, ◌-◌, ◌<◌, ◌≤◌, Bool, cond, List, [], length, get_or, take, drop, sym, ap, ◌∙◌, arith, length-drop, length-take, le-leb}
+use Rattle.std.proofs.Common.{min, ◌≡◌, ℕ, ◌+◌, ◌-◌, ◌<◌, ◌≤◌, Bool, cond, List, [], length, get_or, take, drop, sym, ap, ◌∙◌, arith, length-drop, length-take, le-leb}
 use native.Mathlib.Decide.{dec_le}
 use borrow.Author.Tests.{lt-leb}
 use Rattle.plain.specs.Plain.{before, capped, part}
@@ -9,6 +9,14 @@ capped_small x h = ap (λ (b : Bool). cond b x 18446744073709551615) (le-leb x 1
 
 pub capped-large : (x : ℕ) → 18446744073709551615 < x → capped x ≡ 18446744073709551615
 capped-large x h = ap (λ (b : Bool). cond b x 18446744073709551615) (lt-leb x 18446744073709551615 h)
+
+-- what the sum of two words, cut off at the largest, is
+pub capped-min : (x : ℕ) → min x 18446744073709551615 ≡ capped x
+capped-min x = pick (dec_le x 18446744073709551615)
+  where
+    pick : Dec (x ≤ 18446744073709551615) → min x 18446744073709551615 ≡ capped x
+    pick (yes h) = let e = capped_small x h in omega arith
+    pick (no h) = let e = capped-large x (omega arith) in omega arith
 
 pub capped_le : (x : ℕ) → capped x ≤ x
 capped_le x = pick (dec_le x 18446744073709551615)

@@ -18,7 +18,7 @@ pub fn draw(state: &mut u64, n: u16) -> u16
 pub fn draw_from(state: &mut u64, least: u16, n: u16) -> u16
     ensures { (state.new ≡ advanced state.old) × (result ≡ drawn_from (advanced state.old) least n) }
 {
-    std::num::wrapping_add_u16(least, draw(state, n))
+    least.wrapping_add(draw(state, n))
 }
 
 // The first n places of a become numbers from `least` on, each one of p.
@@ -42,6 +42,6 @@ pub fn draw_exponent(state: &mut u64) -> u32
         3 => 127,
         4 => 128,
         5 => 255,
-        _ => draw(state, 256) as u32,
+        _ => u32::from(draw(state, 256)),
     }
 }

@@ -2,7 +2,7 @@
 ghost use Rattle.std.specs.Prelude.{◌≡◌, slice_index};
 ghost use Rattle.plain.specs.Plain.{capped, discrepancy, sequence, sum};
 
-use crate::values::{before, get, part, plus, plus_product};
+use crate::values::{before, get, part, plus_product};
 
 // Where sequence h starts.
 pub fn start(lengths: &[u16], h: usize) -> usize
@@ -10,7 +10,7 @@ pub fn start(lengths: &[u16], h: usize) -> usize
 {
     let mut at: usize = 0;
     for i in 0..h {
-        at = plus(at, get(lengths, i) as usize);
+        at = at.saturating_add(usize::from(get(lengths, i)));
     }
     at
 }
@@ -18,7 +18,7 @@ pub fn start(lengths: &[u16], h: usize) -> usize
 pub fn sequence<'a, 'b>(lengths: &'b [u16], symbols: &'a [u16], h: usize) -> &'a [u16]
     ensures { result.now ≡ sequence lengths.now symbols.now h }
 {
-    part(symbols, start(lengths, h), get(lengths, h) as usize)
+    part(symbols, start(lengths, h), usize::from(get(lengths, h)))
 }
 
 // The symbol at place j and those before it, times the n taps.

@@ -1,21 +1,22 @@
 // Values modulo p in lent arrays. These functions are total, so that no caller owes them anything: a value outside an array reads
 // as 0 and is not written, and modulo 0 everything is 0.
 ghost use Rattle.std.specs.Prelude.{◌≡◌, ◌+◌, ◌-◌, ◌*◌, ◌%◌, ◌<◌, length, take, slice_index, slice_set};
-ghost use Rattle.plain.specs.Plain.{before, capped, part, rem};
+ghost use Rattle.plain.specs.Plain.{before, part, rem};
 ghost use Rattle.plain.specs.Written.{Wrote};
 
 pub fn get(a: &[u16], i: usize) -> u16
     ensures { result ≡ slice_index a.now i }
 {
-    if i < a.len() {
-        return a[i];
+    match a.get(i) {
+        Some(v) => *v,
+        None => 0,
     }
-    0
 }
 
 pub fn put(a: &mut [u16], i: usize, v: u16)
     ensures { a.new ≡ slice_set a.old i v }
 {
+    // Kept as an index: after `get_mut` the check does not know that the other places stay.
     if i < a.len() {
         a[i] = v;
     }
@@ -25,17 +26,14 @@ pub fn put(a: &mut [u16], i: usize, v: u16)
 pub fn put_at(a: &mut [u16], at: usize, i: usize, v: u16)
     ensures { a.new ≡ slice_set a.old (at + i) v }
 {
-    if at < a.len() {
-        if i < a.len() - at {
-            a[at + i] = v;
-        }
-    }
+    put(a, at.saturating_add(i), v);
 }
 
 // The first n values become v.
 pub fn set(a: &mut [u16], n: usize, v: u16)
     ensures { Wrote a.old a.new 0 n (λ k. v) }
 {
+    // Kept as a loop over `put`: after `fill` of a part the check does not know that the places behind it stay.
     for i in 0..n {
         put(a, i, v);
     }
@@ -45,68 +43,40 @@ pub fn set(a: &mut [u16], n: usize, v: u16)
 pub fn before(a: &[u16], i: usize, k: usize) -> u16
     ensures { result ≡ before a.now i k }
 {
-    if k <= i {
-        return get(a, i - k);
-    }
-    0
-}
-
-// The difference of two numbers, cut off at 0.
-pub fn minus(a: usize, b: usize) -> usize
-    ensures { result ≡ a - b }
-{
-    if b <= a {
-        return a - b;
-    }
-    0
-}
-
-// The sum of two numbers, cut off at the largest.
-pub fn plus(a: usize, b: usize) -> usize
-    ensures { result ≡ capped (a + b) }
-{
-    if a <= usize::MAX - b {
-        return a + b;
-    }
-    usize::MAX
+    i.checked_sub(k).map_or(0, |j| get(a, j))
 }
 
 // The part of a that starts at `start` and has n values; nothing where it does not lie in a.
 pub fn part(a: &[u16], start: usize, n: usize) -> &[u16]
     ensures { result.now ≡ part a.now start n }
 {
-    if start <= a.len() {
-        if n <= a.len() - start {
-            let end = start + n;
-            return &a[start..end];
-        }
+    if start <= a.len() && n <= a.len() - start {
+        return &a[start..start + n];
     }
-    &a[0..0]
+    &[]
 }
 
 // The first n values of a, to be written; all of a where it has fewer. They stand where a stands.
 pub fn first(a: &mut [u16], n: usize) -> &mut [u16]
     ensures { (result.now ≡ take n a.old) × (result.ref_ptr ≡ a.entry.ref_ptr) }
 {
-    if n <= a.len() {
-        return &mut a[0..n];
-    }
-    a
+    let end = n.min(a.len());
+    &mut a[..end]
 }
 
 // Puts one list into another from place `at` on.
 pub fn copy(from: &[u16], to: &mut [u16], at: usize)
     ensures { Wrote to.old to.new at (at + length from.now) (λ k. slice_index from.now (k - at)) }
 {
-    for i in 0..from.len() {
-        put_at(to, at, i, get(from, i));
+    for (i, v) in from.iter().enumerate() {
+        put_at(to, at, i, *v);
     }
 }
 
 pub fn product(a: u16, b: u16) -> u64
     ensures { (result ≡ a * b) × (result < 4294967296) }
 {
-    (a as u64) * (b as u64)
+    u64::from(a) * u64::from(b)
 }
 
 pub fn remainder(x: u64, p: u16) -> u16
@@ -115,7 +85,7 @@ pub fn remainder(x: u64, p: u16) -> u16
     if p == 0 {
         return 0;
     }
-    (x % (p as u64)) as u16
+    (x % u64::from(p)) as u16
 }
 
 // a·b − c·d modulo p. A multiple of p that is above c·d is added first.
@@ -125,7 +95,7 @@ pub fn cross(p: u16, a: u16, b: u16, c: u16, d: u16) -> u16
     if p == 0 {
         return 0;
     }
-    remainder(product(a, b) + 4294967296 * (p as u64) - product(c, d), p)
+    remainder(product(a, b) + 4294967296 * u64::from(p) - product(c, d), p)
 }
 
 pub fn times(p: u16, a: u16, b: u16) -> u16
@@ -138,5 +108,5 @@ pub fn times(p: u16, a: u16, b: u16) -> u16
 pub fn plus_product(p: u16, a: u16, b: u16, c: u16) -> u16
     ensures { result ≡ rem (a + b * c) p }
 {
-    remainder((a as u64) + product(b, c), p)
+    remainder(u64::from(a) + product(b, c), p)
 }

@@ -1,35 +1,16 @@
--- What an answer of the library comes to as a number: that of the refusal, and 0 where it does not refuse; or the count that it holds. Where a job
--- stands, by numbers.
-use Rattle.std.specs.Prelude.{ℕ}
-use Rattle.job.specs.declared.Phase.{Phase}
-use Rattle.job.specs.declared.Reply.{Reply}
-use Rattle.job.specs.declared.Reply.TheVariants.{Count, Unfinished, Refused}
+-- What an answer of the library comes to where a refusal is told by its number.
+use Rattle.std.specs.Prelude.{ℕ, Result, Ok, Err}
+use Rattle.job.specs.declared.Progress.{Progress}
+use Rattle.job.specs.declared.Progress.TheVariants.{Columns, Unfinished}
 use Rattle.refusal.specs.Number.{number}
-use Rattle.refusal.specs.declared.Checked.{Checked}
-use Rattle.refusal.specs.declared.Checked.TheVariants.{Pass, Refuse}
+use Rattle.refusal.specs.declared.Refusal.{Refusal}
 
-abbrev pub checked_number : Checked → ℕ
-checked_number Pass = 0
-checked_number (Refuse r) = number r
+abbrev pub told : {A : Type 0} → Result A Refusal → Result A ℕ
+told (Ok x) = Ok x
+told (Err r) = Err (number r)
 
-abbrev pub reply_number : Reply → ℕ
-reply_number (Count n) = 0
-reply_number Unfinished = 0
-reply_number (Refused r) = number r
-
-abbrev pub reply_count : Reply → ℕ
-reply_count (Count n) = n
-reply_count Unfinished = 0
-reply_count (Refused r) = 0
-
-abbrev pub phase_number : Phase → ℕ
-phase_number Phase.Empty = 0
-phase_number Phase.Shaped = 1
-phase_number (Phase.Located c a) = 2
-phase_number Phase.Unfinished = 3
-
-abbrev pub phase_length : Phase → ℕ
-phase_length Phase.Empty = 0
-phase_length Phase.Shaped = 0
-phase_length (Phase.Located c a) = c
-phase_length Phase.Unfinished = 0
+-- the number of columns, 0 where a locate is unfinished
+abbrev pub told_columns : Result Progress Refusal → Result ℕ ℕ
+told_columns (Ok (Columns n)) = Ok n
+told_columns (Ok Unfinished) = Ok 0
+told_columns (Err r) = Err (number r)

@@ -1,62 +1,27 @@
-// What the library answers, as the number of the refusal, or 0; and where a job stands, as a number.
+// What the library answers, with the number of a refusal (SPECIFICATION.md, "Refusals") in place of its name: the second implementations know none of the
+// library's names, and so the numbers are tried too.
 ghost use Rattle.std.specs.Prelude.{◌≡◌};
-ghost use Rattle.plain_frames.specs.Answers.{checked_number, reply_number, reply_count, phase_number, phase_length};
+ghost use Rattle.plain_frames.specs.Answers.{told, told_columns};
 
-use job::{Phase, Reply};
-use refusal::{Checked, number_of};
+use job::Progress;
+use refusal::Refusal;
 
-pub fn of_checked(checked: Checked) -> u32
-    ensures { result ≡ checked_number checked }
+pub fn numbered<T>(answer: Result<T, Refusal>) -> Result<T, u32>
+    ensures { result ≡ told answer }
 {
-    match checked {
-        Checked::Pass => 0,
-        Checked::Refuse(refusal) => number_of(refusal),
+    match answer {
+        Ok(x) => Ok(x),
+        Err(why) => Err(u32::from(why)),
     }
 }
 
-pub fn of_reply(reply: Reply) -> u32
-    ensures { result ≡ reply_number reply }
+// The number of columns; 0 where the locate is unfinished.
+pub fn of_reply(reply: Result<Progress, Refusal>) -> Result<usize, u32>
+    ensures { result ≡ told_columns reply }
 {
     match reply {
-        Reply::Count(_) => 0,
-        Reply::Unfinished => 0,
-        Reply::Refused(refusal) => number_of(refusal),
-    }
-}
-
-// The number of columns that is answered; 0 where there is none.
-pub fn columns_of(reply: Reply) -> usize
-    ensures { result ≡ reply_count reply }
-{
-    match reply {
-        Reply::Count(n) => n,
-        Reply::Unfinished => 0,
-        Reply::Refused(_) => 0,
-    }
-}
-
-pub fn of_phase(phase: Phase) -> u16
-    ensures { result ≡ phase_number phase }
-{
-    match phase {
-        Phase::Empty => 0,
-        Phase::Shaped => 1,
-        Phase::Located {
-            length: _,
-            alone: _,
-        } => 2,
-        Phase::Unfinished => 3,
-    }
-}
-
-// The length that a located job carries.
-pub fn length_of(phase: Phase) -> usize
-    ensures { result ≡ phase_length phase }
-{
-    match phase {
-        Phase::Empty => 0,
-        Phase::Shaped => 0,
-        Phase::Located { length, alone: _ } => length,
-        Phase::Unfinished => 0,
+        Ok(Progress::Columns(n)) => Ok(n),
+        Ok(Progress::Unfinished) => Ok(0),
+        Err(why) => Err(u32::from(why)),
     }
 }

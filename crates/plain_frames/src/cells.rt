@@ -11,20 +11,17 @@ use plain::values::{get, put};
 pub fn mark(words: &[u64], k: usize) -> u16
     ensures { result ≡ marked words.now k }
 {
-    if k / 64 < words.len() {
-        return ((words[k / 64] >> (k % 64)) % 2) as u16;
+    match words.get(k / 64) {
+        Some(word) => ((*word >> (k % 64)) % 2) as u16,
+        None => 0,
     }
-    0
 }
 
 // What a cell with this mark is read as.
 fn read(mark: u16, v: u16) -> u16
     ensures { result ≡ cond (eqb mark 1) 0 v }
 {
-    if mark == 1 {
-        return 0;
-    }
-    v
+    if mark == 1 { 0 } else { v }
 }
 
 // The declared cells of a frame, which has at most 2048 cells, become 0.
@@ -34,7 +31,7 @@ pub fn clear(words: &[u64], columns: u16, frame: &mut [u16])
     if columns == 0 {
         return;
     }
-    let n = columns as usize;
+    let n = usize::from(columns);
     for k in 0..2048usize {
         let v = read(mark(words, 256 * (k / n) + k % n), get(frame, k));
         put(frame, k, v);

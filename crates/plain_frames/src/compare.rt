@@ -11,6 +11,7 @@ use plain::values::get;
 pub fn same(a: &[u16], b: &[u16], from: usize) -> bool
     ensures { Tells result (Each from (length a.now) (λ i. get_or a.now i 0 ≡ get_or b.now i 0)) }
 {
+    // Kept as an index: places past the end of b read as 0.
     for i in from..a.len() {
         if get(a, i) != get(b, i) {
             return false;
@@ -24,9 +25,8 @@ pub fn same_data(columns: u16, checks: &[u16], a: &[u16], b: &[u16]) -> bool
     ensures { Tells result (Each 0 (length checks.now) (λ h. Each (get_or checks.now h 0) (length (row a.now columns h))
         (λ i. get_or (row a.now columns h) i 0 ≡ get_or (row b.now columns h) i 0))) }
 {
-    for h in 0..checks.len() {
-        let from = get(checks, h) as usize;
-        if !same(row(a, columns, h), row(b, columns, h), from) {
+    for (h, from) in checks.iter().enumerate() {
+        if !same(row(a, columns, h), row(b, columns, h), usize::from(*from)) {
             return false;
         }
     }
@@ -61,9 +61,8 @@ pub fn differ_in(columns: u16, rows: usize, a: &[u16], b: &[u16], marks: &[u16])
     ensures { Tells result (Each 0 columns (λ i. (get_or marks.now i 0 ≡ 1)
         ↔ ((h : ℕ) × (h < rows) × (get_or (row a.now columns h) i 0 ≡ get_or (row b.now columns h) i 0 → ⊥)))) }
 {
-    for i in 0..columns {
-        let k = i as usize;
-        if differs(columns, rows, a, b, k) != (get(marks, k) == 1) {
+    for i in 0..usize::from(columns) {
+        if differs(columns, rows, a, b, i) != (get(marks, i) == 1) {
             return false;
         }
     }

@@ -11,7 +11,7 @@ fn number(order: &mut [u16], n: u16)
     ensures { Wrote order.old order.new 0 n (λ k. k) }
 {
     for i in 0..n {
-        put(order, i as usize, i);
+        put(order, usize::from(i), i);
     }
 }
 
@@ -30,7 +30,7 @@ fn mix(state: &mut u64, order: &mut [u16], n: u16)
 {
     for i in 0..n {
         let j = draw(state, n);
-        swap(order, i as usize, j as usize);
+        swap(order, usize::from(i), usize::from(j));
     }
 }
 
@@ -41,7 +41,7 @@ fn draw_factors(state: &mut u64, kind: u16, factors: &mut [u16], rows: usize)
 {
     if kind == 2 {
         let h = draw(state, remainder(rows as u64, 65535));
-        put(factors, h as usize, 1);
+        put(factors, usize::from(h), 1);
         return;
     }
     fill_from(state, 0, 257, factors, rows);
@@ -61,10 +61,7 @@ fn error(state: &mut u64, kind: u16, factor: u16, e: u16) -> u16
 fn at_most_eight(rows: usize) -> u16
     ensures { (result ≤ rows) × (result ≤ 8) × (rows ≤ 8 → result ≡ rows) }
 {
-    if rows < 8 {
-        return rows as u16;
-    }
-    8
+    rows.min(8) as u16
 }
 
 fn damage_column(
@@ -80,8 +77,8 @@ fn damage_column(
 {
     let e = draw_from(state, 1, 256);
     for h in 0..rows {
-        let at = product(h, columns) as usize + i as usize;
-        let x = error(state, kind, get(factors, h as usize), e);
+        let at = product(h, columns) as usize + usize::from(i);
+        let x = error(state, kind, get(factors, usize::from(h)), e);
         let v = plus_product(257, get(frame, at), x, 1);
         put(frame, at, v);
     }
@@ -98,9 +95,8 @@ fn damage_columns(
 )
     ensures { DamagedBy factors.now columns rows order.now (length order.now) frame.old frame.new }
 {
-    for k in 0..order.len() {
-        let i = get(order, k);
-        damage_column(state, kind, factors, columns, rows, i, frame);
+    for i in order {
+        damage_column(state, kind, factors, columns, rows, *i, frame);
     }
 }
 
@@ -115,7 +111,7 @@ pub fn damage(state: &mut u64, columns: u16, rows: usize, w: u16, frame: &mut [u
     let kind = draw(state, 3);
     let mut factors = [0u16; 8];
     draw_factors(state, kind, &mut factors, rows);
-    let chosen = part(&order, 0, w as usize);
+    let chosen = part(&order, 0, usize::from(w));
     damage_columns(
         state,
         kind,

@@ -5,7 +5,7 @@ ghost use Rattle.plain.specs.Plain.{Each, Tells, capped, sum};
 ghost use Rattle.plain.specs.Written.{Wrote};
 
 use plain::sequences::start;
-use plain::values::{get, minus, part, plus, plus_product, product, put_at, times};
+use plain::values::{part, plus_product, product, put_at, times};
 
 pub fn power(x: u16, e: usize) -> u16
     ensures { result ≡ x ^ e % 257 }
@@ -22,20 +22,24 @@ pub fn row(frame: &[u16], columns: u16, h: usize) -> &[u16]
     ensures { result.now ≡ row frame.now columns h }
 {
     if h < 8 {
-        return part(frame, product(h as u16, columns) as usize, columns as usize);
+        return part(
+            frame,
+            product(h as u16, columns) as usize,
+            usize::from(columns),
+        );
     }
-    part(frame, 1, 0)
+    &[]
 }
 
 // The check sum S_j of a row, j from 1 on.
 fn check_sum(exponent: u32, row: &[u16], j: u16) -> u16
     ensures { result ≡ check_sum exponent row.now j }
 {
-    let step = power(3, minus(exponent as usize + j as usize, 1));
+    let step = power(3, (exponent as usize + usize::from(j)).saturating_sub(1));
     let mut weight: u16 = 1;
     let mut sum: u16 = 0;
-    for i in 0..row.len() {
-        sum = plus_product(257, sum, get(row, i), weight);
+    for x in row {
+        sum = plus_product(257, sum, *x, weight);
         weight = times(257, weight, step);
     }
     sum
@@ -45,7 +49,7 @@ fn row_sums(exponent: u32, row: &[u16], n: u16, sums: &mut [u16], at: usize)
     ensures { Wrote sums.old sums.new at (at + n) (λ k. check_sum exponent row.now (suc (k - at))) }
 {
     for j in 0..n {
-        put_at(sums, at, j as usize, check_sum(exponent, row, j + 1));
+        put_at(sums, at, usize::from(j), check_sum(exponent, row, j + 1));
     }
 }
 
@@ -53,21 +57,16 @@ fn row_sums(exponent: u32, row: &[u16], n: u16, sums: &mut [u16], at: usize)
 pub fn check_sums(exponent: u32, columns: u16, checks: &[u16], frame: &[u16], sums: &mut [u16])
     ensures { Summed exponent columns checks.now frame.now (length checks.now) sums.old sums.new }
 {
-    for h in 0..checks.len() {
+    for (h, n) in checks.iter().enumerate() {
         let at = start(checks, h);
-        row_sums(exponent, row(frame, columns, h), get(checks, h), sums, at);
+        row_sums(exponent, row(frame, columns, h), *n, sums, at);
     }
 }
 
 fn all_zero(a: &[u16]) -> bool
     ensures { Tells result (Each 0 (length a.now) (λ i. get_or a.now i 0 ≡ 0)) }
 {
-    for i in 0..a.len() {
-        if get(a, i) != 0 {
-            return false;
-        }
-    }
-    true
+    a.iter().all(|x| *x == 0)
 }
 
 // Every check sum of the frame is 0. There is room for 512 of them.
@@ -85,8 +84,8 @@ pub fn size(marks: &[u16]) -> usize
     ensures { result ≡ capped (sum (length marks.now) (λ i. get_or marks.now i 0)) }
 {
     let mut n: usize = 0;
-    for i in 0..marks.len() {
-        n = plus(n, get(marks, i) as usize);
+    for x in marks {
+        n = n.saturating_add(usize::from(*x));
     }
     n
 }

@@ -2,7 +2,7 @@
 use crate::cells::{clear, mark};
 use crate::compare::{differ_in, same, same_data};
 use crate::frames::{codeword, row};
-use plain::values::{copy, get, minus, set};
+use plain::values::{copy, get, set};
 
 // A frame of n symbols, all of them s, with zeros after it.
 pub fn constant(n: usize, s: u16) -> [u16; 2048] {
@@ -19,29 +19,21 @@ pub fn uniform(frame: &[u16]) -> bool {
 
 // A codeword in which two symbols differ.
 pub fn legal(exponent: u32, columns: u16, checks: &[u16], frame: &[u16]) -> bool {
-    if uniform(frame) {
-        return false;
-    }
-    codeword(exponent, columns, checks, frame)
+    !uniform(frame) && codeword(exponent, columns, checks, frame)
 }
 
 // The data are those of a uniform codeword. The last cell is a data cell.
 pub fn data_of_uniform(exponent: u32, columns: u16, checks: &[u16], frame: &[u16]) -> bool {
     let n = frame.len();
-    let other = constant(n, get(frame, minus(n, 1)));
-    if !same_data(columns, checks, &other, frame) {
-        return false;
-    }
-    codeword(exponent, columns, checks, &other)
+    let other = constant(n, get(frame, n.saturating_sub(1)));
+    same_data(columns, checks, &other, frame) && codeword(exponent, columns, checks, &other)
 }
 
 // The first symbol of the first row that is neither in a marked column nor declared; 0 where there is none.
 fn kept(words: &[u64], marks: &[u16], row: &[u16]) -> u16 {
-    for i in 0..row.len() {
-        if mark(words, i) != 1 {
-            if get(marks, i) != 1 {
-                return get(row, i);
-            }
+    for (i, v) in row.iter().enumerate() {
+        if mark(words, i) != 1 && get(marks, i) != 1 {
+            return *v;
         }
     }
     0

@@ -1,6 +1,6 @@
 -- `elimination::add` meets its contract.
 use mathlib.Core.Path.{◌≡◌}
-use Prim.Native.Nat.{◌-◌, ◌≤◌}
+use Prim.Native.Nat.{◌≤◌}
 use lib.ListN.{length}
 use Rattle.elimination.proofs.Reducing.{Reduced}
 use Rattle.elimination.specs.Equations.{Posed}
@@ -9,6 +9,3 @@ use Rattle.elimination.proofs.add.Given as goal
 abbrev pub invariant-loop-k : goal.invariant-loop-k
 invariant-loop-k l =
     (1 ≤ l.k) × (length l.table ≡ length l.initial.table) × (Posed l.p l.n l.initial.table → Reduced l.p l.n l.initial.table l.k l.table)
-
-abbrev pub decreases-loop-k : goal.decreases-loop-k
-decreases-loop-k l = l.n - l.k

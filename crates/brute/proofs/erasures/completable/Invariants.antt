@@ -1,11 +1,8 @@
 -- `brute::erasures::completable` meets its contract.
-use Rattle.std.proofs.Common.{◌≡◌, ◌+◌, ◌-◌, ◌%◌, ◌^◌, ◌≤◌, length}
+use Rattle.std.proofs.Common.{◌≡◌, ◌+◌, ◌%◌, ◌^◌}
 use Rattle.brute.proofs.Completing.{SumsGathered}
 use Rattle.brute.proofs.erasures.completable.Given as goal
 
-abbrev pub invariant-loop-j : goal.invariant-loop-j
-invariant-loop-j l =
-    (l.j ≤ l.j-end) × (l.j-end ≡ length l.sums) × (l.step ≡ 3 ^ (l.exponent + l.j) % 257) × SumsGathered l.exponent l.list l.sums l.j l.initial.equations l.equations
-
-abbrev pub decreases-loop-j : goal.decreases-loop-j
-decreases-loop-j l = l.j-end - l.j
+abbrev pub invariant-loop-sum : goal.invariant-loop-sum
+invariant-loop-sum l =
+    (l.step ≡ 3 ^ (l.exponent + l.sum-index) % 257) × SumsGathered l.exponent l.list l.sums l.sum-index l.initial.equations l.equations

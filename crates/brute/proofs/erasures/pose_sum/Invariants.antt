@@ -1,12 +1,9 @@
 -- `brute::erasures::pose_sum` meets its contract.
-use Rattle.std.proofs.Common.{◌≡◌, ◌+◌, ◌-◌, ◌≤◌, length}
+use Rattle.std.proofs.Common.{◌+◌}
 use Rattle.plain.specs.Written.{Wrote}
 use Rattle.brute.specs.Erasures.{sum_equation}
 use Rattle.brute.proofs.erasures.pose_sum.Given as goal
 
 abbrev pub invariant-loop-k : goal.invariant-loop-k
 invariant-loop-k l =
-    (l.k ≤ l.k-end) × (l.k-end ≡ length l.list) × Wrote l.initial.table l.table 1 (l.k + 1) (sum_equation l.list l.sum l.step)
-
-abbrev pub decreases-loop-k : goal.decreases-loop-k
-decreases-loop-k l = l.k-end - l.k
+    Wrote l.initial.table l.table 1 (l.k + 1) (sum_equation l.list l.sum l.step)

@@ -11,7 +11,7 @@ loop-j-preserved c =
     let kept = c.loop-j.invariant.1.after in (
       omega arith,
       wrote-put 0 c.loop-j.j _ c.loop-j.invariant.1 (omega arith) c.put.ensures
-          (taken_out _ (λ k. get_or c.args.sums.now k 0) c.loop-j.j c.power.ensures c.times-weight.ensures
+          (taken_out _ (λ k. get_or c.args.sums.now k 0) c.loop-j.j (rw c.from.ensures at c.power.ensures) c.times-weight.ensures
           (c.get.ensures ∙ kept (c.loop-j.j + 1) (omega arith)) (c.get-in-loop-j.ensures ∙ kept c.loop-j.j (omega arith))
           c.plus_product-v.ensures),
     )

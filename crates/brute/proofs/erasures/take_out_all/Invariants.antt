@@ -1,10 +1,6 @@
 -- `brute::erasures::take_out_all` meets its contract.
-use Rattle.std.proofs.Common.{◌≡◌, ◌-◌, ◌≤◌, length}
 use Rattle.brute.proofs.Erased.{TakenOut}
 use Rattle.brute.proofs.erasures.take_out_all.Given as goal
 
 abbrev pub invariant-loop-k : goal.invariant-loop-k
-invariant-loop-k l = (l.k ≤ l.k-end) × (l.k-end ≡ length l.list) × TakenOut l.list l.initial.sums l.n l.k l.sums
-
-abbrev pub decreases-loop-k : goal.decreases-loop-k
-decreases-loop-k l = l.k-end - l.k
+invariant-loop-k l = TakenOut l.list l.initial.sums l.n l.k l.sums

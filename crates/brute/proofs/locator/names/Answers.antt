@@ -5,5 +5,5 @@ use Rattle.brute.proofs.locator.names.Goals as goal
 
 pub returns : goal.returns
 returns c =
-    let inverse = c.power-y.ensures ∙ ap (λ (x : ℕ). x ^ 255 % 257) c.power.ensures in
+    let inverse = c.power-y.ensures ∙ ap (λ (x : ℕ). x ^ 255 % 257) (rw c.from.ensures at c.power.ensures) in
     naming _ _ _ _ _ _ inverse c.pose_root.ensures _ c.add.ensures _ c.follows.ensures

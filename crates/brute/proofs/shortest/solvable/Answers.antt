@@ -3,7 +3,7 @@ use Rattle.brute.proofs.AllSequences.{all_begin, all_more, all-fails, all_done}
 use Rattle.brute.proofs.shortest.solvable.Goals as goal
 
 pub loop-h-init : goal.loop-h-init
-loop-h-init c = (refl, omega arith, all_begin _ _ _ _ _ _ _ c.wrapping_add_usize.ensures.value c.clear.ensures)
+loop-h-init c = (refl, omega arith, all_begin _ _ _ _ _ _ _ refl c.clear.ensures)
 
 pub returns-then-not-add_sequence : goal.returns-then-not-add_sequence
 returns-then-not-add_sequence c =

@@ -8,5 +8,5 @@ pub returns : goal.returns
 returns c =
     let args = c.args in
     c.part.ensures
-    ∙ ap₂ (λ (s n : ℕ). part args.symbols.now s n) c.start.ensures c.get.ensures
+    ∙ ap₂ (λ (s n : ℕ). part args.symbols.now s n) c.start.ensures (c.from.ensures ∙ c.get.ensures)
     ∙ part-capped args.symbols.now _ _ (omega arith)

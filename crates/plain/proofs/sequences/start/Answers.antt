@@ -1,4 +1,5 @@
 use Rattle.std.proofs.Common.{◌≡◌, ℕ, ◌+◌, get_or, sym, ap, ◌∙◌, arith}
+use Rattle.plain.proofs.Choices.{capped-min}
 use Rattle.plain.proofs.Sums.{sum-zero, sum-capped-more}
 use Rattle.plain.specs.Plain.{capped, sum}
 use Rattle.plain.proofs.sequences.start.Goals as goal
@@ -9,7 +10,11 @@ loop-i-init c = (omega arith, sym (ap capped (sum-zero _)))
 pub loop-i-preserved : goal.loop-i-preserved
 loop-i-preserved c = (
   omega arith,
-  sum-capped-more _ _ c.loop-i.invariant.1 (c.plus-at.ensures ∙ ap (λ (x : ℕ). capped (c.loop-i.at + x)) c.get.ensures),
+  sum-capped-more
+      _
+      _
+      c.loop-i.invariant.1
+      (c.saturating_add-at.ensures ∙ capped-min _ ∙ ap (λ (x : ℕ). capped (c.loop-i.at + x)) (c.from.ensures ∙ c.get.ensures)),
 )
 
 pub returns : goal.returns

@@ -22,4 +22,4 @@ returns c =
     c.product.ensures.0
     c.product-2.ensures.0
     c.product-2.ensures.1
-    c.remainder.ensures
+    (rw c.from.ensures at c.remainder.ensures)

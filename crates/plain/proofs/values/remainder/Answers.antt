@@ -6,11 +6,11 @@ use Rattle.plain.proofs.values.remainder.Goals as goal
 pub returns-then-p-eq0 : goal.returns-then-p-eq0
 returns-then-p-eq0 c = rw c.if-p-eq0.true (sym (rem-zero _))
 
-pub overflow_cast-result-2 : goal.overflow_cast-result-2
-overflow_cast-result-2 c =
+pub overflow_cast-result : goal.overflow_cast-result
+overflow_cast-result c =
     let args = c.args in
     let positive : 0 < args.p = omega arith in
-    omega (arith, mod-lt args.x positive)
+    rw c.from.ensures (omega (arith, mod-lt args.x positive))
 
 pub returns : goal.returns
-returns c = rem-positive _ _ (omega (arith, c.if-p-eq0.false))
+returns c = rw c.from.ensures (rem-positive _ _ (omega (arith, c.if-p-eq0.false)))

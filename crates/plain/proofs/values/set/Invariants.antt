@@ -1,10 +1,7 @@
 -- `plain::values::set` meets its contract.
-use Rattle.std.proofs.Common.{◌-◌, ◌≤◌}
+use Rattle.std.proofs.Common.{◌≤◌}
 use Rattle.plain.specs.Written.{Wrote}
 use Rattle.plain.proofs.values.set.Given as goal
 
 abbrev pub invariant-loop-i : goal.invariant-loop-i
 invariant-loop-i l = (l.i ≤ l.n) × Wrote l.initial.a l.a 0 l.i (λ k. l.v)
-
-abbrev pub decreases-loop-i : goal.decreases-loop-i
-decreases-loop-i l = l.n - l.i

@@ -1,5 +1,5 @@
 use mathlib.Core.Bool.{cond}
-use mathlib.Core.Path.{refl, ap₂, ◌∙◌}
+use mathlib.Core.Path.{ap₂, ◌∙◌}
 use Prim.Native.Nat.{ℕ}
 use native.Mathlib.Nat.{div-le_self, mod-le}
 use native.Mathlib.Omega.{arith}
@@ -12,7 +12,7 @@ pub returns-then-columns-eq0 : goal.returns-then-columns-eq0
 returns-then-columns-eq0 c = λ some. absurd (let z : ⊥ = omega arith in z)
 
 pub loop-k-init : goal.loop-k-init
-loop-k-init c = (omega arith, refl, wrote_none _ 0 _)
+loop-k-init c = (omega arith, c.from-n.ensures, wrote_none _ 0 _)
 
 pub overflow_mul-k : goal.overflow_mul-k
 overflow_mul-k c = let le = div-le_self c.loop-k.k c.args.columns in search rules
@@ -26,10 +26,10 @@ overflow_add-k c =
 pub loop-k-preserved : goal.loop-k-preserved
 loop-k-preserved c = (
   omega arith,
-  refl,
+  c.loop-k.invariant.1,
   wrote-put 0 c.loop-k.k _ c.loop-k.invariant.2 (omega arith) c.put.ensures
       (c.read-v.ensures
-      ∙ ap₂ (λ (m v : ℕ). cond (eqb m 1) 0 v) c.mark.ensures
+      ∙ ap₂ (λ (m v : ℕ). cond (eqb m 1) 0 v) (rw c.from-n.ensures at c.mark.ensures)
       (c.get.ensures ∙ c.loop-k.invariant.2.after c.loop-k.k (omega arith))),
 )
 

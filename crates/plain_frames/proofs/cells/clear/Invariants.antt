@@ -1,6 +1,6 @@
 -- `plain_frames::cells::clear` meets its contract.
 use mathlib.Core.Path.{◌≡◌}
-use Prim.Native.Nat.{◌-◌, ◌≤◌}
+use Prim.Native.Nat.{◌≤◌}
 use Rattle.plain_frames.specs.Cells.{read_as}
 use Rattle.plain.specs.Written.{Wrote}
 use Rattle.plain_frames.proofs.cells.clear.Given as goal
@@ -8,6 +8,3 @@ use Rattle.plain_frames.proofs.cells.clear.Given as goal
 abbrev pub invariant-loop-k : goal.invariant-loop-k
 invariant-loop-k l =
     (l.k ≤ 2048) × (l.n ≡ l.columns) × Wrote l.initial.frame l.frame 0 l.k (read_as l.words l.columns l.initial.frame)
-
-abbrev pub decreases-loop-k : goal.decreases-loop-k
-decreases-loop-k l = 2048 - l.k

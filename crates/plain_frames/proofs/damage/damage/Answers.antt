@@ -23,7 +23,7 @@ returns c =
           order
           size
           (λ narrow. c.mix.ensures (omega arith) (numbered _ (omega arith) c.number.ensures))
-          c.part-chosen.ensures
+          (rw c.from.ensures at c.part-chosen.ensures)
           (λ some few. c.draw_factors.ensures some few (omega arith))
           eight.ensures.0
           eight.ensures.2

@@ -8,7 +8,7 @@ returns-then-kind-eq2 c =
     λ some few held.
     let args = c.args in
     let row = drawn-row _ args.rows some few c.remainder.ensures c.draw-h.ensures.1 in
-    factor-put _ _ 1 args.factors.now row held (omega arith) c.put.ensures
+    factor-put _ _ 1 args.factors.now row held (omega arith) (rw c.from.ensures at c.put.ensures)
 
 pub returns : goal.returns
 returns c =

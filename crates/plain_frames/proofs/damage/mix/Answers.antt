@@ -11,7 +11,7 @@ loop-i-preserved c =
       λ fits d.
           let size = c.loop-i.invariant.0 in
           let low = drawn-below _ n (omega arith) c.draw-j.ensures.1 in
-          swapped _ n _ _ (omega arith) (omega arith) low n c.swap.ensures (c.loop-i.invariant.1 fits d),
+          swapped _ n _ _ (omega arith) (omega arith) low n (rw (c.from.ensures, c.from-in-loop-i.ensures) at c.swap.ensures) (c.loop-i.invariant.1 fits d),
     )
 
 pub loop-i-init : goal.loop-i-init

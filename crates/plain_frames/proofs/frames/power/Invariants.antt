@@ -1,10 +1,7 @@
 -- `plain_frames::frames::power` meets its contract.
 use mathlib.Core.Path.{◌≡◌}
-use Prim.Native.Nat.{◌-◌, ◌%◌, ◌^◌, ◌≤◌}
+use Prim.Native.Nat.{◌%◌, ◌^◌, ◌≤◌}
 use Rattle.plain_frames.proofs.frames.power.Given as goal
 
 abbrev pub invariant-loop : goal.invariant-loop
 invariant-loop l = (l.counter ≤ l.e) × (l.r ≡ l.x ^ l.counter % 257)
-
-abbrev pub decreases-loop : goal.decreases-loop
-decreases-loop l = l.e - l.counter

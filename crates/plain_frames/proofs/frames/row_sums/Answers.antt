@@ -23,7 +23,7 @@ loop-j-preserved c =
           _
           c.loop-j.invariant.1
           (omega arith)
-          c.put_at.ensures
+          (rw c.from.ensures at c.put_at.ensures)
           (c.check_sum.ensures ∙ ap (λ (k : ℕ). check_sum c.args.exponent c.args.row.now k) own))
           (omega arith)
           (omega arith),

@@ -6,6 +6,3 @@ use Rattle.plain_frames.proofs.frames.row_sums.Given as goal
 
 abbrev pub invariant-loop-j : goal.invariant-loop-j
 invariant-loop-j l = (l.j ≤ l.n) × Wrote l.initial.sums l.sums l.at (l.at + l.j) (λ k. check_sum l.exponent l.row (suc (k - l.at)))
-
-abbrev pub decreases-loop-j : goal.decreases-loop-j
-decreases-loop-j l = l.n - l.j
