@@ -20,7 +20,6 @@ pub fn said(r: Answered) -> Said
 }
 
 // There is no job of the number, or, in a turn, none that is unfinished.
-#[tactic(auto, unfolding(job::specs::Job::no_columns))]
 pub fn no_job() -> Said
     ensures { (f : List ℕ) → said_told result f ≡ nobody f }
 {
@@ -31,7 +30,6 @@ pub fn no_job() -> Said
     }
 }
 
-#[tactic(auto, unfolding(job::specs::Job::no_columns))]
 pub fn still_unfinished() -> Said
     ensures { said_told result [] ≡ record { answer = unfinished; marks = no_columns; tried = 0; frame = [] } }
 {

@@ -9,7 +9,7 @@ ghost use Rattle.frame.specs.Completion.{completed};
 ghost use Rattle.frame.specs.Frame.{check_sum};
 ghost use Rattle.lists.specs.Tabulate.{tabulate};
 
-use polynomials::values::times;
+use field::narrow::product;
 
 // The data of a row, with zeros in its first m columns and after it.
 fn data_cells(row: &[u16], m: usize) -> [u32; 256]
@@ -31,7 +31,7 @@ fn add_multiple(cells: &mut [u32], x: &[u16], w: u16)
         ≡ tabulate (length x.now) (λ k. get_or cells.old k 0 + get_or x.now k 0 * w) }
 {
     for a in 0..x.len() {
-        cells[a] += times(x[a], w);
+        cells[a] += product(x[a], w);
     }
 }
 

@@ -56,5 +56,6 @@ module _ (u : ℕ → Bool) (last : ℕ) where
     pub looks_on : u ((last % 8 + 1 + i) % 8) ≡ false → seek u (suc last) 8 ≡ seek u (suc last + (i + 1)) (8 - (i + 1))
     looks_on e = one_more ∙ ap (λ (b : Bool). cond b (some (place i)) (seek u (suc last + (i + 1)) (8 - (i + 1)))) e
 
-  pub looks_through : seek u (suc last) 8 ≡ seek u (suc last + 8) (8 - 8) → seek u (suc last) 8 ≡ none
-  looks_through looking = looking ∙ seek-none u (suc last + 8)
+  pub looks_through : {i : ℕ} → seek u (suc last) 8 ≡ seek u (suc last + i) (8 - i) → 8 ≤ i → seek u (suc last) 8 ≡ none
+  looks_through {i} looking all =
+      looking ∙ ap (seek u (suc last + i)) (let e : 8 - i ≡ 0 = omega arith in e) ∙ seek-none u (suc last + i)

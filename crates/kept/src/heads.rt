@@ -16,14 +16,16 @@ pub fn head_at(
     requires { k < 8 }
     ensures { result ≡ head_at (heads states.now extents.now checks.now marks.now) k }
 {
+    let counts = checks[k];
+    let words = marks[k];
     head_of(CHead {
         phase: states[k][0],
         alone: states[k][1],
         length: extents[k][2],
         rows: extents[k][0],
         columns: extents[k][1],
-        marks: marks[k],
-        checks: checks[k],
+        marks: words,
+        checks: counts,
         exponent: states[k][2],
     })
 }
@@ -42,8 +44,10 @@ pub fn put_head(
         with_head (heads states.old extents.old checks.old marks.old) k head }
 {
     let m = mirror_of(head);
+    let counts = m.checks;
+    let words = m.marks;
     states[k] = [m.phase, m.alone, m.exponent];
     extents[k] = [m.rows, m.columns, m.length];
-    checks[k] = m.checks;
-    marks[k] = m.marks;
+    checks[k] = counts;
+    marks[k] = words;
 }

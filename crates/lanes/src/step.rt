@@ -1,8 +1,8 @@
 // One step of every lane.
 ghost use Rattle.lanes.specs.Lanes.{Steppable, Stepped};
 
+use field::narrow::product as times;
 use field257::montgomery::product;
-use polynomials::values::times;
 
 // Lane i has the locator x[i] with its companion z[i], the last coefficient q[i] of its quotient, what Horner's rule has of the quotient, v[i], and what was
 // read off so far, t[i]. The next coefficient comes from that of the dividend, c; s is the check sum that it is multiplied by. None of them is reduced.

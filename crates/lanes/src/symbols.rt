@@ -6,12 +6,12 @@ ghost use Rattle.lanes.specs.Symbols.{Listable, ReadableSet, locators_to, symbol
 
 use crate::run::{Lanes, run};
 use columns::{Columns, size};
+use field::narrow::product;
 use field::residue::difference;
 use field257::inverses::inverse;
 use field257::montgomery::companions;
 use field257::powers::entry;
 use polynomials::locator::locator_polynomial;
-use polynomials::values::times;
 
 // The columns of the set, rising, and zeros after them.
 fn listed(set: Columns) -> [u16; 64]
@@ -41,7 +41,7 @@ fn locators_to(powers: &[u16; 256], m: usize, list: &[u16; 64], e: u32) -> [u16;
 fn symbol(weight: u16, value: u16, total: u32) -> u16
     ensures { result ≡ symbol_of weight value total }
 {
-    let factor = difference(0, inverse(times(weight, value) % 257), 257);
+    let factor = difference(0, inverse(product(weight, value) % 257), 257);
     ((total % 257) * factor % 257) as u16
 }
 

@@ -44,11 +44,14 @@ pub fn columns_of(found: Result<Sought, Refusal>) -> CColumns
     ensures { result ≡ columns_for (Search·answerOf found) }
 {
     match found {
-        Ok(sought) => CColumns {
-            refusal: 0,
-            tried: sought.tried,
-            marks: sought.columns.words,
-        },
+        Ok(sought) => {
+            let marks = sought.columns.words;
+            CColumns {
+                refusal: 0,
+                tried: sought.tried,
+                marks,
+            }
+        }
         Err(why) => CColumns {
             refusal: u32::from(why),
             tried: 0,
@@ -77,12 +80,13 @@ pub fn answer_of(reply: Result<Progress, Refusal>, columns: Columns, tried: usiz
         Ok(Progress::Unfinished) => (0, 1, 0),
         Err(why) => (u32::from(why), 0, 0),
     };
+    let marks = columns.words;
     CAnswer {
         refusal,
         unfinished,
         count,
         tried,
-        marks: columns.words,
+        marks,
     }
 }
 

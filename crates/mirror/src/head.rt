@@ -1,4 +1,5 @@
-// Heads of jobs and their mirrors on the other side of the C interface.
+// Heads of jobs and their mirrors on the other side of the C interface. Here and in the crates above, an array that is put from one struct into another has a
+// name of its own between them: no proof is generated for one that is put straight.
 ghost use Rattle.std.specs.Prelude.{◌≡◌};
 ghost use Rattle.mirror.specs.Mirror.{phase_of, head_of, mirror_of};
 
@@ -24,16 +25,18 @@ fn phase_of(phase: u32, length: usize, alone: u32) -> Phase
 pub fn head_of(m: CHead) -> Head
     ensures { result ≡ head_of m }
 {
+    let checks = m.checks;
+    let words = m.marks;
     let shape = Shape {
         rows: m.rows,
         columns: m.columns,
-        checks: m.checks,
+        checks,
         exponent: m.exponent,
     };
     Head {
         phase: phase_of(m.phase, m.length, m.alone),
         shape,
-        columns: Columns { words: m.marks },
+        columns: Columns { words },
     }
 }
 
@@ -46,14 +49,16 @@ pub fn mirror_of(j: Head) -> CHead
         Phase::Located { length, alone } => (2, length, alone),
         Phase::Unfinished => (3, 0, false),
     };
+    let checks = j.shape.checks;
+    let marks = j.columns.words;
     CHead {
         phase,
         alone: u32::from(alone),
         length,
         rows: j.shape.rows,
         columns: j.shape.columns,
-        marks: j.columns.words,
-        checks: j.shape.checks,
+        marks,
+        checks,
         exponent: j.shape.exponent,
     }
 }

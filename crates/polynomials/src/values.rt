@@ -8,13 +8,6 @@ ghost use Rattle.field257.specs.Powers.{power_of3};
 use field::narrow::product;
 use field257::powers::entry;
 
-// The whole product.
-pub fn times(a: u16, b: u16) -> u32
-    ensures { result ≡ a * b }
-{
-    u32::from(a) * u32::from(b)
-}
-
 // Two coefficients in one number, the second in the upper half.
 fn beside(a: u16, b: u16) -> u64
     ensures { result ≡ a + 4294967296 * b }

@@ -19,24 +19,22 @@ pub fn step(problem: Problem, n: usize, h: usize, state: &mut State)
         ≡ step_parts problem.entry.f.p problem.entry.longest (sequence_in problem.entry.symbols.now h (get_or problem.entry.lengths.now h 0)) n h
         (parts_of state.old) }
 {
-    let f = problem.f;
-    let long = usize::from(problem.lengths[h]);
     let sum = due(
-        f,
+        problem.f,
         problem.longest,
         state.length,
         &state.taps,
         problem.symbols,
         h,
-        long,
+        usize::from(problem.lengths[h]),
         n,
     );
-    let d = residue(f, sum);
+    let d = residue(problem.f, sum);
     if d == 0 {
         return;
     }
     state.length = change(
-        f,
+        problem.f,
         problem.moduli,
         n,
         h,

@@ -7,7 +7,7 @@ ghost use Rattle.remaining.specs.Removable.{Removable};
 
 use columns::{Columns, size};
 use polynomials::locator::locator_polynomial;
-use polynomials::values::times;
+use field::narrow::product;
 
 // Adds c times the `count` sums from `from` on to the totals.
 fn add_multiple(totals: &mut [u32; 64], c: u16, sums: &[u16], from: usize, count: usize)
@@ -15,7 +15,7 @@ fn add_multiple(totals: &mut [u32; 64], c: u16, sums: &[u16], from: usize, count
     ensures { Totals count (grown totals.old c sums.now from) totals.new }
 {
     for j in 0..count {
-        totals[j] += times(c, sums[from + j]);
+        totals[j] += product(c, sums[from + j]);
     }
 }
 

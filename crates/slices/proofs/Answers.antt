@@ -1,10 +1,8 @@
 -- How the answers of tests that are made one after the other come together.
 use mathlib.Core.Path.{◌≡◌, sym, ap, ◌∙◌}
 use mathlib.Core.Bool.{Bool, true, false, ◌&&◌, ◌||◌}
-use Prim.Native.Nat.{ℕ, ◌≤◌, ◌<◌}
+use Prim.Native.Nat.{ℕ, ◌≤◌}
 use native.Mathlib.Omega.{arith}
-use lib.Dec.{ltb}
-use borrow.Author.Tests.{lt-ltb, le-ltb}
 use Rattle.slices.specs.Synthesis.{Synthesis, counts_sound}
 use Rattle.slices.proofs.Tests.{counts_say}
 
@@ -24,14 +22,6 @@ module _ (a b : Bool) where
   -- after one that is not enough the others decide it
   pub remains : {r : Bool} → a ≡ false → r ≡ b → r ≡ (a || b)
   remains e rest = rest ∙ sym (ap (λ (t : Bool). t || b) e)
-
--- ---- tests as the code makes them
-
-pub residue : (x : ℕ) → x ≤ 256 → ltb x 257 ≡ true
-residue x h = lt-ltb x 257 (omega arith)
-
-pub no-residue : (x : ℕ) → 256 < x → ltb x 257 ≡ false
-no-residue x h = le-ltb x 257 h
 
 -- ---- the numbers
 

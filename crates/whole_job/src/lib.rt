@@ -145,20 +145,21 @@ pub fn start(mut j: Job, declared: &[u64; 32], frame: &[u16]) -> Answered
 pub fn next(mut j: Job) -> Answered
     ensures { answered_outcome (answered_of result) (arrays_of result.job) [] ≡ step (job_of j) next }
 {
+    let lent = &mut j;
     let answer = slicing::next::next(
-        j.head,
-        &j.sums,
-        &mut j.taps,
-        &j.declared,
-        &mut j.synthesis.counts,
-        &j.synthesis.lengths,
-        &j.synthesis.symbols,
-        &mut j.synthesis.places,
-        &mut j.synthesis.sizes,
-        &mut j.synthesis.discs,
-        &mut j.synthesis.quotients,
-        &mut j.synthesis.register,
-        &mut j.synthesis.saved,
+        lent.head,
+        &lent.sums,
+        &mut lent.taps,
+        &lent.declared,
+        &mut lent.synthesis.counts,
+        &lent.synthesis.lengths,
+        &lent.synthesis.symbols,
+        &mut lent.synthesis.places,
+        &mut lent.synthesis.sizes,
+        &mut lent.synthesis.discs,
+        &mut lent.synthesis.quotients,
+        &mut lent.synthesis.register,
+        &mut lent.synthesis.saved,
     );
     with_arrays(answer, j)
 }

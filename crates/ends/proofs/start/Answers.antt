@@ -1,16 +1,12 @@
 use mathlib.Core.Path.{◌∙◌, refl}
 use Prim.Native.Nat.{ℕ}
 use native.Mathlib.Omega.{arith}
-use borrow.Author.Rules.{rules}
 use lib.ListN.{length-replicate}
 use Rattle.lists.proofs.Filling.{filled-entry, filled_none, filled_more}
 use Rattle.ends.proofs.start.Goals as goal
 
 pub loop-h-init : goal.loop-h-init
 loop-h-init c = filled_none _ _
-
-pub overflow_sub-places : goal.overflow_sub-places
-overflow_sub-places c = c.requires.shorter c.loop-h.h (search rules)
 
 pub loop-h-preserved : goal.loop-h-preserved
 loop-h-preserved c =

@@ -8,4 +8,4 @@ use Rattle.dispatch.proofs.answers.no_job.Goals as goal
 pub returns : goal.returns
 unfolding no_columns
 returns c =
-    λ f. ap (λ (J : Columns). record { answer = refused 33; marks = J; tried = 0; frame = f }) c.empty-columns.ensures
+    λ f. ap (λ (J : Columns). record { answer = refused 33; marks = J; tried = 0; frame = f }) c.empty.ensures

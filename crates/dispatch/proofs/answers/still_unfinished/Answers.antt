@@ -8,4 +8,4 @@ use Rattle.dispatch.proofs.answers.still_unfinished.Goals as goal
 
 pub returns : goal.returns
 unfolding no_columns
-returns c = ap (λ (J : Columns). record { answer = unfinished; marks = J; tried = 0; frame = [] }) c.empty-columns.ensures
+returns c = ap (λ (J : Columns). record { answer = unfinished; marks = J; tried = 0; frame = [] }) c.empty.ensures

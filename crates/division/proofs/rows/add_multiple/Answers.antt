@@ -13,13 +13,13 @@ pub overflow_add-cells : goal.overflow_add-cells
 overflow_add-cells c =
     let old = filled-rest _ _ _ _ c.loop-a.invariant c.loop-a.a (omega arith) (omega arith) in
     let fits = c.requires.1 c.loop-a.a (omega arith) in
-    let r = c.times.ensures in
+    let r = c.product.ensures in
     omega arith
 
 pub loop-a-preserved : goal.loop-a-preserved
 loop-a-preserved c =
     filled_more _ _ c.loop-a.a _ c.loop-a.cells c.loop-a.invariant (let s = c.loop-a.invariant.size in omega arith)
-    (ap₂ ◌+◌ (filled-rest _ _ _ _ c.loop-a.invariant c.loop-a.a (omega arith) (omega arith)) c.times.ensures)
+    (ap₂ ◌+◌ (filled-rest _ _ _ _ c.loop-a.invariant c.loop-a.a (omega arith) (omega arith)) c.product.ensures)
 
 pub returns : goal.returns
 returns c =

@@ -16,7 +16,7 @@ numbers-here c extents checks marks =
 pub returns-then-states-k-eq3-clause-found : goal.returns-then-states-k-eq3-clause-found
 returns-then-states-k-eq3-clause-found c =
     λ extents checks marks.
-    let here = three_unfinished (numbers-here (goal.at.returns-then-states-k-eq3 c).In-loop-i extents checks marks) c.if-states-k-eq3.true in
+    let here = three_unfinished (numbers-here (goal.at.returns-then-states-k-eq3-clause-found c).In-loop-i extents checks marks) c.if-states-k-eq3.true in
     sym (looks_here _ _ (c.loop-i.invariant extents checks marks) c.loop-i-test.true here)
 
 pub loop-i-init : goal.loop-i-init
@@ -29,4 +29,4 @@ loop-i-preserved c =
     looks_on _ _ (c.loop-i.invariant extents checks marks) c.loop-i-test.true here
 
 pub returns-clause-found : goal.returns-clause-found
-returns-clause-found c = λ extents checks marks. sym (looks_through _ _ (c.loop-i.invariant extents checks marks))
+returns-clause-found c = λ extents checks marks. sym (looks_through _ _ (c.loop-i.invariant extents checks marks) c.loop-i-test.false)

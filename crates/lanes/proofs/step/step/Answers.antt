@@ -8,7 +8,7 @@ loop-i-init c = stepping_none _ _ _ _ _ _ _ _
 pub overflow_add-t : goal.overflow_add-t
 overflow_add-t c =
     let at = c.loop-i in
-    let w = c.times.ensures in
+    let w = c.product-in-loop-i-2.ensures in
     omega (
       arith,
       room _ _ _ _ _ _ _ _ c.requires at.i _ _ _ at.invariant c.loop-i-test.true c.product.result
@@ -19,8 +19,8 @@ pub loop-i-preserved : goal.loop-i-preserved
 loop-i-preserved c =
     let at = c.loop-i in
     stepping_more _ _ _ _ _ _ _ _ c.requires at.i _ _ _ at.invariant c.loop-i-test.true c.product.result c.product-in-loop-i.result
-    c.times.result c.product.ensures.equals c.product.ensures.bounded c.product-in-loop-i.ensures.equals
-    c.times.ensures
+    c.product-in-loop-i-2.result c.product.ensures.equals c.product.ensures.bounded c.product-in-loop-i.ensures.equals
+    c.product-in-loop-i-2.ensures
 
 pub returns : goal.returns
 returns c = stepping_all _ _ _ _ _ _ _ _ c.requires.whole _ _ _ _ c.loop-i.invariant c.loop-i-test.false

@@ -9,4 +9,4 @@ returns c =
     let total = c.args.total in
     ap (λ (f : ℕ). (total % 257 * f) % 257)
     (c.difference-factor.ensures.equals ∙ ap (λ (u : ℕ). minus 257 0 u)
-    (c.inverse.ensures.equals ∙ ap (λ (p : ℕ). inverse 257 (p % 257)) c.times.ensures))
+    (c.inverse.ensures.equals ∙ ap (λ (p : ℕ). inverse 257 (p % 257)) c.product.ensures))

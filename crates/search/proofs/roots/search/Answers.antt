@@ -1,4 +1,5 @@
 -- `search::roots::search` meets its contract.
+use native.Mathlib.Omega.{arith}
 use Rattle.std.proofs.Common.{◌≡◌, ◌∙◌, ap, sym, rules}
 use Rattle.refusal.specs.Number.{number}
 use Rattle.refusal.specs.Outcome.{passed, refused}
@@ -9,7 +10,7 @@ use Rattle.search.proofs.Answers.{in_range}
 use Rattle.search.proofs.roots.search.Goals as goal
 
 pub sought_columns-requires : goal.sought_columns-requires
-sought_columns-requires c = in_range _ _ (sym c.in_ok-check.ensures)
+sought_columns-requires c = let few = in_range _ _ (sym c.in_ok-check.ensures) in omega arith
 
 pub returns-in_err-check : goal.returns-in_err-check
 unfolding answer

@@ -15,7 +15,7 @@ falls : (n i left i' left' : ℕ) → 0 < left → i < n → (0 < left' → (i <
 falls n i left i' left' some more on = grind (arith, nat_tests)
 
 pub returns-then-taps-lt2 : goal.returns-then-taps-lt2
-returns-then-taps-lt2 c = rw c.empty.ensures (nothing-sought _ _ c.if-taps-lt2.true)
+returns-then-taps-lt2 c = rw c.empty.ensures (nothing-sought _ _ (let short = c.if-taps-lt2.true in omega arith))
 
 pub loop-left-init : goal.loop-left-init
 loop-left-init c =

@@ -1,6 +1,8 @@
 -- `searching::arrive::held_taps` meets its contract.
 use Prim.Native.Nat.{◌+◌}
 use native.Mathlib.Omega.{arith}
+use borrow.Author.Rules.{rules}
+use mathlib.Core.Path.{◌∙◌}
 use Rattle.searching.proofs.Arriving.{copies}
 use Rattle.searching.proofs.arrive.held_taps.Goals as goal
 

@@ -16,7 +16,7 @@ lent c =
     held-lent c.args.s c.requires.s_value c.args.sums.now c.requires.by_index (search rules) (search rules)
 
 pub begin_lent-requires : goal.begin_lent-requires
-begin_lent-requires c = lent_beginnable (lent c) _ c.sum_count.ensures
+begin_lent-requires c = lent_beginnable (lent (goal.at.begin_lent-requires c).After-sum_count) _ c.sum_count.ensures
 
 pub returns : goal.returns
 returns c =

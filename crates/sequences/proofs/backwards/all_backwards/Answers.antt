@@ -1,19 +1,15 @@
-use mathlib.Core.Path.{◌≡◌, sym, ap, ◌∙◌}
+use mathlib.Core.Path.{◌≡◌, ap, ◌∙◌}
 use Prim.Native.Nat.{ℕ}
 use native.Mathlib.Omega.{arith}
 use borrow.Author.Rules.{rules}
-use lib.ListN.{length}
 use Rattle.lists.proofs.Tabulated.{tabulate-zero}
 use Rattle.sequences.specs.Backwards.{backwards_over}
 use Rattle.sequences.specs.Places.{sequence_at, sequences_at}
-use Rattle.sequences.proofs.Reversing.{length_backwards, none_backwards, one_backwards, same-lengths, still-whole}
+use Rattle.sequences.proofs.Reversing.{none_backwards, one_backwards, same-lengths, still-whole}
 use Rattle.sequences.proofs.backwards.all_backwards.Goals as goal
 
 pub loop-h-init : goal.loop-h-init
 loop-h-init c = none_backwards _ _ c.requires.1 (tabulate-zero (sequence_at c.args.order c.args.symbols.now))
-
-pub overflow_add-to : goal.overflow_add-to
-overflow_add-to c = record { fits = omega (arith, c.requires.0.short c.loop-h.h (search rules), c.requires.0.count, c.from-size.ensures) }
 
 pub slice_bounds-backwards-end : goal.slice_bounds-backwards-end
 slice_bounds-backwards-end c =
@@ -29,9 +25,6 @@ backwards-requires c = same-lengths _ _ c.loop-h.h _ _ _ c.requires.0 (search ru
 pub loop-h-preserved : goal.loop-h-preserved
 loop-h-preserved c =
     one_backwards _ _ c.loop-h.h _ _ _ c.requires.0 (search rules) c.loop-h.invariant c.from-a.ensures c.from-size.ensures c.backwards.ensures
-
-pub shape_of-blocks : goal.shape_of-blocks
-shape_of-blocks c = ap length c.loop-h.invariant ∙ length_backwards _ _ ∙ sym c.requires.1
 
 pub returns : goal.returns
 returns c =

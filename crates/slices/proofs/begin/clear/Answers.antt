@@ -1,24 +1,16 @@
-use mathlib.Core.Path.{◌≡◌, sym, ap, ◌∙◌}
+use mathlib.Core.Path.{◌≡◌, ap, ◌∙◌}
 use Prim.Native.Nat.{ℕ}
 use native.Mathlib.Omega.{arith}
 use borrow.Author.Rules.{rules}
-use lib.ListN.{length}
-use Rattle.sequences.proofs.Reversing.{length_backwards}
 use Rattle.sequences.specs.Backwards.{backwards_over}
-use Rattle.slices.proofs.Beginning.{all-cleared, front-within, fronts, none-cleared, one-cleared}
+use Rattle.slices.proofs.Beginning.{all-cleared, fronts, none-cleared, one-cleared}
 use Rattle.slices.proofs.begin.clear.Goals as goal
 
 pub loop-h-init : goal.loop-h-init
 loop-h-init c = none-cleared _ c.requires
 
-pub slice_bounds-fill-end : goal.slice_bounds-fill-end
-slice_bounds-fill-end c = let at = c.loop-h in front-within _ {h = at.h} (search rules) at.invariant
-
 pub loop-h-preserved : goal.loop-h-preserved
 loop-h-preserved c = let at = c.loop-h in one-cleared _ {h = at.h} (search rules) at.invariant (c.fill.ensures.after (search rules))
-
-pub shape_of-saved : goal.shape_of-saved
-shape_of-saved c = ap length c.loop-h.invariant ∙ length_backwards _ _ ∙ sym c.requires
 
 pub returns : goal.returns
 returns c =
