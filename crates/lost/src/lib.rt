@@ -7,7 +7,7 @@ pub mod cells;
 pub mod edges;
 pub mod left;
 pub mod lent;
-pub mod lists;
+pub mod many_calls;
 pub mod model;
 pub mod named;
 pub mod near;

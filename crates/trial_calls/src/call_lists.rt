@@ -3,7 +3,7 @@
 use lost::against;
 use lost::against::Pair;
 use lost::lent::{draw_size, spoil, strike};
-use lost::lists::{Calls, show};
+use lost::many_calls::{Calls, show};
 use lost::model::{Model, Phase};
 use lost::tallies::Tallies;
 use plain::random::{draw, draw_exponent, draw_from, fill_from};

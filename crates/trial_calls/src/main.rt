@@ -8,7 +8,7 @@ mod edges;
 use call_lists::Usual;
 use lost::model::Planted;
 use lost::tallies::Tallies;
-use lost::{lists, tallies};
+use lost::{many_calls, tallies};
 use plain::tally::print_end;
 use std::io;
 
@@ -17,7 +17,7 @@ fn run(rt: &impl Print, state: &mut u64, counts: &mut Tallies) -> io::Result<boo
     if !edges::try_all(rt, counts)? {
         return Ok(false);
     }
-    lists::random(&Usual, rt, state, Planted::Right, 2000, counts)
+    many_calls::random(&Usual, rt, state, Planted::Right, 2000, counts)
 }
 
 fn report(rt: &impl Print, counts: &Tallies) -> io::Result<()> {
@@ -36,6 +36,6 @@ fn main(rt: HostRuntime) -> io::Result<()> {
     report(&rt, &counts)?;
     print_end(&rt, agreed)?;
     print!(rt; "planted: ")?;
-    let agreed = lists::random(&Usual, &rt, &mut state, Planted::JobLeft, 100, &mut counts)?;
+    let agreed = many_calls::random(&Usual, &rt, &mut state, Planted::JobLeft, 100, &mut counts)?;
     print_end(&rt, agreed)
 }

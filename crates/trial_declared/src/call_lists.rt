@@ -4,7 +4,7 @@ use crate::drawn::{Size, draw_frame};
 use lost::against::Pair;
 use lost::cells::draw_cells;
 use lost::lent::{draw_size, strike};
-use lost::lists::{Calls, show_cells};
+use lost::many_calls::{Calls, show_cells};
 use lost::model::{Model, Phase};
 use lost::tallies::Tallies;
 use lost::{against, cells, lent};

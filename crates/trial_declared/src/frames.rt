@@ -3,7 +3,7 @@
 use crate::drawn::{Size, draw_frame};
 use crate::small::{frames_agree, sets_agree};
 use lost::against::Pair;
-use lost::lists::show_cells;
+use lost::many_calls::show_cells;
 use lost::model::{Model, Planted};
 use lost::tallies::Tallies;
 use lost::{against, cells, model};

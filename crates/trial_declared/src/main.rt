@@ -13,7 +13,7 @@ use call_lists::WithCells;
 use drawn::Size;
 use lost::model::Planted;
 use lost::tallies::Tallies;
-use lost::{lists, tallies};
+use lost::{many_calls, tallies};
 use plain::tally::print_end;
 use std::io;
 
@@ -32,7 +32,7 @@ fn run(rt: &impl Print, state: &mut u64, counts: &mut Tallies) -> io::Result<boo
             return Ok(false);
         }
     }
-    lists::random(&WithCells, rt, state, Planted::Right, 2000, counts)
+    many_calls::random(&WithCells, rt, state, Planted::Right, 2000, counts)
 }
 
 fn report(rt: &impl Print, counts: &Tallies) -> io::Result<()> {
@@ -56,7 +56,7 @@ fn plant(
     counts: &mut Tallies,
 ) -> io::Result<()> {
     rt.write_all(text)?;
-    let agreed = lists::random(&WithCells, rt, state, planted, 300, counts)?;
+    let agreed = many_calls::random(&WithCells, rt, state, planted, 300, counts)?;
     print_end(rt, agreed)
 }
 
