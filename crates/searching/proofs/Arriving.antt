@@ -2,7 +2,7 @@
 use mathlib.Core.Path.{◌≡◌, refl, sym, ap, ap₂, ◌∙◌}
 use mathlib.Core.Bool.{Bool, true, false}
 use mathlib.Core.List.{List, ◌++◌}
-use Prim.Native.Nat.{ℕ, suc, ◌+◌, ◌-◌, ◌≤◌, ◌<◌}
+use Prim.Native.Nat.{ℕ, suc, ◌-◌, ◌≤◌, ◌<◌}
 use native.Mathlib.Omega.{arith}
 use lib.ListN.{length, get_or, take, replicate}
 use lib.Seq.{length-take-le, get_or-take, take_at}
@@ -14,7 +14,6 @@ use Rattle.job.specs.Calls.{arrives_tests, arrives, held_taps, held_mark}
 use Rattle.job.specs.Job.{Arrays, with_taps, with_found}
 use Rattle.job.specs.declared.Answered.{Answered}
 use Rattle.job.specs.declared.Progress.{Progress}
-use Rattle.job.specs.declared.Progress.TheVariants as Progress
 use Rattle.refusal.specs.declared.Refusal.{Refusal}
 use Rattle.std.specs.Prelude.{Result, Ok, Err}
 use Rattle.slices.specs.Synthesis.{Synthesis, ended, size}
