@@ -185,11 +185,11 @@ by_served p (some k) e l = can_serve k (found_below jobs (jobs_of p) k l) p e
 -- ---- either
 
 by_number : {A : Type 0} (k : ℕ) → (k < 8 → A) → (8 ≤ k → A) → A
-by_number {A} k one none = pick (dec_lt k 8)
+by_number {A} k one other = pick (dec_lt k 8)
   where
     pick : Dec (k < 8) → A
     pick (yes below) = one below
-    pick (no above) = none (let b : 8 ≤ k = omega arith in b)
+    pick (no above) = other (let b : 8 ≤ k = omega arith in b)
 
 pub dispatcher_total : (p : Kept) (e : Event jobs) → (r : DReturn) × DStep p e r
 dispatcher_total p (on k c) = by_number k (λ b. can-one k b p c) (λ b. can_refuse k b p c)

@@ -29,7 +29,6 @@ use Rattle.capi.specs.Runs.{CJob, CReply, number, answer, peeked, CReturn, step_
 use Rattle.capi.specs.Runs.{reply_of, return_of, Given, CEdge}
 use Rattle.mirror.specs.declared.CAnswered.{CAnswered}
 use Rattle.mirror.specs.declared.CHead.{CHead}
-use Rattle.mirror.specs.declared.CPeeked.{CPeeked}
 use Rattle.mirror.specs.declared.CShaped.{CShaped}
 use Rattle.mirror.proofs.RoundTrip.{there_and_back}
 use Rattle.register_step.specs.Parts.{Parts, step_parts}

@@ -1,5 +1,5 @@
 -- What is told and kept of a call with a number: by the job of that number, or by nobody; and of a turn.
-use mathlib.Core.Path.{◌≡◌, refl, sym, ap, ◌∙◌}
+use mathlib.Core.Path.{◌≡◌, sym, ap, ◌∙◌}
 use mathlib.Core.Bool.{Bool, cond}
 use mathlib.Core.List.{[]}
 use mathlib.Core.Option.{Option, none, some}
@@ -9,7 +9,7 @@ use Rattle.eight_jobs.specs.Eight.{jobs}
 use Rattle.job.specs.Calls.{Call, next}
 use Rattle.job.specs.Refusals.{lent_to}
 use Rattle.kept.specs.Kept.{Kept, with_last, jobs_of, made_of, served_of, kept_after}
-use Rattle.turns.specs.Dispatcher.{turn, turn_reply, reply, served}
+use Rattle.turns.specs.Dispatcher.{turn_reply, reply, served}
 use Rattle.turns.proofs.Calling.{calling}
 use Rattle.dispatch.specs.Calls.{Made}
 use Rattle.dispatch.specs.Told.{Told, nobody, told, turn_told, Does, Turns}

@@ -2,17 +2,16 @@
 use crate::cells::list;
 use brute::erasures::take_out_all;
 use plain::sequences::sequence;
-use plain::values::{copy, minus, part, put};
+use plain::values::{copy, part, put};
 
 // Puts what is left of the check sums of row h behind what is left of those before it, and answers how much that is.
 fn row_left(words: &[u64; 32], h: usize, sums: &[u16], left: &mut [u16], at: usize) -> usize {
-    let none = [0u16; 0];
     let mut columns = [0u16; 256];
-    let n = list(words, h, &none, &mut columns);
+    let n = list(words, h, &[], &mut columns);
     let mut room = [0u16; 64];
     copy(sums, &mut room, 0);
     take_out_all(&mut room, sums.len(), part(&columns, 0, n));
-    let m = minus(sums.len(), n);
+    let m = sums.len().saturating_sub(n);
     copy(part(&room, 0, m), left, at);
     m
 }
@@ -29,6 +28,6 @@ pub fn all_left(
     for h in 0..checks.len() {
         let n = row_left(words, h, sequence(checks, sums, h), left, at);
         put(lengths, h, (n % 65536) as u16);
-        at = std::num::wrapping_add_usize(at, n);
+        at = at.wrapping_add(n);
     }
 }

@@ -5,6 +5,7 @@ use mathlib.Core.Bool.{Bool, true, false, cond}
 use mathlib.Core.List.{List, [], ◌∷◌}
 use Prim.Native.Nat.{ℕ, suc}
 use native.Mathlib.Omega.{arith}
+use Rattle.std.specs.Prelude.{Result, Ok, Err}
 use Rattle.finder.specs.Finder as Finder
 use Rattle.finder.specs.Finder.{answer}
 use Rattle.sequences.specs.Tests.{tests}
@@ -15,10 +16,13 @@ use Rattle.frame.specs.Shape.{shape_tests}
 use Rattle.frame.specs.declared.Shape.{Shape}
 use Rattle.refusal.specs.Order.{Test}
 use Rattle.refusal.specs.Outcome as Tested
+use Rattle.refusal.specs.Outcome.{outcome_of}
+use Rattle.refusal.specs.declared.Refusal.{Refusal}
 use Rattle.refusal.proofs.Orders.{Among, by_tests}
 use Rattle.search.specs.Search as Search
 use Rattle.slices.specs.Synthesis.{size, ended}
 use Rattle.search.specs.Search.{search_tests}
+use Rattle.job.specs.Answers.{checked_answer}
 use Rattle.job.specs.Calls.{Call, shape, encode, locate, repair, start, next, peek, Answer, done, columns, unfinished, shortest, refused}
 use Rattle.job.specs.Calls.{describe, register_tests, by_register_tests, held_taps, held_mark, arrives_tests, started, stepped, step}
 use Rattle.job.specs.Job.{Arrays, Job}
@@ -102,6 +106,11 @@ found (Finder.register l a) n = (λ e k f. let z : ◌≡◌ {A = ℕ} 0 1 = cc 
 found (Finder.refused k) n = (λ e m f. n (ap Finder.refused e), λ f. absurd (f k refl))
 
 -- ---- the search
+
+-- of a test, both read the same number
+pub same-refusal : (v : Result (Unit {0}) Refusal) → refusal_of (checked_answer v) ≡ refusal_number (outcome_of v)
+same-refusal (Ok passed) = refl
+same-refusal (Err why) = refl
 
 search-numbered : (n : ℕ) (σ : List ℕ) → Numbered (search_tests n σ)
 unfolding search_tests

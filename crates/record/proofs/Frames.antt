@@ -17,24 +17,22 @@ use Rattle.frame.proofs.Shapes.{shape-ranges}
 use Rattle.decoding.specs.Locating.{size_of}
 use Rattle.decoding.specs.Remaining.{all_remaining, read_sequences, left_reach}
 use Rattle.decoding.proofs.SoleNearest.{left-reach}
-use Rattle.job.specs.Answers.{reply_answer, checked_answer, shape_outcome, answered_outcome}
+use Rattle.std.specs.Prelude.{Result, Ok, Err}
+use Rattle.job.specs.Answers.{reply_answer, shape_outcome, answered_outcome}
 use Rattle.job.specs.Calls as Calls
 use Rattle.job.specs.Calls.{Answer, Outcome, locates, step, shape, locate}
 use Rattle.job.specs.Job.{Arrays, Job, beside, empty_head, no_arrays, no_columns}
 use Rattle.job.specs.NothingDeclared.{no_words}
 use Rattle.job.specs.declared.Answered.{Answered}
 use Rattle.job.specs.declared.Head.{Head}
-use Rattle.job.specs.declared.Reply.{Reply}
-use Rattle.job.specs.declared.Reply.TheVariants.{Count, Unfinished, Refused}
-use Rattle.job.specs.declared.Reshaped.{Reshaped}
+use Rattle.job.specs.declared.Progress.{Progress}
+use Rattle.job.specs.declared.Progress.TheVariants.{Columns, Unfinished}
 use Rattle.job.proofs.Cases.{by_call}
 use Rattle.job.proofs.Emptiness.{has-shape}
 use Rattle.job.proofs.Forms.{Locates, register-passes}
 use Rattle.job.proofs.Soundness.{marked-number}
 use Rattle.refusal.specs.Number.{number}
 use Rattle.refusal.specs.declared.Refusal.{Refusal}
-use Rattle.refusal.specs.declared.Checked.{Checked}
-use Rattle.refusal.specs.declared.Checked.TheVariants.{Pass, Refuse}
 use Rattle.text.specs.Answered.{column_count}
 use Rattle.text.specs.Line.{refusal_line, columns_line}
 use Rattle.record.specs.Line.{frame_line, output_of}
@@ -74,10 +72,10 @@ few-located j words f =
         let first : 0 < s.rows = omega (arith, ranges.rows-least) in
         omega (arith, left-reach s D c r 0 first, (ranges.checks 0 first).most)
 
-reply-count : (r : Reply) → counted (reply_answer r) ≡ column_count r
-reply-count (Count c) = refl
-reply-count Unfinished = refl
-reply-count (Refused k) = refl
+reply-count : (r : Result Progress Refusal) → counted (reply_answer r) ≡ column_count r
+reply-count (Ok (Columns c)) = refl
+reply-count (Ok Unfinished) = refl
+reply-count (Err k) = refl
 
 pub few-marks : (j : Job) (b : Arrays) (words f : List ℕ) (a : Answered) → answered_outcome a b f ≡ step j (locate words f)
     → (column_count a.reply ≤ 64) × (length (members a.columns) ≤ 64)
@@ -87,26 +85,27 @@ few-marks j b words f a e =
 
 -- ---- the line, by what is returned
 
-module _ (n : ℕ) (checks symbols : List ℕ) (h : Head) (start : h ≡ empty_head) (shaped : Reshaped)
-    (given : (a : Arrays) → shape_outcome shaped a ≡ step (beside h a) (shape n checks 1)) where
+module _ (n : ℕ) (checks symbols : List ℕ) (h : Head) (start : h ≡ empty_head) (shaped : Result Head Refusal)
+    (given : (a : Arrays) → shape_outcome (beside h a) shaped ≡ step (beside h a) (shape n checks 1)) where
   -- beside zeros
-  abbrev after : Outcome
-  after = shape_outcome shaped no_arrays
+  abbrev after : Result Head Refusal → Outcome
+  after = shape_outcome (beside h no_arrays)
 
-  by-outcome : frame_line (checked_answer shaped.checked) after (step after.job (locate no_words symbols)) ≡ output_of (frame n checks symbols)
+  abbrev line : Outcome → List ℕ
+  line o = frame_line o.answer o (step o.job (locate no_words symbols))
+
+  by-outcome : line (after shaped) ≡ output_of (frame n checks symbols)
   unfolding output_of
   by-outcome =
-      ap (λ (o : Outcome). frame_line o.answer o (step o.job (locate no_words symbols)))
-      (given no_arrays ∙ ap (λ (i : Head). step (beside i no_arrays) (shape n checks 1)) start)
+      ap line (given no_arrays ∙ ap (λ (i : Head). step (beside i no_arrays) (shape n checks 1)) start)
 
-  pub frame_refused : (k : Refusal) → shaped.checked ≡ Refuse k → refusal_line (number k) ≡ output_of (frame n checks symbols)
+  pub frame_refused : (k : Refusal) → shaped ≡ Err k → refusal_line (number k) ≡ output_of (frame n checks symbols)
   unfolding frame_line
-  frame_refused k e =
-      ap (λ (v : Checked). frame_line (checked_answer v) after (step after.job (locate no_words symbols))) (sym e) ∙ by-outcome
+  frame_refused k e = ap (λ (r : Result Head Refusal). line (after r)) (sym e) ∙ by-outcome
 
-  pub frame-located : (a : Answered) (b : Arrays) → shaped.checked ≡ Pass → answered_outcome a b symbols ≡ step after.job (locate no_words symbols)
+  pub frame-located : (a : Answered) (b : Arrays) (head : Head) → shaped ≡ Ok head
+      → answered_outcome a b symbols ≡ step (beside head no_arrays) (locate no_words symbols)
       → columns_line (reply_answer a.reply) a.columns ≡ output_of (frame n checks symbols)
   unfolding frame_line
-  frame-located a b e l =
-      ap (λ (o : Outcome). columns_line o.answer o.marks) l ∙
-      ap (λ (v : Checked). frame_line (checked_answer v) after (step after.job (locate no_words symbols))) (sym e) ∙ by-outcome
+  frame-located a b head e l =
+      ap (λ (o : Outcome). columns_line o.answer o.marks) l ∙ ap (λ (r : Result Head Refusal). line (after r)) (sym e) ∙ by-outcome

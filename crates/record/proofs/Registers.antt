@@ -6,11 +6,12 @@ use Prim.Native.Nat.{ℕ, suc, ◌+◌, ◌≤◌}
 use native.Mathlib.Numerals.{add-one}
 use native.Mathlib.Omega.{arith}
 use lib.ListN.{length, take, drop, length-append}
+use Rattle.std.specs.Prelude.{Result, Ok, Err}
 use Rattle.finder.specs.Finder.{Answer, register, refused, answer_of, answer, taps_left}
-use Rattle.finder.specs.declared.Found.{Found}
-use Rattle.finder.specs.declared.Found.TheVariants.{Register, Refused}
+use Rattle.finder.specs.declared.Register.{Register}
 use Rattle.finder.proofs.Demands.{tap-count, taps-left, first-left}
 use Rattle.refusal.specs.Number.{number}
+use Rattle.refusal.specs.declared.Refusal.{Refusal}
 use Rattle.register.specs.Algorithm4.{found}
 use Rattle.register.specs.Sequences.{longest, split}
 use Rattle.text.specs.Line.{refusal_line, register_line}
@@ -44,10 +45,10 @@ module _ (p : ℕ) (lengths symbols : List ℕ) where
           let e = ap length (written ∙ taps-left p lengths symbols buffer l a (sym answered)) ∙ length-append taps (drop (suc l) buffer) in
           omega (arith, tap-count p lengths symbols buffer l a (sym answered))
 
-    pub found-taps : (r : Found) → answer_of r ≡ answer p lengths symbols (length buffer) → tap_count r ≤ length left
-    found-taps (Register l a) e = taps_fit l a e
-    found-taps (Refused k) e = omega arith
+    pub found-taps : (r : Result Register Refusal) → answer_of r ≡ answer p lengths symbols (length buffer) → tap_count r ≤ length left
+    found-taps (Ok r) e = taps_fit r.length r.alone e
+    found-taps (Err k) e = omega arith
 
-    pub found_output : (r : Found) → answer_of r ≡ answer p lengths symbols (length buffer) → found_line r left ≡ output_of (sequences p lengths symbols)
-    found_output (Register l a) e = sym (register-line l a e)
-    found_output (Refused k) e = sym (refused-line (number k) e)
+    pub found_output : (r : Result Register Refusal) → answer_of r ≡ answer p lengths symbols (length buffer) → found_line r left ≡ output_of (sequences p lengths symbols)
+    found_output (Ok r) e = sym (register-line r.length r.alone e)
+    found_output (Err k) e = sym (refused-line (number k) e)

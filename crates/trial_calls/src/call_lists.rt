@@ -1,13 +1,14 @@
 // Random lists of calls on one job. A frame stands in a room and is lent to call after call; before each it may be filled anew or damaged,
 // and a call may be lent a copy of it that has a wrong size or a symbol above 256.
-use crate::against;
-use crate::against::Pair;
-use crate::model::{EMPTY, Model, size};
-use crate::tallies::LISTS;
+use lost::against;
+use lost::against::Pair;
+use lost::lent::{draw_size, spoil, strike};
+use lost::many_calls::{Calls, show};
+use lost::model::{Model, Phase};
+use lost::tallies::Tallies;
 use plain::random::{draw, draw_exponent, draw_from, fill_from};
-use plain::tally::{count, print_frame};
-use plain::values::{copy, first, minus, part, put, remainder, set};
-use plain_frames::damage::damage;
+use plain::tally::count;
+use plain::values::{copy, first, part, put, set};
 use std::io;
 
 #[derive(Clone, Copy)]
@@ -18,21 +19,14 @@ enum Call {
     Repair,
 }
 
-fn draw_call(state: &mut u64, phase: u16) -> Call {
-    let k = draw(state, 16);
-    if k < 1 {
-        return Call::Shape;
+fn draw_call(state: &mut u64, model: &Model) -> Call {
+    match draw(state, 16) {
+        0 => Call::Shape,
+        1..=3 => Call::Encode,
+        4..=9 => Call::Locate,
+        _ if matches!(model.phase, Phase::Empty) => Call::Shape,
+        _ => Call::Repair,
     }
-    if k < 4 {
-        return Call::Encode;
-    }
-    if k < 10 {
-        return Call::Locate;
-    }
-    if phase == EMPTY {
-        return Call::Shape;
-    }
-    Call::Repair
 }
 
 fn draw_columns(state: &mut u64) -> u16 {
@@ -58,7 +52,7 @@ fn draw_checks(state: &mut u64, columns: u16) -> u16 {
         0 => 0,
         1 => columns,
         2 => 65,
-        _ => draw_from(state, 1, std::num::wrapping_sub_u16(columns, 1)),
+        _ => draw_from(state, 1, columns.wrapping_sub(1)),
     }
 }
 
@@ -73,23 +67,16 @@ fn draw_any_exponent(state: &mut u64) -> u32 {
 }
 
 // A shape of up to eight rows and mostly few columns, or one that is refused.
-fn call_shape(state: &mut u64, pair: Pair, counts: &mut [u64]) -> Pair {
+fn call_shape(state: &mut u64, pair: Pair) -> Option<Pair> {
     let columns = draw_columns(state);
     let rows = draw_rows(state);
+    let n = usize::from(rows);
     let mut checks = [0u16; 9];
-    let spread = std::num::wrapping_sub_u16(columns, 1);
-    fill_from(state, 1, spread, &mut checks, rows as usize);
+    fill_from(state, 1, columns.wrapping_sub(1), &mut checks, n);
     let h = draw(state, rows);
-    put(&mut checks, h as usize, draw_checks(state, columns));
+    put(&mut checks, usize::from(h), draw_checks(state, columns));
     let exponent = draw_any_exponent(state);
-    let lent = part(&checks, 0, rows as usize);
-    against::shape(pair, columns, lent, exponent, counts)
-}
-
-// Damages up to `most` columns of the frame.
-fn strike(state: &mut u64, model: Model, most: u16, room: &mut [u16]) {
-    let w = draw(state, std::num::wrapping_add_u16(most, 1));
-    damage(state, model.columns, model.rows as usize, w, room);
+    against::shape(pair, columns, part(&checks, 0, n), exponent)
 }
 
 // One symbol, mostly 0, for a dead line.
@@ -100,67 +87,24 @@ fn draw_dead(state: &mut u64) -> u16 {
     }
 }
 
-// The frame is filled anew, or all with one symbol, or left.
-fn fill(state: &mut u64, k: u16, model: Model, room: &mut [u16]) {
-    match k {
-        0 => set(room, size(model), draw_dead(state)),
-        1 => fill_from(state, 0, 257, room, size(model)),
-        2 => fill_from(state, 0, 257, room, size(model)),
-        3 => fill_from(state, 0, 257, room, size(model)),
+// Before a frame is encoded it is often filled anew, before it is searched damaged, and before it is mended seldom; or it is all of one symbol.
+fn prepare(state: &mut u64, call: Call, model: &Model, room: &mut [u16]) {
+    let n = model.size();
+    match (call, draw(state, 6)) {
+        (Call::Encode, 0) | (Call::Repair, 1) => set(room, n, draw_dead(state)),
+        (Call::Encode, 1..=3) => fill_from(state, 0, 257, room, n),
+        (Call::Locate, 0..=4) => strike(state, model, 3, room),
+        (Call::Repair, 0) => strike(state, model, 1, room),
         _ => {}
     }
 }
 
-// The frame is damaged, or all of one symbol, or left.
-fn spare(state: &mut u64, k: u16, model: Model, room: &mut [u16]) {
-    match k {
-        0 => strike(state, model, 1, room),
-        1 => set(room, size(model), draw_dead(state)),
-        _ => {}
-    }
-}
-
-// Before a frame is encoded it is often filled anew, before it is searched damaged, and before it is mended seldom.
-fn prepare(state: &mut u64, call: Call, model: Model, room: &mut [u16]) {
-    let k = draw(state, 6);
+fn call_on(call: Call, pair: Pair, frame: &mut [u16]) -> Option<Pair> {
     match call {
-        Call::Shape => {}
-        Call::Encode => fill(state, k, model, room),
-        Call::Locate => {
-            if k < 5 {
-                strike(state, model, 3, room);
-            }
-        }
-        Call::Repair => spare(state, k, model, room),
-    }
-}
-
-// How many symbols are lent: mostly those of the shape. A job without one is lent eight.
-fn draw_size(state: &mut u64, n: usize) -> usize {
-    if n == 0 {
-        return 8;
-    }
-    match draw(state, 20) {
-        0 => std::num::wrapping_add_usize(n, 1),
-        1 => minus(n, 1),
-        _ => n,
-    }
-}
-
-// Seldom a symbol is put above 256.
-fn spoil(state: &mut u64, lent: &mut [u16], n: usize) {
-    if draw(state, 10) == 0 {
-        let i = draw(state, remainder(n as u64, 65535));
-        put(lent, i as usize, draw_from(state, 257, 3));
-    }
-}
-
-fn call_on(call: Call, pair: Pair, frame: &mut [u16], counts: &mut [u64]) -> Pair {
-    match call {
-        Call::Shape => pair,
-        Call::Encode => against::encode(pair, frame, counts),
-        Call::Locate => against::locate(pair, frame, counts),
-        Call::Repair => against::repair(pair, frame, counts),
+        Call::Shape => Some(pair),
+        Call::Encode => against::encode(pair, frame),
+        Call::Locate => against::locate(pair, &[0; 32], frame),
+        Call::Repair => against::repair(pair, frame),
     }
 }
 
@@ -171,88 +115,57 @@ fn call_lent(
     call: Call,
     pair: Pair,
     room: &mut [u16],
-    counts: &mut [u64],
-) -> io::Result<Pair> {
-    let n = draw_size(state, size(pair.model));
-    let mut lent = [0u16; 512];
+) -> io::Result<Option<Pair>> {
+    prepare(state, call, &pair.model, room);
+    let n = draw_size(state, pair.model.size());
+    let mut lent = [0u16; 2048];
     copy(room, &mut lent, 0);
-    spoil(state, &mut lent, n);
-    let next = call_on(call, pair, first(&mut lent, n), counts);
-    if !next.agree {
-        show(rt, pair.model, part(&lent, 0, n))?;
-    }
-    if !next.refused {
-        copy(&lent, room, 0);
+    spoil(state, n, &mut lent);
+    let next = call_on(call, pair, first(&mut lent, n));
+    match next {
+        None => show(rt, &pair.model, part(&lent, 0, n))?,
+        Some(Pair { refused: None, .. }) => copy(&lent, room, 0),
+        Some(_) => {}
     }
     Ok(next)
 }
 
-// Prints the frame of a disagreement.
-fn show(rt: &impl Print, model: Model, frame: &[u16]) -> io::Result<()> {
-    let checks = model.checks;
-    let lent = part(&checks, 0, model.rows as usize);
-    print_frame(
-        rt,
-        b"calls disagree",
-        model.exponent,
-        model.columns,
-        lent,
-        frame,
-    )
-}
-
-fn next(
-    rt: &impl Print,
-    state: &mut u64,
-    pair: Pair,
-    room: &mut [u16],
-    counts: &mut [u64],
-) -> io::Result<Pair> {
-    let model = pair.model;
-    let call = draw_call(state, model.phase);
+fn tally(call: Call, refused: Option<u32>, counts: &mut Tallies) {
+    count(
+        &mut counts.dead,
+        matches!((call, refused), (Call::Repair, Some(26))),
+    );
+    if let Some(number) = refused {
+        counts.refuse(number);
+        return;
+    }
     match call {
-        Call::Shape => Ok(call_shape(state, pair, counts)),
-        _ => {
-            prepare(state, call, model, room);
-            call_lent(rt, state, call, pair, room, counts)
-        }
+        Call::Shape => count(&mut counts.shaped, true),
+        Call::Encode => count(&mut counts.encoded, true),
+        Call::Locate => count(&mut counts.found, true),
+        Call::Repair => count(&mut counts.mended, true),
     }
 }
 
-// A list of n calls from an empty job.
-fn list(
-    rt: &impl Print,
-    state: &mut u64,
-    planted: bool,
-    n: u16,
-    counts: &mut [u64],
-) -> io::Result<bool> {
-    let mut frame = [0u16; 512];
-    let room: &mut [u16] = &mut frame;
-    let mut pair = against::start(planted);
-    for _ in 0..n {
-        pair = next(rt, state, pair, room, counts)?;
-        if !pair.agree {
-            return Ok(false);
-        }
-    }
-    Ok(true)
-}
+pub(crate) struct Usual;
 
-// Lists of 10 to 30 calls against the model, or the planted one.
-pub(crate) fn random(
-    rt: &impl Print,
-    state: &mut u64,
-    planted: bool,
-    lists: usize,
-    counts: &mut [u64],
-) -> io::Result<bool> {
-    for _ in 0..lists {
-        count(counts, LISTS, true);
-        let n = draw_from(state, 10, 21);
-        if !list(rt, state, planted, n, counts)? {
-            return Ok(false);
+impl Calls for Usual {
+    fn next(
+        &self,
+        rt: &impl Print,
+        state: &mut u64,
+        pair: Pair,
+        room: &mut [u16],
+        counts: &mut Tallies,
+    ) -> io::Result<Option<Pair>> {
+        let call = draw_call(state, &pair.model);
+        let next = match call {
+            Call::Shape => call_shape(state, pair),
+            _ => call_lent(rt, state, call, pair, room)?,
+        };
+        if let Some(pair) = next {
+            tally(call, pair.refused, counts);
         }
+        Ok(next)
     }
-    Ok(true)
 }

@@ -1,25 +1,18 @@
 // Random shapes, and frames of them.
-use crate::against;
-use crate::against::Pair;
+use lost::against;
+use lost::against::Pair;
 use plain::random::{draw, draw_exponent, draw_from, fill_from};
 use plain::values::{first, part, product, set};
 
 // How large frames are: of full size, of any size from 65 columns on, of at most ten columns, of at most six, or of three columns with two checks in each of at
 // most two rows.
-#[derive(Clone, Copy)]
+#[derive(Clone, Copy, PartialEq)]
 pub(crate) enum Size {
     Full,
     Large,
     Middle,
     Small,
     Tiny,
-}
-
-pub(crate) fn is_tiny(size: Size) -> bool {
-    match size {
-        Size::Tiny => true,
-        _ => false,
-    }
 }
 
 // Each row has one of `spread` numbers of checks from `few` on.
@@ -33,9 +26,9 @@ struct Drawn {
 
 // A shape of one to four rows with at least two and at most `most` columns.
 fn draw_below(state: &mut u64, most: u16) -> Drawn {
-    let spread = draw_from(state, 1, std::num::wrapping_sub_u16(most, 1));
+    let spread = draw_from(state, 1, most.wrapping_sub(1));
     Drawn {
-        columns: std::num::wrapping_add_u16(spread, 1),
+        columns: spread.wrapping_add(1),
         rows: draw_from(state, 1, 4),
         few: 1,
         spread,
@@ -48,7 +41,7 @@ fn draw_large(state: &mut u64) -> Drawn {
         columns: draw_from(state, 65, 192),
         rows: draw_from(state, 1, 8),
         few,
-        spread: std::num::wrapping_sub_u16(65, few),
+        spread: 65u16.wrapping_sub(few),
     }
 }
 
@@ -82,20 +75,20 @@ fn fill(state: &mut u64, room: &mut [u16], n: usize) {
     }
 }
 
-// The job with a random shape; a random frame that it has encoded stands in the room, or that of one symbol whose data are refused.
-pub(crate) fn draw_frame(state: &mut u64, pair: Pair, size: Size, room: &mut [u16]) -> Pair {
+// The job with a random shape; a random frame that it has encoded stands in the room, or one whose data are refused.
+pub(crate) fn draw_frame(
+    state: &mut u64,
+    pair: Pair,
+    size: Size,
+    room: &mut [u16],
+) -> Option<Pair> {
     let drawn = draw_shape(state, size);
+    let rows = usize::from(drawn.rows);
     let mut checks = [0u16; 8];
-    fill_from(
-        state,
-        drawn.few,
-        drawn.spread,
-        &mut checks,
-        drawn.rows as usize,
-    );
+    fill_from(state, drawn.few, drawn.spread, &mut checks, rows);
     let n = product(drawn.rows, drawn.columns) as usize;
     fill(state, room, n);
-    let lent = part(&checks, 0, drawn.rows as usize);
     let exponent = draw_exponent(state);
-    against::shape(pair, drawn.columns, lent, exponent, first(room, n))
+    let shaped = against::shape(pair, drawn.columns, part(&checks, 0, rows), exponent)?;
+    against::encode(shaped, first(room, n))
 }

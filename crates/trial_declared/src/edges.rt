@@ -1,271 +1,222 @@
 // Calls with declared cells at the edges (SPECIFICATION.md, "Declared cells"): what is just taken and what is just refused, which of two reasons comes first,
 // and the state that is left. The shape has four columns, the checks 3 and 2 and mostly the exponent 1. A frame is a legal one, to whose first k symbols
 // v is added, or put there where it is above 256; or, as a dead line, zeros with v at the first k places. The cell of column i in row h has mark 256·h + i.
-use crate::tallies::EDGES;
 use lost::cells::declare;
-use plain::tally::{count, print_list};
-use plain::values::{first, get, part, plus_product, put, set};
-use plain_frames::answers::{columns_of, of_checked, of_reply};
-use plain_frames::compare::same;
+use lost::edges::{received, reshaped, show};
+use lost::tallies::Tallies;
+use plain::tally::count;
+use plain::values::{part, set};
+use plain_frames::answers::{numbered, of_reply};
 use std::io;
-use whole_job::{Answered, Job};
+use whole_job::Job;
 
-fn declare_from(words: &mut [u64; 32], k: usize, n: usize) {
-    for i in 0..n {
-        declare(words, std::num::wrapping_add_usize(k, i));
-    }
+// The second place of the data of a legal frame.
+const SECOND: usize = 6;
+
+// The cells that are declared: `first` marks from 0 on, and `more` marks from `from` on.
+#[derive(Clone, Copy)]
+struct Marks {
+    first: usize,
+    from: usize,
+    more: usize,
 }
 
-// The n marks from 0 on, and the m marks from k on. An edge has n, k and m at its places 1 to 3.
-fn cells(edge: &[u16]) -> [u64; 32] {
+fn cells(first: usize, from: usize, more: usize) -> Marks {
+    Marks { first, from, more }
+}
+
+fn words_of(cells: Marks) -> [u64; 32] {
     let mut words = [0u64; 32];
-    declare_from(&mut words, 0, get(edge, 1) as usize);
-    declare_from(&mut words, get(edge, 2) as usize, get(edge, 3) as usize);
+    for k in 0..cells.first {
+        declare(&mut words, k);
+    }
+    for k in 0..cells.more {
+        declare(&mut words, cells.from.wrapping_add(k));
+    }
     words
 }
 
-// A legal frame of the job, with 0 in its last cell.
-fn sent(job: Job) -> [u16; 16] {
-    let mut room = [0u16; 16];
-    put(&mut room, 3, 1);
-    put(&mut room, 6, 1);
-    whole_job::encode(job, first(&mut room, 8));
-    room
+// A frame that is lent: its size, and v at its first k symbols.
+#[derive(Clone, Copy)]
+struct Frame {
+    size: usize,
+    v: u16,
+    k: usize,
 }
 
-fn struck(symbol: u16, v: u16) -> u16 {
-    if v > 256 {
-        return v;
-    }
-    plus_product(257, symbol, v, 1)
+fn lent(size: usize, v: u16, k: usize) -> Frame {
+    Frame { size, v, k }
 }
 
-fn strike(room: &mut [u16], v: u16, k: usize) {
-    for i in 0..k {
-        let symbol = struck(get(room, i), v);
-        put(room, i, symbol);
-    }
+// The job after a locate with these cells, and the number of columns that it answers.
+fn located(job: Job, cells: Marks, lent: Frame) -> (Job, Result<usize, u32>) {
+    let room = received(job, SECOND, lent.v, lent.k);
+    let answer = whole_job::locate(job, &words_of(cells), part(&room, 0, lent.size));
+    (answer.job, of_reply(answer.reply))
 }
 
-fn received(job: Job, v: u16, k: usize) -> [u16; 16] {
-    let mut room = sent(job);
-    strike(&mut room, v, k);
-    room
+fn locate(job: Job, cells: Marks, lent: Frame) -> Job {
+    located(job, cells, lent).0
 }
 
-// Locates, with these cells, a frame whose size, v and k stand at places 4 to 6.
-fn locate(job: Job, edge: &[u16]) -> Answered {
-    let words = cells(edge);
-    let room = received(job, get(edge, 5), get(edge, 6) as usize);
-    whole_job::locate(job, &words, part(&room, 0, get(edge, 4) as usize))
+fn locates(job: Job, cells: Marks, lent: Frame) -> Result<usize, u32> {
+    located(job, cells, lent).1
+}
+
+// The same of a given frame.
+fn locates_frame(job: Job, cells: Marks, frame: &[u16]) -> Result<usize, u32> {
+    of_reply(whole_job::locate(job, &words_of(cells), frame).reply)
 }
 
 // The same of a dead line.
-fn locate_dead(job: Job, edge: &[u16]) -> Answered {
-    let words = cells(edge);
+fn locates_dead(job: Job, cells: Marks, lent: Frame) -> Result<usize, u32> {
     let mut room = [0u16; 16];
-    set(&mut room, get(edge, 6) as usize, get(edge, 5));
-    whole_job::locate(job, &words, part(&room, 0, get(edge, 4) as usize))
+    set(&mut room, lent.k, lent.v);
+    locates_frame(job, cells, part(&room, 0, lent.size))
 }
 
 fn shaped(exponent: u32) -> Job {
-    let checks = [3u16, 2];
-    whole_job::shape(whole_job::empty(), 4, &checks, exponent).job
+    reshaped(whole_job::empty(), 4, &[3, 2], exponent)
 }
 
-// An empty job; a shaped one; one located with a declared cell and damage in the column after it; one located with as many declared cells as checks.
-fn job_of(kind: u16) -> Job {
-    let one = [0u16, 1, 0, 0, 8, 5, 2];
-    let full = [0u16, 3, 256, 2, 8, 0, 0];
-    match kind {
-        0 => whole_job::empty(),
-        1 => shaped(1),
-        2 => locate(shaped(1), &one).job,
-        _ => locate(shaped(1), &full).job,
-    }
+// A job located with a declared cell and damage in the column after it.
+fn beside() -> Job {
+    locate(shaped(1), cells(1, 0, 0), lent(8, 5, 2))
 }
 
-// The number of the refusal, or 100 more than the number of columns.
-fn number_of(answer: Answered) -> u16 {
-    let reply = answer.reply;
-    let number = of_reply(reply);
-    if number != 0 {
-        return (number % 65536) as u16;
-    }
-    100 + (columns_of(reply) % 256) as u16
-}
-
-// Of each edge the kind of job; the cells, n, k and m; the frame, its size, the value of its first symbols and how many these are; what locate answers.
-fn locate_row(i: usize) -> [u16; 8] {
-    match i {
-        0 => [0, 0, 2047, 1, 7, 257, 8, 21],
-        1 => [1, 0, 2047, 1, 7, 257, 8, 7],
-        2 => [1, 0, 2047, 1, 8, 257, 8, 31],
-        3 => [1, 0, 4, 1, 8, 0, 0, 31],
-        4 => [1, 0, 255, 1, 8, 0, 0, 31],
-        5 => [1, 0, 259, 1, 8, 0, 0, 100],
-        6 => [1, 0, 260, 1, 8, 0, 0, 31],
-        7 => [1, 0, 512, 1, 8, 0, 0, 31],
-        8 => [1, 3, 256, 2, 8, 0, 0, 100],
-        9 => [1, 4, 256, 2, 8, 0, 0, 31],
-        10 => [1, 3, 256, 3, 8, 0, 0, 31],
-        11 => [1, 3, 0, 0, 8, 257, 3, 100],
-        12 => [1, 3, 0, 0, 8, 65535, 3, 100],
-        13 => [1, 3, 0, 0, 8, 257, 4, 4],
-        14 => [1, 2, 0, 0, 8, 257, 3, 4],
-        15 => [1, 1, 0, 0, 8, 5, 2, 101],
-        16 => [1, 2, 0, 0, 8, 5, 3, 24],
-        17 => [1, 3, 0, 0, 8, 5, 5, 25],
-        _ => [1, 0, 0, 0, 8, 5, 1, 101],
-    }
+// A job located with as many declared cells as checks.
+fn full() -> Job {
+    locate(shaped(1), cells(3, 256, 2), lent(8, 0, 0))
 }
 
 fn locate_edge(i: usize) -> bool {
-    let edge = locate_row(i);
-    number_of(locate(job_of(get(&edge, 0)), &edge)) == get(&edge, 7)
+    match i {
+        0 => locates(whole_job::empty(), cells(0, 2047, 1), lent(7, 257, 8)) == Err(21),
+        1 => locates(shaped(1), cells(0, 2047, 1), lent(7, 257, 8)) == Err(7),
+        2 => locates(shaped(1), cells(0, 2047, 1), lent(8, 257, 8)) == Err(31),
+        3 => locates(shaped(1), cells(0, 4, 1), lent(8, 0, 0)) == Err(31),
+        4 => locates(shaped(1), cells(0, 255, 1), lent(8, 0, 0)) == Err(31),
+        5 => locates(shaped(1), cells(0, 259, 1), lent(8, 0, 0)) == Ok(0),
+        6 => locates(shaped(1), cells(0, 260, 1), lent(8, 0, 0)) == Err(31),
+        7 => locates(shaped(1), cells(0, 512, 1), lent(8, 0, 0)) == Err(31),
+        8 => locates(shaped(1), cells(3, 256, 2), lent(8, 0, 0)) == Ok(0),
+        9 => locates(shaped(1), cells(4, 256, 2), lent(8, 0, 0)) == Err(31),
+        10 => locates(shaped(1), cells(3, 256, 3), lent(8, 0, 0)) == Err(31),
+        11 => locates(shaped(1), cells(3, 0, 0), lent(8, 257, 3)) == Ok(0),
+        12 => locates(shaped(1), cells(3, 0, 0), lent(8, 65535, 3)) == Ok(0),
+        13 => locates(shaped(1), cells(3, 0, 0), lent(8, 257, 4)) == Err(4),
+        14 => locates(shaped(1), cells(2, 0, 0), lent(8, 257, 3)) == Err(4),
+        15 => locates(shaped(1), cells(1, 0, 0), lent(8, 5, 2)) == Ok(1),
+        16 => locates(shaped(1), cells(2, 0, 0), lent(8, 5, 3)) == Err(24),
+        17 => locates(shaped(1), cells(3, 0, 0), lent(8, 5, 5)) == Err(25),
+        _ => locates(shaped(1), cells(0, 0, 0), lent(8, 5, 1)) == Ok(1),
+    }
 }
 
 // The job with other cells than those of its locate.
-fn forged(job: Job, words: [u64; 32]) -> Job {
-    let mut other = job;
-    other.declared = words;
-    other
+fn forged(job: Job, cells: Marks) -> Job {
+    let declared = words_of(cells);
+    Job { declared, ..job }
 }
 
-// What comes before a repair: nothing, another locate, or other cells in the job.
-fn changed(job: Job, edge: &[u16]) -> Job {
-    match get(edge, 0) {
-        0 => job,
-        1 => locate(job, edge).job,
-        _ => forged(job, cells(edge)),
-    }
+// What repair answers of a frame: nothing, or the number of the refusal.
+fn repairs_lent(job: Job, n: usize, lent: [u16; 16]) -> Result<(), u32> {
+    lost::edges::repairs(job, SECOND, n, lent).map(|_| ())
 }
 
-// What must stand in the room after a repair.
-fn left(number: u32, job: Job, lent: [u16; 16]) -> [u16; 16] {
-    if number == 0 {
-        return sent(job);
-    }
-    lent
-}
-
-// What repair answers of a frame. A refused call must leave it, and a frame that is mended must be the one sent, or the answer is 100.
-fn repairs_lent(job: Job, n: usize, lent: [u16; 16]) -> u16 {
-    let mut room = lent;
-    let reply = whole_job::repair(job, first(&mut room, n)).reply;
-    let number = of_reply(reply);
-    let due = left(number, job, lent);
-    if !same(&due, &room, 0) {
-        return 100;
-    }
-    (number % 65536) as u16
-}
-
-// The same of a frame that is told at places 7 to 9.
-fn repairs(job: Job, edge: &[u16]) -> u16 {
-    let lent = received(job, get(edge, 8), get(edge, 9) as usize);
-    repairs_lent(job, get(edge, 7) as usize, lent)
-}
-
-// Of each edge the job, what comes before the repair with its cells and frame, the frame that is repaired, and what is answered. A job with forged cells
-// with which no locate leaves it (past the shape, more than the checks, or with fewer checks left than columns named) counts as shaped.
-fn repair_row(i: usize) -> [u16; 12] {
-    match i {
-        0 => [2, 0, 0, 0, 0, 0, 0, 0, 8, 5, 2, 0],
-        1 => [2, 0, 0, 0, 0, 0, 0, 0, 7, 5, 2, 7],
-        2 => [2, 0, 0, 0, 0, 0, 0, 0, 8, 257, 2, 4],
-        3 => [2, 0, 0, 0, 0, 0, 0, 0, 8, 6, 2, 23],
-        4 => [3, 0, 0, 0, 0, 0, 0, 0, 8, 65535, 3, 0],
-        5 => [3, 0, 0, 0, 0, 0, 0, 0, 8, 5, 4, 23],
-        6 => [2, 1, 2, 0, 0, 8, 5, 2, 8, 65535, 2, 0],
-        7 => [2, 1, 2, 0, 0, 8, 5, 2, 8, 5, 3, 23],
-        8 => [2, 1, 0, 0, 0, 8, 5, 1, 8, 5, 1, 0],
-        9 => [2, 1, 0, 512, 1, 8, 5, 2, 8, 5, 2, 0],
-        10 => [2, 1, 2, 0, 0, 8, 5, 3, 8, 5, 2, 22],
-        11 => [2, 2, 0, 4, 1, 0, 0, 0, 8, 5, 2, 22],
-        12 => [2, 2, 0, 2047, 1, 0, 0, 0, 7, 257, 8, 22],
-        13 => [3, 2, 4, 256, 2, 0, 0, 0, 8, 65535, 3, 22],
-        14 => [2, 2, 3, 0, 0, 0, 0, 0, 8, 5, 2, 22],
-        15 => [2, 2, 2, 0, 0, 0, 0, 0, 8, 5, 2, 23],
-        _ => [1, 2, 0, 512, 1, 0, 0, 0, 8, 5, 2, 22],
-    }
+fn repairs(job: Job, lent: Frame) -> Result<(), u32> {
+    repairs_lent(job, lent.size, received(job, SECOND, lent.v, lent.k))
 }
 
 fn repair_edge(i: usize) -> bool {
-    let row = repair_row(i);
-    let edge = part(&row, 1, 11);
-    repairs(changed(job_of(get(&row, 0)), edge), edge) == get(edge, 10)
+    match i {
+        0 => repairs(beside(), lent(8, 5, 2)) == Ok(()),
+        1 => repairs(beside(), lent(7, 5, 2)) == Err(7),
+        2 => repairs(beside(), lent(8, 257, 2)) == Err(4),
+        3 => repairs(beside(), lent(8, 6, 2)) == Err(23),
+        4 => repairs(full(), lent(8, 65535, 3)) == Ok(()),
+        5 => repairs(full(), lent(8, 5, 4)) == Err(23),
+        _ => repair_later_edge(i),
+    }
+}
+
+// After another locate, or with forged cells. A job with cells with which no locate leaves it (past the shape, more than the checks, or with fewer checks left
+// than columns named) counts as shaped.
+fn repair_later_edge(i: usize) -> bool {
+    let once = lent(8, 5, 2);
+    match i {
+        6 => repairs(locate(beside(), cells(2, 0, 0), once), lent(8, 65535, 2)) == Ok(()),
+        7 => repairs(locate(beside(), cells(2, 0, 0), once), lent(8, 5, 3)) == Err(23),
+        8 => repairs(
+            locate(beside(), cells(0, 0, 0), lent(8, 5, 1)),
+            lent(8, 5, 1),
+        ) == Ok(()),
+        9 => repairs(locate(beside(), cells(0, 512, 1), once), once) == Ok(()),
+        10 => repairs(locate(beside(), cells(2, 0, 0), lent(8, 5, 3)), once) == Err(22),
+        11 => repairs(forged(beside(), cells(0, 4, 1)), once) == Err(22),
+        12 => repairs(forged(beside(), cells(0, 2047, 1)), lent(7, 257, 8)) == Err(22),
+        13 => repairs(forged(full(), cells(4, 256, 2)), lent(8, 65535, 3)) == Err(22),
+        14 => repairs(forged(beside(), cells(3, 0, 0)), once) == Err(22),
+        15 => repairs(forged(beside(), cells(2, 0, 0)), once) == Err(23),
+        _ => repairs(forged(shaped(1), cells(0, 512, 1)), once) == Err(22),
+    }
 }
 
 // A job with forged cells past the shape.
 fn past() -> Job {
-    let edge = [0u16, 0, 512, 1];
-    forged(job_of(2), cells(&edge))
+    forged(beside(), cells(0, 512, 1))
 }
 
 // It still encodes.
 fn still_encodes() -> bool {
     let mut room = [0u16, 0, 0, 1, 0, 0, 0, 0];
-    of_checked(whole_job::encode(past(), &mut room)) == 0
+    numbered(whole_job::encode(past(), &mut room)) == Ok(())
 }
 
 // It still locates.
 fn still_locates() -> bool {
-    let edge = [0u16, 0, 0, 0, 8, 5, 1];
-    number_of(locate(past(), &edge)) == 101
+    locates(past(), cells(0, 0, 0), lent(8, 5, 1)) == Ok(1)
 }
 
 // The smallest frame whose register names as many columns as it is long, while no legal frame lies so near: the column that is named is declared in the second
 // row, where another one is damaged.
 fn smallest_refused() -> bool {
-    let checks = [2u16, 2];
-    let job = whole_job::shape(whole_job::empty(), 3, &checks, 1).job;
-    let edge = [0u16, 0, 256, 1];
-    let words = cells(&edge);
+    let job = reshaped(whole_job::empty(), 3, &[2, 2], 1);
     let frame = [1u16, 0, 0, 65535, 1, 0];
-    number_of(whole_job::locate(job, &words, &frame)) == 26
+    locates_frame(job, cells(0, 256, 1), &frame) == Err(26)
 }
 
-// Dead lines as they are, with lost cells that hold anything, and with damage beside one. Of each the same as above.
-fn dead_row(i: usize) -> [u16; 8] {
+// Dead lines as they are, with lost cells that hold anything, and with damage beside one.
+fn dead_edge(i: usize) -> bool {
     match i {
-        0 => [1, 0, 0, 0, 8, 0, 0, 26],
-        1 => [1, 0, 259, 1, 8, 0, 0, 26],
-        2 => [1, 3, 256, 2, 8, 0, 0, 26],
-        3 => [1, 3, 0, 0, 8, 65535, 3, 26],
-        4 => [1, 1, 0, 0, 8, 5, 2, 26],
-        5 => [2, 1, 0, 0, 8, 5, 2, 26],
-        _ => [1, 0, 512, 1, 8, 0, 0, 31],
+        0 => locates_dead(shaped(1), cells(0, 0, 0), lent(8, 0, 0)) == Err(26),
+        1 => locates_dead(shaped(1), cells(0, 259, 1), lent(8, 0, 0)) == Err(26),
+        2 => locates_dead(shaped(1), cells(3, 256, 2), lent(8, 0, 0)) == Err(26),
+        3 => locates_dead(shaped(1), cells(3, 0, 0), lent(8, 65535, 3)) == Err(26),
+        4 => locates_dead(shaped(1), cells(1, 0, 0), lent(8, 5, 2)) == Err(26),
+        5 => locates_dead(beside(), cells(1, 0, 0), lent(8, 5, 2)) == Err(26),
+        _ => locates_dead(shaped(1), cells(0, 512, 1), lent(8, 0, 0)) == Err(31),
     }
 }
 
-fn dead_edge(i: usize) -> bool {
-    let edge = dead_row(i);
-    let answer = locate_dead(job_of(get(&edge, 0)), &edge);
-    number_of(answer) == get(&edge, 7)
-}
-
 // A line of fives whose lost cells, the first and the last, hold anything. 3^64 is a fourth root of 1, so that for the exponent 64 fives are a codeword.
-fn fives(exponent: u32, lost: u16) -> u16 {
-    let checks = [1u16, 1];
-    let job = whole_job::shape(whole_job::empty(), 4, &checks, exponent).job;
-    let edge = [0u16, 1, 259, 1];
-    let words = cells(&edge);
+fn fives(exponent: u32, lost: u16) -> Result<usize, u32> {
+    let job = reshaped(whole_job::empty(), 4, &[1, 1], exponent);
     let frame = [lost, 5, 5, 5, 5, 5, 5, lost];
-    number_of(whole_job::locate(job, &words, &frame))
+    locates_frame(job, cells(1, 259, 1), &frame)
 }
 
 // The last cell is lost, and the first symbol damaged; a dead line with the same damage, and with other damage, is lent to repair.
-fn repairs_dead(v: u16) -> u16 {
-    let edge = [0u16, 0, 259, 1, 8, 5, 1];
-    let lent = [v, 0, 0, 0, 0, 0, 0, 65535, 0, 0, 0, 0, 0, 0, 0, 0];
-    repairs_lent(locate(shaped(1), &edge).job, 8, lent)
+fn repairs_dead(v: u16) -> Result<(), u32> {
+    let dead = [v, 0, 0, 0, 0, 0, 0, 65535, 0, 0, 0, 0, 0, 0, 0, 0];
+    let job = locate(shaped(1), cells(0, 259, 1), lent(8, 5, 1));
+    repairs_lent(job, 8, dead)
 }
 
 // A declared cell and damage in the column after it come back.
 fn comes_back(exponent: u32) -> bool {
-    let edge = [0u16, 1, 0, 0, 8, 5, 2, 8, 5, 2];
-    repairs(locate(shaped(exponent), &edge).job, &edge) == 0
+    let once = lent(8, 5, 2);
+    repairs(locate(shaped(exponent), cells(1, 0, 0), once), once) == Ok(())
 }
 
 fn other_edge(i: usize) -> bool {
@@ -278,17 +229,17 @@ fn other_edge(i: usize) -> bool {
         5 => comes_back(127),
         6 => comes_back(128),
         7 => comes_back(255),
-        8 => fives(64, 65535) == 26,
-        9 => fives(64, 5) == 26,
-        10 => fives(1, 65535) == 100,
-        11 => fives(1, 5) == 100,
-        12 => repairs_dead(5) == 26,
-        _ => repairs_dead(6) == 23,
+        8 => fives(64, 65535) == Err(26),
+        9 => fives(64, 5) == Err(26),
+        10 => fives(1, 65535) == Ok(0),
+        11 => fives(1, 5) == Ok(0),
+        12 => repairs_dead(5) == Err(26),
+        _ => repairs_dead(6) == Err(23),
     }
 }
 
 fn edge(kind: u16, i: u16) -> bool {
-    let k = i as usize;
+    let k = usize::from(i);
     match kind {
         0 => locate_edge(k),
         1 => repair_edge(k),
@@ -297,33 +248,15 @@ fn edge(kind: u16, i: u16) -> bool {
     }
 }
 
-// How many edges of a kind there are.
-fn edges_of(kind: u16) -> u16 {
-    match kind {
-        0 => 19,
-        1 => 17,
-        2 => 7,
-        _ => 14,
-    }
-}
-
-fn try_kind(rt: &impl Print, kind: u16, counts: &mut [u64]) -> io::Result<bool> {
-    for i in 0..edges_of(kind) {
-        count(counts, EDGES, true);
-        if !edge(kind, i) {
-            let place = [kind, i];
-            print_list(rt, b"edges disagree: kind and number", &place)?;
-            println!(rt)?;
-            return Ok(false);
-        }
-    }
-    Ok(true)
-}
-
-pub(crate) fn try_all(rt: &impl Print, counts: &mut [u64]) -> io::Result<bool> {
-    for kind in 0..4u16 {
-        if !try_kind(rt, kind, counts)? {
-            return Ok(false);
+// All edges: of each kind there are so many.
+pub(crate) fn try_all(rt: &impl Print, counts: &mut Tallies) -> io::Result<bool> {
+    for (kind, n) in [(0, 19), (1, 17), (2, 7), (3, 14)] {
+        for i in 0..n {
+            count(&mut counts.edges, true);
+            if !edge(kind, i) {
+                show(rt, kind, i)?;
+                return Ok(false);
+            }
         }
     }
     Ok(true)

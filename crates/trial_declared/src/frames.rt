@@ -1,102 +1,76 @@
 // Random frames with declared cells: damaged, the declared cells filled with anything, located and repaired. Small ones are confirmed by all sets of columns,
 // the smallest by all legal frames; damage in reach of the checks that are left must be mended.
-use crate::against::Pair;
-use crate::disagreement::show_unless;
-use crate::drawn::{Size, draw_frame, is_tiny};
-use crate::model::{Model, RIGHT};
+use crate::drawn::{Size, draw_frame};
 use crate::small::{frames_agree, sets_agree};
-use crate::tallies::{FOUND, IN_REACH, PAST_REACH, tally};
-use crate::{against, model};
-use lost::cells;
+use lost::against::Pair;
+use lost::many_calls::show_cells;
+use lost::model::{Model, Planted};
+use lost::tallies::Tallies;
+use lost::{against, cells, model};
 use plain::random::draw;
 use plain::tally::count;
-use plain::values::{copy, first, get, minus, part};
+use plain::values::{copy, first, get, part};
 use plain_frames::compare::same;
 use plain_frames::damage::damage;
-use plain_frames::frames::check_sums;
 use std::io;
-
-fn smaller(a: usize, b: usize) -> usize {
-    if a < b {
-        return a;
-    }
-    b
-}
 
 // In how many columns damage is in reach: half of the checks that are left, in the row with the fewest.
 fn reach(words: &[u64; 32], checks: &[u16]) -> usize {
     let mut least: usize = 32;
-    for h in 0..checks.len() {
-        let left = minus(get(checks, h) as usize, cells::count(words, h));
-        least = smaller(least, left / 2);
+    for (h, n) in checks.iter().enumerate() {
+        let left = usize::from(*n).saturating_sub(cells::count(words, h));
+        least = least.min(left / 2);
     }
     least
 }
 
 // What is expected of the damaged frame is right by the ways that small frames allow.
-fn confirmed(tiny: bool, model: Model, words: &[u64; 32], damaged: &[u16]) -> bool {
-    let room = model.checks;
-    let checks = part(&room, 0, model.rows as usize);
-    let mut frame = [0u16; 2048];
-    model::read(words, model.columns, damaged, &mut frame);
-    let mut sums = [0u16; 512];
-    let exponent = model.exponent;
-    check_sums(exponent, model.columns, checks, &frame, &mut sums);
+fn confirmed(tiny: bool, model: &Model, words: &[u64; 32], damaged: &[u16]) -> bool {
+    let frame = model::read(words, model.columns, damaged);
+    let sums = model.sums_of(&frame);
     let mut marks = [0u16; 256];
-    let summed = model::search(model, words, &sums, &mut marks);
-    if !sets_agree(exponent, words, model.columns, checks, &sums, summed) {
+    let summed = model.search(words, &sums, &mut marks);
+    if !sets_agree(model, words, &sums, summed) {
         return false;
     }
     if !tiny {
         return true;
     }
-    let expected = model::ruled(model, words, &marks, damaged, summed);
-    frames_agree(exponent, words, model.rows as usize, &frame, expected)
+    let expected = model.ruled(words, &marks, damaged, summed);
+    frames_agree(
+        model.exponent,
+        words,
+        model.checks().len(),
+        &frame,
+        expected,
+    )
 }
 
-// Locate agrees, what it answers is confirmed, and it does not refuse where the original is due.
+// What a locate answered is confirmed, and it did not refuse where the original is due.
 fn settled(
-    located: Pair,
+    refused: Option<u32>,
     tiny: bool,
-    before: Model,
+    before: &Model,
     words: &[u64; 32],
     damaged: &[u16],
     due: bool,
 ) -> bool {
-    if !located.agree {
-        return false;
+    match refused {
+        Some(31) => true,
+        Some(_) if due => false,
+        _ => confirmed(tiny, before, words, damaged),
     }
-    if located.number == 31 {
-        return true;
-    }
-    if located.number != 0 {
-        if due {
-            return false;
-        }
-    }
-    confirmed(tiny, before, words, damaged)
 }
 
 // Repair of a located frame agrees and, where the original is due, restores it.
 fn restores(located: Pair, damaged: &mut [u16], original: &[u16], due: bool) -> bool {
-    if located.number != 0 {
+    if located.refused.is_some() {
         return true;
     }
-    let repaired = against::repair(located, damaged);
-    if !due {
-        return repaired.agree;
-    }
-    repaired.agree && same(damaged, original, 0)
+    against::repair(located, damaged).is_some() && (!due || same(damaged, original, 0))
 }
 
-// What is answered of a damaged frame, and whether that is right.
-#[derive(Clone, Copy)]
-struct Verdict {
-    number: u32,
-    agree: bool,
-}
-
-// Locates and repairs the damaged frame.
+// Locates and repairs the damaged frame; what locate left, if all of that is right.
 fn mends(
     pair: Pair,
     tiny: bool,
@@ -104,43 +78,39 @@ fn mends(
     damaged: &mut [u16],
     original: &[u16],
     due: bool,
-) -> Verdict {
-    let located = against::locate(pair, words, damaged);
-    let right = settled(located, tiny, pair.model, words, damaged, due);
-    let mended = restores(located, damaged, original, due);
-    Verdict {
-        number: located.number,
-        agree: right && mended,
+) -> Option<Pair> {
+    let located = against::locate(pair, words, damaged)?;
+    if !settled(located.refused, tiny, &pair.model, words, damaged, due) {
+        return None;
     }
+    if !restores(located, damaged, original, due) {
+        return None;
+    }
+    Some(located)
 }
 
 // The frame with w columns damaged, and with anything in its declared cells.
 fn struck(
     state: &mut u64,
-    model: Model,
+    model: &Model,
     words: &[u64; 32],
     original: &[u16],
     w: u16,
 ) -> [u16; 2048] {
     let mut frame = [0u16; 2048];
     copy(original, &mut frame, 0);
-    damage(state, model.columns, model.rows as usize, w, &mut frame);
+    damage(state, model.columns, usize::from(model.rows), w, &mut frame);
     cells::spoil(state, words, model.columns, model.rows, &mut frame);
     frame
 }
 
-fn tally_frame(number: u32, due: bool, counts: &mut [u64]) {
-    tally(number, FOUND, counts);
-    count(counts, IN_REACH, due);
-    count(counts, PAST_REACH, !due);
-}
-
-// What was sent comes back if it is legal and the damage is in reach.
-fn is_due(number: u32, w: u16, reach: usize) -> bool {
-    if number != 0 {
-        return false;
+fn tally(refused: Option<u32>, due: bool, counts: &mut Tallies) {
+    match refused {
+        Some(number) => counts.refuse(number),
+        None => count(&mut counts.found, true),
     }
-    (w as usize) <= reach
+    count(&mut counts.in_reach, due);
+    count(&mut counts.past_reach, !due);
 }
 
 // Declares cells of a legal or a uniform frame, damages it, and compares the answers about it.
@@ -150,33 +120,22 @@ fn compare_damaged(
     pair: Pair,
     tiny: bool,
     original: &[u16],
-    counts: &mut [u64],
+    counts: &mut Tallies,
 ) -> io::Result<bool> {
-    let model = pair.model;
-    let list = model.checks;
-    let checks = part(&list, 0, model.rows as usize);
+    let model = &pair.model;
+    let checks = model.checks();
     let words = cells::draw_cells(state, model.columns, checks);
-    let w = draw(state, std::num::wrapping_add_u16(get(checks, 0) / 2, 2));
-    let due = is_due(pair.number, w, reach(&words, checks));
+    let w = draw(state, get(checks, 0) / 2 + 2);
+    // What was sent comes back if it is legal and the damage is in reach.
+    let due = pair.refused.is_none() && usize::from(w) <= reach(&words, checks);
     let mut frame = struck(state, model, &words, original, w);
-    let n = model::size(model);
-    let verdict = mends(pair, tiny, &words, first(&mut frame, n), original, due);
-    tally_frame(verdict.number, due, counts);
-    show_unless(rt, verdict.agree, model, &words, part(&frame, 0, n))
-}
-
-fn compare_drawn(
-    rt: &impl Print,
-    state: &mut u64,
-    size: Size,
-    counts: &mut [u64],
-) -> io::Result<bool> {
-    let mut room = [0u16; 2048];
-    let pair = draw_frame(state, against::empty(RIGHT), size, &mut room);
-    if !pair.agree {
+    let n = model.size();
+    let Some(located) = mends(pair, tiny, &words, first(&mut frame, n), original, due) else {
+        show_cells(rt, model, &words, part(&frame, 0, n))?;
         return Ok(false);
-    }
-    compare_damaged(rt, state, pair, is_tiny(size), &room, counts)
+    };
+    tally(located.refused, due, counts);
+    Ok(true)
 }
 
 pub(crate) fn random(
@@ -184,10 +143,15 @@ pub(crate) fn random(
     state: &mut u64,
     size: Size,
     n: usize,
-    counts: &mut [u64],
+    counts: &mut Tallies,
 ) -> io::Result<bool> {
     for _ in 0..n {
-        if !compare_drawn(rt, state, size, counts)? {
+        let mut room = [0u16; 2048];
+        let empty = against::empty(Planted::Right);
+        let Some(pair) = draw_frame(state, empty, size, &mut room) else {
+            return Ok(false);
+        };
+        if !compare_damaged(rt, state, pair, size == Size::Tiny, &room, counts)? {
             return Ok(false);
         }
     }

@@ -3,90 +3,76 @@
 // four planted models that are wrong, and must disagree with each.
 #![tactic(auto)]
 
-mod against;
 mod call_lists;
-mod disagreement;
 mod drawn;
 mod edges;
 mod frames;
-mod model;
-mod named;
 mod small;
-mod tallies;
 
+use call_lists::WithCells;
 use drawn::Size;
-use plain::tally::{print, print_end};
-use plain::values::get;
+use lost::model::Planted;
+use lost::tallies::Tallies;
+use lost::{many_calls, tallies};
+use plain::tally::print_end;
 use std::io;
 
 // Runs everything up to the first disagreement.
-fn run(rt: &impl Print, state: &mut u64, counts: &mut [u64]) -> io::Result<bool> {
+fn run(rt: &impl Print, state: &mut u64, counts: &mut Tallies) -> io::Result<bool> {
     if !edges::try_all(rt, counts)? {
         return Ok(false);
     }
-    if !frames::random(rt, state, Size::Tiny, 100, counts)? {
-        return Ok(false);
+    for (size, n) in [
+        (Size::Tiny, 100),
+        (Size::Small, 2000),
+        (Size::Large, 40),
+        (Size::Full, 20),
+    ] {
+        if !frames::random(rt, state, size, n, counts)? {
+            return Ok(false);
+        }
     }
-    if !frames::random(rt, state, Size::Small, 2000, counts)? {
-        return Ok(false);
-    }
-    if !frames::random(rt, state, Size::Large, 40, counts)? {
-        return Ok(false);
-    }
-    if !frames::random(rt, state, Size::Full, 20, counts)? {
-        return Ok(false);
-    }
-    call_lists::random(rt, state, model::RIGHT, 2000, counts)
+    many_calls::random(&WithCells, rt, state, Planted::Right, 2000, counts)
 }
 
-// How often each refusal of locate and repair occurred.
-fn report_refusals(rt: &impl Print, counts: &[u64]) -> io::Result<()> {
-    let numbers: [u16; 10] = [21, 22, 23, 7, 31, 4, 24, 25, 34, 26];
-    for k in 0..10 {
-        let number = get(&numbers, k);
-        print!(rt; "\nrefused by {number}")?;
-        print(rt, b": ", counts, number as usize)?;
-    }
-    Ok(())
+fn report(rt: &impl Print, counts: &Tallies) -> io::Result<()> {
+    println!(rt; "edges {}", counts.edges)?;
+    print!(rt; "frames: damage in reach {}", counts.in_reach)?;
+    println!(rt; ", past it {}", counts.past_reach)?;
+    print!(rt; "lists of calls {}", counts.lists)?;
+    println!(rt; ", shapes in them {}", counts.shaped)?;
+    print!(rt; "located {}", counts.found)?;
+    print!(rt; ", repaired in lists {}", counts.mended)?;
+    counts.print_refusals(rt, &[21, 22, 23, 7, 31, 4, 24, 25, 34, 26])?;
+    println!(rt; ", of repairs {}", counts.dead)
 }
 
-fn report(rt: &impl Print, counts: &[u64]) -> io::Result<()> {
-    print(rt, b"edges ", counts, tallies::EDGES)?;
-    print(rt, b"\nframes: damage in reach ", counts, tallies::IN_REACH)?;
-    print(rt, b", past it ", counts, tallies::PAST_REACH)?;
-    print(rt, b"\nlists of calls ", counts, tallies::LISTS)?;
-    print(rt, b", shapes in them ", counts, tallies::RENEWED)?;
-    print(rt, b"\nlocated ", counts, tallies::FOUND)?;
-    print(rt, b", repaired in lists ", counts, tallies::MENDED)?;
-    report_refusals(rt, counts)?;
-    print(rt, b", of repairs ", counts, tallies::DEAD)?;
-    println!(rt)
+// Holds the calls to a planted model.
+fn plant(
+    rt: &impl Print,
+    state: &mut u64,
+    text: &[u8],
+    planted: Planted,
+    counts: &mut Tallies,
+) -> io::Result<()> {
+    rt.write_all(text)?;
+    let agreed = many_calls::random(&WithCells, rt, state, planted, 300, counts)?;
+    print_end(rt, agreed)
 }
 
 fn main(rt: HostRuntime) -> io::Result<()> {
     let mut state = 1u64;
-    let mut counts = [0u64; 48];
-    let agreed = run(&rt, &mut state, &mut counts)?;
-    report(&rt, &counts)?;
-    print_end(&rt, agreed)?;
-    print!(rt; "planted, rows not completed: ")?;
-    print_end(
-        &rt,
-        call_lists::random(&rt, &mut state, model::NOT_COMPLETED, 300, &mut counts)?,
-    )?;
-    print!(rt; "planted, cells kept: ")?;
-    print_end(
-        &rt,
-        call_lists::random(&rt, &mut state, model::CELLS_KEPT, 300, &mut counts)?,
-    )?;
-    print!(rt; "planted, exponent left out: ")?;
-    print_end(
-        &rt,
-        call_lists::random(&rt, &mut state, model::EXPONENT_LEFT_OUT, 300, &mut counts)?,
-    )?;
-    print!(rt; "planted, symbols received judged: ")?;
-    print_end(
-        &rt,
-        call_lists::random(&rt, &mut state, model::RECEIVED_JUDGED, 300, &mut counts)?,
-    )
+    let mut counts = tallies::none();
+    let rt = &rt;
+    let agreed = run(rt, &mut state, &mut counts)?;
+    report(rt, &counts)?;
+    print_end(rt, agreed)?;
+    let text = b"planted, rows not completed: ";
+    plant(rt, &mut state, text, Planted::NotCompleted, &mut counts)?;
+    let text = b"planted, cells kept: ";
+    plant(rt, &mut state, text, Planted::CellsKept, &mut counts)?;
+    let text = b"planted, exponent left out: ";
+    plant(rt, &mut state, text, Planted::ExponentLeftOut, &mut counts)?;
+    let text = b"planted, symbols received judged: ";
+    plant(rt, &mut state, text, Planted::ReceivedJudged, &mut counts)
 }

@@ -1,16 +1,19 @@
 // What locate and repair answer about a damaged frame, against the second locator and, for small frames, against all sets of columns and
 // all legal frames.
-use crate::every_frame::frames_within;
 use crate::subsets::{explain, nearest, ways};
-use crate::tallies::{DEAD, LOCATED, REFUSED_24, REFUSED_25, REFUSED_26};
+use crate::tallies::Tallies;
 use brute::locator::{Expected, locate};
+use lost::near::frames_within;
 use plain::tally::count;
 use plain::values::{copy, first, part};
-use plain_frames::answers::{columns_of, of_reply};
+use plain_frames::answers::of_reply;
 use plain_frames::compare::{differ_in, same, same_columns};
 use plain_frames::frames::check_sums;
 use plain_frames::uniform::{legal, near_uniform};
 use whole_job::{Answered, Job};
+
+// No cell is declared.
+const NONE: [u64; 32] = [0; 32];
 
 // What the rows of a frame have in common: how many columns they have, and the exponent at which their check sums begin.
 #[derive(Clone, Copy)]
@@ -21,17 +24,10 @@ pub(crate) struct RowShape {
 
 // A refused locate is one after which no frame is due, and the job is shaped: a repair is refused by 22 and leaves the frame.
 fn stays(job: Job, damaged: &[u16], due: &[u16]) -> bool {
-    if due.len() != 0 {
-        return false;
-    }
     let mut room = [0u16; 2048];
     copy(damaged, &mut room, 0);
     let answer = whole_job::repair(job, first(&mut room, damaged.len()));
-    let reply = answer.reply;
-    if of_reply(reply) != 22 {
-        return false;
-    }
-    same(damaged, &room, 0)
+    due.len() == 0 && of_reply(answer.reply) == Err(22) && same(damaged, &room, 0)
 }
 
 // Repair answers the named columns and leaves a legal frame that differs from the damaged one in just these. Where a frame is due, it is that.
@@ -47,24 +43,12 @@ fn mends(
     let mut room = [0u16; 2048];
     copy(damaged, &mut room, 0);
     let answer = whole_job::repair(job, first(&mut room, damaged.len()));
-    let reply = answer.reply;
-    if of_reply(reply) != 0 {
-        return false;
-    }
-    if columns_of(reply) != c {
-        return false;
-    }
-    if !same_columns(answer.columns, named) {
-        return false;
-    }
     let mended = part(&room, 0, damaged.len());
-    if !legal(shape.exponent, shape.columns, checks, mended) {
-        return false;
-    }
-    if !same(due, mended, 0) {
-        return false;
-    }
-    differ_in(shape.columns, checks.len(), damaged, mended, named)
+    of_reply(answer.reply) == Ok(c)
+        && same_columns(answer.columns, named)
+        && legal(shape.exponent, shape.columns, checks, mended)
+        && same(due, mended, 0)
+        && differ_in(shape.columns, checks.len(), damaged, mended, named)
 }
 
 // By trying all sets of columns: one set of c columns and no smaller one explains the check sums of a located frame, and none of
@@ -77,33 +61,27 @@ fn sets_agree(
     named: &[u16],
 ) -> bool {
     let exponent = shape.exponent;
-    let columns = shape.columns as usize;
+    let columns = usize::from(shape.columns);
     let c = expected.length;
-    if expected.number == 26 {
-        return c < nearest(exponent, columns, checks, sums);
+    match expected.refused {
+        Some(26) => c < nearest(exponent, columns, checks, sums),
+        Some(_) => true,
+        None => {
+            nearest(exponent, columns, checks, sums) == c
+                && ways(c, exponent, columns, checks, sums) == 1
+                && explain(exponent, part(named, 0, columns), checks, sums)
+        }
     }
-    if expected.number != 0 {
-        return true;
-    }
-    if nearest(exponent, columns, checks, sums) != c {
-        return false;
-    }
-    if ways(c, exponent, columns, checks, sums) != 1 {
-        return false;
-    }
-    explain(exponent, part(named, 0, columns), checks, sums)
 }
 
 // By trying all legal frames: one lies within c columns of a located frame, and none of a frame refused by 26.
-fn frames_agree(base: &[u16], rows: usize, damaged: &[u16], expected: Expected) -> bool {
+fn frames_agree(base: [u16; 3], rows: usize, damaged: &[u16], expected: Expected) -> bool {
     let c = expected.length;
-    if expected.number == 26 {
-        return frames_within(c, base, rows, damaged) == 0;
+    match expected.refused {
+        Some(26) => frames_within(c, base, &NONE, rows, damaged) == 0,
+        Some(_) => true,
+        None => frames_within(c, base, &NONE, rows, damaged) == 1,
     }
-    if expected.number != 0 {
-        return true;
-    }
-    frames_within(c, base, rows, damaged) == 1
 }
 
 // What is expected by the check sums, and of the frame, is right by the ways that small frames allow.
@@ -115,7 +93,7 @@ fn confirmed(
     summed: Expected,
     expected: Expected,
     named: &[u16],
-    base: &[u16],
+    base: Option<[u16; 3]>,
 ) -> bool {
     if shape.columns > 8 {
         return true;
@@ -123,10 +101,10 @@ fn confirmed(
     if !sets_agree(shape, checks, sums, summed, named) {
         return false;
     }
-    if base.len() == 0 {
-        return true;
+    match base {
+        Some(base) => frames_agree(base, checks.len(), damaged, expected),
+        None => true,
     }
-    frames_agree(base, checks.len(), damaged, expected)
 }
 
 // What locate answers where the check sums tell this: 26 also if the mended frame would be uniform.
@@ -137,40 +115,23 @@ fn ruled(
     summed: Expected,
     named: &[u16],
 ) -> Expected {
-    if summed.number != 0 {
-        return summed;
-    }
-    let none = [0u64; 32];
-    let exponent = shape.exponent;
-    if !near_uniform(exponent, shape.columns, checks, &none, named, damaged) {
+    let (exponent, columns) = (shape.exponent, shape.columns);
+    if summed.refused.is_some() || !near_uniform(exponent, columns, checks, &NONE, named, damaged) {
         return summed;
     }
     Expected {
-        number: 26,
+        refused: Some(26),
         length: summed.length,
     }
 }
 
-fn tally(number: u32, counts: &mut [u64]) {
-    count(counts, LOCATED, number == 0);
-    count(counts, REFUSED_24, number == 24);
-    count(counts, REFUSED_25, number == 25);
-    count(counts, REFUSED_26, number == 26);
-}
-
 // Locate answers what is expected of it.
 fn answers(answer: Answered, expected: Expected, named: &[u16]) -> bool {
-    let reply = answer.reply;
-    if of_reply(reply) != expected.number {
-        return false;
+    let reply = of_reply(answer.reply);
+    match expected.refused {
+        Some(number) => reply == Err(number),
+        None => reply == Ok(expected.length) && same_columns(answer.columns, named),
     }
-    if expected.number != 0 {
-        return true;
-    }
-    if columns_of(reply) != expected.length {
-        return false;
-    }
-    same_columns(answer.columns, named)
 }
 
 // All answers about the damaged frame are right. What is due is the frame that must be restored, or nothing.
@@ -180,8 +141,8 @@ pub(crate) fn agrees(
     checks: &[u16],
     damaged: &[u16],
     due: &[u16],
-    base: &[u16],
-    counts: &mut [u64],
+    base: Option<[u16; 3]>,
+    counts: &mut Tallies,
 ) -> bool {
     let mut sums = [0u16; 512];
     check_sums(shape.exponent, shape.columns, checks, damaged, &mut sums);
@@ -192,14 +153,13 @@ pub(crate) fn agrees(
     if !confirmed(shape, checks, &sums, damaged, summed, expected, named, base) {
         return false;
     }
-    let none = [0u64; 32];
-    let answer = whole_job::locate(job, &none, damaged);
+    let answer = whole_job::locate(job, &NONE, damaged);
     if !answers(answer, expected, named) {
         return false;
     }
-    tally(expected.number, counts);
-    count(counts, DEAD, expected.number != summed.number);
-    if expected.number != 0 {
+    counts.locate(expected.refused);
+    count(&mut counts.dead, expected.refused != summed.refused);
+    if expected.refused.is_some() {
         return stays(answer.job, damaged, due);
     }
     mends(

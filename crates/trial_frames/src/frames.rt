@@ -1,11 +1,12 @@
 // The four calls on a job against the definitions, on random frames with damage below, at and above half of the checks.
 use crate::agreement::{RowShape, agrees};
 use crate::every_frame::find_base;
-use crate::tallies::{ABOVE_HALF, AT_HALF, BELOW_HALF, REFUSED_34};
+use crate::tallies::Tallies;
+use lost::edges::reshaped;
 use plain::random::{draw, draw_exponent, draw_from, fill_from};
 use plain::tally::{count, print_frame};
-use plain::values::{copy, first, get, minus, part, product, put, set};
-use plain_frames::answers::of_checked;
+use plain::values::{copy, first, get, part, product, set};
+use plain_frames::answers::numbered;
 use plain_frames::compare::{same, same_data};
 use plain_frames::damage::damage;
 use plain_frames::uniform::{constant, data_of_uniform, legal};
@@ -34,61 +35,31 @@ fn encodes(
 ) -> bool {
     let mut data = [0u16; 2048];
     copy(frame, &mut data, 0);
-    let number = of_checked(whole_job::encode(job, first(frame, n)));
+    let answer = numbered(whole_job::encode(job, first(frame, n)));
     if !sends {
-        return number == 34 && same(frame, &data, 0);
+        return answer == Err(34) && same(frame, &data, 0);
     }
-    if number != 0 {
-        return false;
-    }
-    if !same_data(shape.columns, checks, &data, frame) {
-        return false;
-    }
-    legal(shape.exponent, shape.columns, checks, part(frame, 0, n))
-}
-
-fn smaller(a: u16, b: u16) -> u16 {
-    if a < b {
-        return a;
-    }
-    b
+    answer == Ok(())
+        && same_data(shape.columns, checks, &data, frame)
+        && legal(shape.exponent, shape.columns, checks, part(frame, 0, n))
 }
 
 fn least(a: &[u16]) -> u16 {
-    let mut m: u16 = 65535;
-    for i in 0..a.len() {
-        m = smaller(m, get(a, i));
-    }
-    m
+    a.iter().copied().min().unwrap_or(65535)
 }
 
 // How many columns are damaged: below half of the least checks, half of them, or above half.
 fn draw_damaged(state: &mut u64, half: u16) -> u16 {
-    let class = draw(state, 3);
-    if class == 0 {
-        return draw(state, half);
+    match draw(state, 3) {
+        0 => draw(state, half),
+        1 => half,
+        _ => draw_from(state, half.wrapping_add(1), half.wrapping_add(3)),
     }
-    if class == 1 {
-        return half;
-    }
-    let more = std::num::wrapping_add_u16(half, 1);
-    draw_from(state, more, std::num::wrapping_add_u16(half, 3))
-}
-
-fn tally_damage(w: u16, half: u16, counts: &mut [u64]) {
-    count(counts, BELOW_HALF, w < half);
-    count(counts, AT_HALF, w == half);
-    count(counts, ABOVE_HALF, w > half);
 }
 
 // The original is due where it is legal and at most half of the least checks are damaged.
 fn due(original: &[u16], sends: bool, w: u16, half: u16) -> &[u16] {
-    if sends {
-        if w <= half {
-            return original;
-        }
-    }
-    part(original, 0, 0)
+    if sends && w <= half { original } else { &[] }
 }
 
 fn show(rt: &impl Print, shape: RowShape, checks: &[u16], frame: &[u16]) -> io::Result<()> {
@@ -111,12 +82,12 @@ fn compare_damaged(
     checks: &[u16],
     original: &[u16],
     sends: bool,
-    base: &[u16],
-    counts: &mut [u64],
+    base: Option<[u16; 3]>,
+    counts: &mut Tallies,
 ) -> io::Result<bool> {
     let half = least(checks) / 2;
     let w = draw_damaged(state, half);
-    tally_damage(w, half, counts);
+    counts.damaged(w, half);
     let mut room = [0u16; 2048];
     copy(original, &mut room, 0);
     damage(state, shape.columns, checks.len(), w, &mut room);
@@ -146,7 +117,7 @@ fn sent(room: [u16; 2048], n: usize, sends: bool) -> [u16; 2048] {
     if sends {
         return room;
     }
-    constant(n, get(&room, minus(n, 1)))
+    constant(n, get(&room, n.saturating_sub(1)))
 }
 
 // A random frame, encoded, damaged and compared. Each row has one of `spread` numbers of checks from `few` on.
@@ -157,45 +128,41 @@ fn compare_random(
     rows: u16,
     few: u16,
     spread: u16,
-    base: &[u16],
-    counts: &mut [u64],
+    base: Option<[u16; 3]>,
+    counts: &mut Tallies,
 ) -> io::Result<bool> {
     let mut list = [0u16; 8];
-    fill_from(state, few, spread, &mut list, rows as usize);
-    let checks = part(&list, 0, rows as usize);
-    let columns = shape.columns as usize;
-    let shaped = whole_job::shape(whole_job::empty(), columns, checks, shape.exponent);
+    fill_from(state, few, spread, &mut list, usize::from(rows));
+    let checks = part(&list, 0, usize::from(rows));
+    let columns = usize::from(shape.columns);
+    let job = reshaped(whole_job::empty(), columns, checks, shape.exponent);
     let n = product(rows, shape.columns) as usize;
     let mut room = draw_data(state, n);
     let exponent = shape.exponent;
     let sends = !data_of_uniform(exponent, shape.columns, checks, part(&room, 0, n));
-    count(counts, REFUSED_34, !sends);
-    if !encodes(shaped.job, shape, checks, &mut room, n, sends) {
+    count(&mut counts.refused_34, !sends);
+    if !encodes(job, shape, checks, &mut room, n, sends) {
         show(rt, shape, checks, part(&room, 0, n))?;
         return Ok(false);
     }
     let other = sent(room, n, sends);
     let original = part(&other, 0, n);
-    compare_damaged(
-        rt, state, shaped.job, shape, checks, original, sends, base, counts,
-    )
+    compare_damaged(rt, state, job, shape, checks, original, sends, base, counts)
 }
 
 // A frame of two rows with three and two checks against a model that takes both for rows with three.
-fn compare_planted(rt: &impl Print, state: &mut u64, counts: &mut [u64]) -> io::Result<bool> {
+fn compare_planted(rt: &impl Print, state: &mut u64, counts: &mut Tallies) -> io::Result<bool> {
     let shape = RowShape {
         columns: 6,
         exponent: 1,
     };
     let checks = [3u16, 2];
-    let shaped = whole_job::shape(whole_job::empty(), 6, &checks, 1);
+    let job = reshaped(whole_job::empty(), 6, &checks, 1);
     let mut room = [0u16; 12];
-    put(&mut room, 5, 1);
-    whole_job::encode(shaped.job, &mut room);
+    room[5] = 1;
+    let _ = whole_job::encode(job, &mut room);
     damage(state, 6, 2, 2, &mut room);
-    let taken = [3u16, 3];
-    let none = [0u16; 0];
-    if agrees(shaped.job, shape, &taken, &room, &none, &none, counts) {
+    if agrees(job, shape, &[3, 3], &room, &[], None, counts) {
         return Ok(true);
     }
     show(rt, shape, &checks, &room)?;
@@ -206,8 +173,8 @@ fn compare_drawn(
     rt: &impl Print,
     state: &mut u64,
     size: Size,
-    base: &[u16],
-    counts: &mut [u64],
+    base: Option<[u16; 3]>,
+    counts: &mut Tallies,
 ) -> io::Result<bool> {
     let exponent = draw_exponent(state);
     match size {
@@ -222,13 +189,13 @@ fn compare_drawn(
             let columns = draw_from(state, 65, 192);
             let rows = draw_from(state, 1, 8);
             let few = draw_from(state, 33, 32);
-            let spread = std::num::wrapping_sub_u16(65, few);
+            let spread = 65u16.wrapping_sub(few);
             let shape = RowShape { columns, exponent };
             compare_random(rt, state, shape, rows, few, spread, base, counts)
         }
         Size::Small => {
             let most = draw_from(state, 1, 6);
-            let columns = std::num::wrapping_add_u16(most, 1);
+            let columns = most.wrapping_add(1);
             let rows = draw_from(state, 1, 4);
             let shape = RowShape { columns, exponent };
             compare_random(rt, state, shape, rows, 1, most, base, counts)
@@ -250,8 +217,8 @@ pub(crate) fn random(
     state: &mut u64,
     size: Size,
     n: usize,
-    base: &[u16],
-    counts: &mut [u64],
+    base: Option<[u16; 3]>,
+    counts: &mut Tallies,
 ) -> io::Result<bool> {
     for _ in 0..n {
         if !compare_drawn(rt, state, size, base, counts)? {
@@ -267,13 +234,13 @@ fn tiny(
     state: &mut u64,
     exponent: u32,
     n: usize,
-    counts: &mut [u64],
+    counts: &mut Tallies,
 ) -> io::Result<bool> {
-    let mut base = [0u16; 3];
-    if !find_base(exponent, &mut base) {
+    let base = find_base(exponent);
+    if base.is_none() {
         return Ok(false);
     }
-    random(rt, state, Size::Tiny(exponent), n, &base, counts)
+    random(rt, state, Size::Tiny(exponent), n, base, counts)
 }
 
 // The same for the first exponents, the last, and those around 128, where 3^b is −1.
@@ -281,11 +248,10 @@ pub(crate) fn tiny_each(
     rt: &impl Print,
     state: &mut u64,
     n: usize,
-    counts: &mut [u64],
+    counts: &mut Tallies,
 ) -> io::Result<bool> {
-    let exponents = [0u16, 1, 2, 127, 128, 255];
-    for k in 0..6 {
-        if !tiny(rt, state, get(&exponents, k) as u32, n, counts)? {
+    for exponent in [0, 1, 2, 127, 128, 255] {
+        if !tiny(rt, state, exponent, n, counts)? {
             return Ok(false);
         }
     }

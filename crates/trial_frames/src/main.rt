@@ -9,52 +9,45 @@ mod subsets;
 mod tallies;
 
 use frames::Size;
-use plain::tally::{print, print_end};
+use plain::tally::print_end;
 use std::io;
+use tallies::Tallies;
 
 // Runs everything up to the first disagreement.
-fn run(rt: &impl Print, state: &mut u64, counts: &mut [u64]) -> io::Result<bool> {
-    let none = [0u16; 0];
+fn run(rt: &impl Print, state: &mut u64, counts: &mut Tallies) -> io::Result<bool> {
     if !frames::tiny_each(rt, state, 20, counts)? {
         return Ok(false);
     }
-    if !frames::random(rt, state, Size::Small, 2000, &none, counts)? {
+    if !frames::random(rt, state, Size::Small, 2000, None, counts)? {
         return Ok(false);
     }
-    if !frames::random(rt, state, Size::Large, 40, &none, counts)? {
+    if !frames::random(rt, state, Size::Large, 40, None, counts)? {
         return Ok(false);
     }
-    frames::random(rt, state, Size::Full, 20, &none, counts)
+    frames::random(rt, state, Size::Full, 20, None, counts)
 }
 
-fn report(rt: &impl Print, counts: &[u64]) -> io::Result<()> {
-    print(rt, b"frames: F ", counts, tallies::LOCATED)?;
-    print(rt, b", 24 ", counts, tallies::REFUSED_24)?;
-    print(rt, b", 25 ", counts, tallies::REFUSED_25)?;
-    print(rt, b", 26 ", counts, tallies::REFUSED_26)?;
-    print(rt, b", of these dead lines ", counts, tallies::DEAD)?;
-    print(rt, b"; encode 34 ", counts, tallies::REFUSED_34)?;
-    print(
-        rt,
-        b"\ndamage: below half the checks ",
-        counts,
-        tallies::BELOW_HALF,
-    )?;
-    print(rt, b", at half ", counts, tallies::AT_HALF)?;
-    print(rt, b", above half ", counts, tallies::ABOVE_HALF)?;
-    println!(rt)
+fn report(rt: &impl Print, counts: &Tallies) -> io::Result<()> {
+    print!(rt; "frames: F {}", counts.located)?;
+    print!(rt; ", 24 {}", counts.refused_24)?;
+    print!(rt; ", 25 {}", counts.refused_25)?;
+    print!(rt; ", 26 {}", counts.refused_26)?;
+    print!(rt; ", of these dead lines {}", counts.dead)?;
+    println!(rt; "; encode 34 {}", counts.refused_34)?;
+    print!(rt; "damage: below half the checks {}", counts.below_half)?;
+    print!(rt; ", at half {}", counts.at_half)?;
+    println!(rt; ", above half {}", counts.above_half)
 }
 
 fn main(rt: HostRuntime) -> io::Result<()> {
     let mut state = 1u64;
-    let mut counts = [0u64; 9];
+    let mut counts = tallies::none();
     let agreed = run(&rt, &mut state, &mut counts)?;
     report(&rt, &counts)?;
     print_end(&rt, agreed)?;
     print!(rt; "planted: ")?;
-    let none = [0u16; 0];
     print_end(
         &rt,
-        frames::random(&rt, &mut state, Size::Planted, 100, &none, &mut counts)?,
+        frames::random(&rt, &mut state, Size::Planted, 100, None, &mut counts)?,
     )
 }

@@ -2,23 +2,23 @@
 // them alone give the check sums.
 use plain::counting::advance;
 use plain::sequences::sequence;
-use plain::values::{get, part, put, times};
+use plain::values::{part, put, times};
 use plain_frames::frames::{power, size};
 
 // The equation of a check sum in which column i has the weight step^i: the errors of the marked columns, times their weights, add up to it.
 fn pose(table: &mut [u16], marks: &[u16], sum: u16, step: u16) {
     put(table, 0, sum);
-    for i in 0..marks.len() {
-        put(table, i + 1, times(257, get(marks, i), power(step, i)));
+    for (i, mark) in marks.iter().enumerate() {
+        put(table, i + 1, times(257, *mark, power(step, i)));
     }
 }
 
 fn explain_row(table: &mut [u16], exponent: u32, marks: &[u16], sums: &[u16]) -> bool {
-    let n = std::num::wrapping_add_usize(marks.len(), 1);
+    let n = marks.len().wrapping_add(1);
     elimination::clear(table, n);
     let mut step = power(3, exponent as usize);
-    for j in 0..sums.len() {
-        pose(table, marks, get(sums, j), step);
+    for sum in sums {
+        pose(table, marks, *sum, step);
         if elimination::contradicts(elimination::add(257, table, n)) {
             return false;
         }
@@ -29,32 +29,24 @@ fn explain_row(table: &mut [u16], exponent: u32, marks: &[u16], sums: &[u16]) ->
 
 // Errors in the marked columns alone give the check sums of every row.
 pub(crate) fn explain(exponent: u32, marks: &[u16], checks: &[u16], sums: &[u16]) -> bool {
-    let mut room = elimination::table();
-    let table: &mut [u16] = &mut room;
+    let mut table = elimination::table();
     for h in 0..checks.len() {
-        if !explain_row(table, exponent, marks, sequence(checks, sums, h)) {
+        if !explain_row(&mut table, exponent, marks, sequence(checks, sums, h)) {
             return false;
         }
     }
     true
 }
 
-fn explain_with(d: usize, exponent: u32, marks: &[u16], checks: &[u16], sums: &[u16]) -> bool {
-    if size(marks) != d {
-        return false;
-    }
-    explain(exponent, marks, checks, sums)
-}
-
 // How many sets of d columns explain the check sums. There are at most eight columns.
 pub(crate) fn ways(d: usize, exponent: u32, columns: usize, checks: &[u16], sums: &[u16]) -> usize {
-    let mut room = [0u16; 8];
-    let marks: &mut [u16] = &mut room;
+    let mut marks = [0u16; 8];
     let mut n: usize = 0;
     for _ in 0..256usize {
-        let found = explain_with(d, exponent, part(marks, 0, columns), checks, sums);
-        n = std::num::wrapping_add_usize(n, found as usize);
-        if !advance(2, marks, 0, columns) {
+        let tried = part(&marks, 0, columns);
+        let explained = size(tried) == d && explain(exponent, tried, checks, sums);
+        n = n.wrapping_add(usize::from(explained));
+        if !advance(2, &mut marks, 0, columns) {
             return n;
         }
     }

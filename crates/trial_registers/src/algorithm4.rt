@@ -1,7 +1,7 @@
 // Algorithm 4 of Schmidt and Sidorenko without division, so that taps are known up to a factor. With the sequences aligned at their starts it can
 // miss the shortest register, as they show of the Feng–Tzeng algorithm.
 use plain::sequences::{discrepancy, sequence};
-use plain::values::{cross, get, minus, part, put, remainder};
+use plain::values::{cross, get, part, put, remainder};
 
 // Registers are rows of one array. Rows 0 to 7 are those saved for the sequences, row 8 is the one that is being built. A row holds the
 // place and the discrepancy at which the register was saved, its length and its taps.
@@ -22,10 +22,8 @@ pub(crate) fn rows() -> [u16; 1188] {
 }
 
 fn slot(h: usize, i: usize) -> usize {
-    if h <= CURRENT {
-        if i < ROW {
-            return h * ROW + i;
-        }
+    if h <= CURRENT && i < ROW {
+        return h * ROW + i;
     }
     9 * ROW
 }
@@ -44,14 +42,10 @@ pub(crate) fn taps(rows: &[u16]) -> &[u16] {
 }
 
 fn gap(lengths: &[u16], h: usize, at_ends: bool) -> u16 {
-    if at_ends {
-        let most = get(lengths, 0);
-        let n = get(lengths, h);
-        if n <= most {
-            return most - n;
-        }
+    if !at_ends {
+        return 0;
     }
-    0
+    get(lengths, 0).saturating_sub(get(lengths, h))
 }
 
 fn begin(lengths: &[u16], at_ends: bool, rows: &mut [u16]) {
@@ -63,15 +57,15 @@ fn begin(lengths: &[u16], at_ends: bool, rows: &mut [u16]) {
 
 // Tap i of the register saved for sequence h, shifted by e.
 fn shifted(rows: &[u16], h: usize, i: usize, e: usize) -> u16 {
-    if e <= i {
-        return entry(rows, h, std::num::wrapping_add_usize(i - e, TAPS));
+    match i.checked_sub(e) {
+        Some(k) => entry(rows, h, k.wrapping_add(TAPS)),
+        None => 0,
     }
-    0
 }
 
 // Takes the multiple of the saved register from tap i; where the register grows, the old tap is saved.
 fn reduce_tap(p: u16, rows: &mut [u16], h: usize, i: usize, e: usize, d: u16, grows: bool) {
-    let at = std::num::wrapping_add_usize(i, TAPS);
+    let at = i.wrapping_add(TAPS);
     let x = entry(rows, CURRENT, at);
     let v = cross(p, x, entry(rows, h, DISCREPANCY), shifted(rows, h, i, e), d);
     enter(rows, CURRENT, at, v);
@@ -89,12 +83,12 @@ fn reduce(p: u16, rows: &mut [u16], h: usize, e: usize, d: u16, grows: bool) {
 
 // What a discrepancy d at place n changes by the register saved for sequence h.
 fn change(p: u16, n: u16, h: usize, d: u16, rows: &mut [u16]) {
-    let place = entry(rows, h, PLACE) as usize;
+    let place = usize::from(entry(rows, h, PLACE));
     let l = entry(rows, CURRENT, LENGTH);
-    let size = entry(rows, h, LENGTH) as usize;
-    let grown = minus(n as usize + size, place);
-    let grows = (l as usize) < grown;
-    reduce(p, rows, h, minus(n as usize, place), d, grows);
+    let size = usize::from(entry(rows, h, LENGTH));
+    let grown = (usize::from(n) + size).saturating_sub(place);
+    let grows = usize::from(l) < grown;
+    reduce(p, rows, h, usize::from(n).saturating_sub(place), d, grows);
     if grows {
         enter(rows, h, PLACE, n);
         enter(rows, h, LENGTH, l);
@@ -105,12 +99,9 @@ fn change(p: u16, n: u16, h: usize, d: u16, rows: &mut [u16]) {
 
 // The step at place n of sequence h, whose first symbol stands at place `gap` + 1.
 fn step(p: u16, n: u16, h: usize, s: &[u16], gap: u16, rows: &mut [u16]) {
-    let l = entry(rows, CURRENT, LENGTH) as usize;
-    let j = minus(n as usize, gap as usize);
-    if j <= l {
-        return;
-    }
-    if j > s.len() {
+    let l = usize::from(entry(rows, CURRENT, LENGTH));
+    let j = usize::from(n).saturating_sub(usize::from(gap));
+    if j <= l || j > s.len() {
         return;
     }
     let d = discrepancy(p, s, taps(rows), l + 1, j - 1);
@@ -139,5 +130,5 @@ pub(crate) fn find(
     for n in 0..get(lengths, 0) {
         round(p, n + 1, lengths, symbols, at_ends, rows);
     }
-    entry(rows, CURRENT, LENGTH) as usize
+    usize::from(entry(rows, CURRENT, LENGTH))
 }

@@ -21,21 +21,29 @@ fn recur(p: u16, symbols: &mut [u16], from: usize, to: usize, taps: &[u16], l: u
 
 // Lets every sequence follow the recurrence after its first l symbols.
 fn recur_all(p: u16, lengths: &[u16], symbols: &mut [u16], taps: &[u16], l: usize) {
-    for h in 0..lengths.len() {
+    for (h, n) in lengths.iter().enumerate() {
         let at = start(lengths, h);
-        let from = std::num::wrapping_add_usize(at, l);
-        let to = std::num::wrapping_add_usize(at, get(lengths, h) as usize);
+        let from = at.wrapping_add(l);
+        let to = at.wrapping_add(usize::from(*n));
         recur(p, symbols, from, to, taps, l);
     }
 }
 
 fn spoil(state: &mut u64, p: u16, symbols: &mut [u16], n: usize) {
     let i = draw(state, remainder(n as u64, 65535));
-    put(symbols, i as usize, draw(state, p));
+    put(symbols, usize::from(i), draw(state, p));
 }
 
-// Lets every sequence follow a random recurrence of length l.
-fn recur_at_random(state: &mut u64, p: u16, lengths: &[u16], symbols: &mut [u16], l: usize) {
+// Random symbols; then every sequence follows a random recurrence of length l.
+fn recur_at_random(
+    state: &mut u64,
+    p: u16,
+    lengths: &[u16],
+    symbols: &mut [u16],
+    n: usize,
+    l: usize,
+) {
+    fill_from(state, 0, p, symbols, n);
     let mut taps = [0u16; 128];
     fill_from(state, 0, p, &mut taps, l);
     recur_all(p, lengths, symbols, &taps, l);
@@ -48,27 +56,41 @@ fn nearly_zero(state: &mut u64, p: u16, symbols: &mut [u16], n: usize) {
     spoil(state, p, symbols, n);
 }
 
-// Random symbols, n of them, of one of four kinds: any; of a register of length l, so that a short one generates them; the same with one
-// symbol spoilt; and zeros but for two symbols.
+// What random symbols are: any; of a register of length l, so that a short one generates them; the same with one symbol spoilt; or zeros but for two.
+#[derive(Clone, Copy)]
+pub(crate) enum Kind {
+    Any,
+    Recurring,
+    Spoilt,
+    NearlyZero,
+}
+
+pub(crate) fn draw_kind(state: &mut u64) -> Kind {
+    match draw(state, 4) {
+        0 => Kind::Any,
+        1 => Kind::Recurring,
+        2 => Kind::Spoilt,
+        _ => Kind::NearlyZero,
+    }
+}
+
+// Random symbols, n of them.
 pub(crate) fn random_symbols(
     state: &mut u64,
     p: u16,
     lengths: &[u16],
     symbols: &mut [u16],
     n: usize,
-    kind: u16,
+    kind: Kind,
     l: usize,
 ) {
-    if kind == 3 {
-        nearly_zero(state, p, symbols, n);
-        return;
-    }
-    fill_from(state, 0, p, symbols, n);
-    if kind == 0 {
-        return;
-    }
-    recur_at_random(state, p, lengths, symbols, l);
-    if kind == 2 {
-        spoil(state, p, symbols, n);
+    match kind {
+        Kind::NearlyZero => nearly_zero(state, p, symbols, n),
+        Kind::Any => fill_from(state, 0, p, symbols, n),
+        Kind::Recurring => recur_at_random(state, p, lengths, symbols, n, l),
+        Kind::Spoilt => {
+            recur_at_random(state, p, lengths, symbols, n, l);
+            spoil(state, p, symbols, n);
+        }
     }
 }

@@ -8,8 +8,8 @@ fn count(p: u16, lengths: &[u16], symbols: &[u16], l: usize) -> usize {
     taps[0] = 1;
     let mut n: usize = 0;
     for _ in 0..4096usize {
-        n = std::num::wrapping_add_usize(n, generates(p, lengths, symbols, &taps, l) as usize);
-        if !advance(p, &mut taps, 1, std::num::wrapping_add_usize(l, 1)) {
+        n = n.wrapping_add(usize::from(generates(p, lengths, symbols, &taps, l)));
+        if !advance(p, &mut taps, 1, l.wrapping_add(1)) {
             return n;
         }
     }

@@ -1,11 +1,12 @@
 // The finder on random input with up to two flaws, against the reasons to refuse (SPECIFICATION.md, "Refusals"), in their order.
 use crate::edges::find_in;
 use crate::registers::prime;
-use crate::tallies::REFUSED;
+use crate::tallies::Tallies;
 use plain::random::{draw, draw_from, fill_from};
+use plain::refused::require;
 use plain::sequences::start;
 use plain::tally::{count, print_list};
-use plain::values::{get, minus, part, put, remainder};
+use plain::values::{part, put, remainder};
 use std::io;
 
 // No number from 2 to p − 1 divides p.
@@ -14,58 +15,25 @@ fn is_prime(p: u16) -> bool {
         return false;
     }
     for d in 2..p {
-        if remainder(p as u64, d) == 0 {
+        if remainder(u64::from(p), d) == 0 {
             return false;
         }
     }
     true
 }
 
-fn larger(a: u16, b: u16) -> u16 {
-    if a < b {
-        return b;
-    }
-    a
-}
-
 fn greatest(a: &[u16]) -> u16 {
-    let mut m: u16 = 0;
-    for i in 0..a.len() {
-        m = larger(m, get(a, i));
-    }
-    m
+    a.iter().copied().max().unwrap_or(0)
 }
 
-// The number of the first reason to refuse, or 0.
-fn reason(p: u16, lengths: &[u16], symbols: &[u16], room: usize) -> u32 {
-    if p > 65521 {
-        return 1;
-    }
-    if !is_prime(p) {
-        return 1;
-    }
-    if lengths.len() == 0 {
-        return 2;
-    }
-    if lengths.len() > 8 {
-        return 2;
-    }
-    if greatest(lengths) > 128 {
-        return 3;
-    }
-    if start(lengths, lengths.len()) != symbols.len() {
-        return 3;
-    }
-    if room <= greatest(lengths) as usize {
-        return 8;
-    }
-    if symbols.len() == 0 {
-        return 0;
-    }
-    if greatest(symbols) >= p {
-        return 4;
-    }
-    0
+// The number of the first reason to refuse.
+fn reason(p: u16, lengths: &[u16], symbols: &[u16], room: usize) -> Result<(), u32> {
+    require(p <= 65521 && is_prime(p), 1)?;
+    require((1..=8).contains(&lengths.len()), 2)?;
+    require(greatest(lengths) <= 128, 3)?;
+    require(start(lengths, lengths.len()) == symbols.len(), 3)?;
+    require(room > usize::from(greatest(lengths)), 8)?;
+    require(symbols.iter().all(|x| *x < p), 4)
 }
 
 fn draw_modulus(state: &mut u64, flawed: bool) -> u16 {
@@ -77,7 +45,7 @@ fn draw_modulus(state: &mut u64, flawed: bool) -> u16 {
 
 fn draw_count(state: &mut u64, flawed: bool) -> u16 {
     if flawed {
-        return std::num::wrapping_sub_u16(9, draw(state, 10));
+        return 9u16.wrapping_sub(draw(state, 10));
     }
     draw_from(state, 1, 8)
 }
@@ -85,13 +53,15 @@ fn draw_count(state: &mut u64, flawed: bool) -> u16 {
 fn flaw_lengths(state: &mut u64, flawed: bool, lengths: &mut [u16], n: u16) {
     if flawed {
         let h = draw(state, n);
-        put(lengths, h as usize, draw_from(state, 128, 2));
+        put(lengths, usize::from(h), draw_from(state, 128, 2));
     }
 }
 
 fn flaw_total(state: &mut u64, flawed: bool, total: usize) -> usize {
     if flawed {
-        return std::num::wrapping_add_usize(minus(total, 1), draw(state, 3) as usize);
+        return total
+            .saturating_sub(1)
+            .wrapping_add(usize::from(draw(state, 3)));
     }
     total
 }
@@ -99,19 +69,15 @@ fn flaw_total(state: &mut u64, flawed: bool, total: usize) -> usize {
 fn flaw_symbols(state: &mut u64, flawed: bool, p: u16, symbols: &mut [u16], n: usize) {
     if flawed {
         let i = draw(state, remainder(n as u64, 65535));
-        put(
-            symbols,
-            i as usize,
-            std::num::wrapping_add_u16(p, draw(state, 3)),
-        );
+        put(symbols, usize::from(i), p.wrapping_add(draw(state, 3)));
     }
 }
 
 fn draw_room(state: &mut u64, flawed: bool, most: u16) -> usize {
     if flawed {
-        return draw_from(state, most, 2) as usize;
+        return usize::from(draw_from(state, most, 2));
     }
-    most as usize + 1
+    usize::from(most) + 1
 }
 
 fn compare(
@@ -120,12 +86,12 @@ fn compare(
     lengths: &[u16],
     symbols: &[u16],
     room: usize,
-    counts: &mut [u64],
+    counts: &mut Tallies,
 ) -> io::Result<bool> {
     let mut taps = [0u16; 140];
-    let number = find_in(p as u32, lengths, symbols, &mut taps, room);
-    count(counts, REFUSED, number != 0);
-    if number == reason(p, lengths, symbols, room) {
+    let answer = find_in(u32::from(p), lengths, symbols, &mut taps, room);
+    count(&mut counts.refused, answer.is_err());
+    if answer == reason(p, lengths, symbols, room) {
         return Ok(true);
     }
     let sizes = [p, remainder(room as u64, 65535)];
@@ -136,18 +102,40 @@ fn compare(
     Ok(false)
 }
 
-// Input has up to two flaws: 0 of the modulus, 1 of the count, 2 of a length, 3 of the number of symbols, 4 of a symbol, 5 of the taps.
-#[derive(Clone, Copy)]
-struct Flaws {
-    first: u16,
-    second: u16,
+// Of what input is flawed: the number of sequences, a length, the number of all symbols, a symbol, the number of taps, or the modulus.
+#[derive(Clone, Copy, PartialEq)]
+enum Flaw {
+    Modulus,
+    Count,
+    Length,
+    Total,
+    Symbol,
+    Taps,
 }
 
-fn has(flaws: Flaws, flaw: u16) -> bool {
-    if flaws.first == flaw {
-        return true;
+fn draw_flaw(state: &mut u64) -> Option<Flaw> {
+    match draw(state, 7) {
+        0 => Some(Flaw::Modulus),
+        1 => Some(Flaw::Count),
+        2 => Some(Flaw::Length),
+        3 => Some(Flaw::Total),
+        4 => Some(Flaw::Symbol),
+        5 => Some(Flaw::Taps),
+        _ => None,
     }
-    flaws.second == flaw
+}
+
+// Up to two flaws.
+#[derive(Clone, Copy)]
+struct Flaws {
+    first: Option<Flaw>,
+    second: Option<Flaw>,
+}
+
+impl Flaws {
+    fn has(&self, flaw: Flaw) -> bool {
+        self.first == Some(flaw) || self.second == Some(flaw)
+    }
 }
 
 // Draws the symbols of sequences that have `whole` of them, and the number of taps.
@@ -158,13 +146,13 @@ fn compare_lengths(
     p: u16,
     lengths: &[u16],
     whole: usize,
-    counts: &mut [u64],
+    counts: &mut Tallies,
 ) -> io::Result<bool> {
-    let total = flaw_total(state, has(flaws, 3), whole);
+    let total = flaw_total(state, flaws.has(Flaw::Total), whole);
     let mut symbols = [0u16; 1200];
     fill_from(state, 0, p, &mut symbols, total);
-    flaw_symbols(state, has(flaws, 4), p, &mut symbols, total);
-    let room = draw_room(state, has(flaws, 5), greatest(lengths));
+    flaw_symbols(state, flaws.has(Flaw::Symbol), p, &mut symbols, total);
+    let room = draw_room(state, flaws.has(Flaw::Taps), greatest(lengths));
     compare(rt, p, lengths, part(&symbols, 0, total), room, counts)
 }
 
@@ -172,21 +160,21 @@ fn compare_flawed(
     rt: &impl Print,
     state: &mut u64,
     flaws: Flaws,
-    counts: &mut [u64],
+    counts: &mut Tallies,
 ) -> io::Result<bool> {
-    let p = draw_modulus(state, has(flaws, 0));
-    let n = draw_count(state, has(flaws, 1));
+    let p = draw_modulus(state, flaws.has(Flaw::Modulus));
+    let n = draw_count(state, flaws.has(Flaw::Count));
     let mut room = [0u16; 9];
-    fill_from(state, 0, 6, &mut room, n as usize);
-    flaw_lengths(state, has(flaws, 2), &mut room, n);
-    let lengths = part(&room, 0, n as usize);
+    fill_from(state, 0, 6, &mut room, usize::from(n));
+    flaw_lengths(state, flaws.has(Flaw::Length), &mut room, n);
+    let lengths = part(&room, 0, usize::from(n));
     compare_lengths(
         rt,
         state,
         flaws,
         p,
         lengths,
-        start(lengths, n as usize),
+        start(lengths, usize::from(n)),
         counts,
     )
 }
@@ -195,11 +183,11 @@ pub(crate) fn random(
     rt: &impl Print,
     state: &mut u64,
     n: usize,
-    counts: &mut [u64],
+    counts: &mut Tallies,
 ) -> io::Result<bool> {
     for _ in 0..n {
-        let first = draw(state, 7);
-        let second = draw(state, 7);
+        let first = draw_flaw(state);
+        let second = draw_flaw(state);
         if !compare_flawed(rt, state, Flaws { first, second }, counts)? {
             return Ok(false);
         }

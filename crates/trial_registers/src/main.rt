@@ -11,12 +11,13 @@ mod registers;
 mod sorted;
 mod tallies;
 
-use plain::tally::{print, print_end};
+use plain::tally::print_end;
 use registers::Drawn;
 use std::io;
+use tallies::Tallies;
 
 // Runs everything up to the first disagreement.
-fn run(rt: &impl Print, state: &mut u64, counts: &mut [u64]) -> io::Result<bool> {
+fn run(rt: &impl Print, state: &mut u64, counts: &mut Tallies) -> io::Result<bool> {
     if !edges::try_all(rt, 29, counts)? {
         return Ok(false);
     }
@@ -35,23 +36,17 @@ fn run(rt: &impl Print, state: &mut u64, counts: &mut [u64]) -> io::Result<bool>
     flaws::random(rt, state, 4000, counts)
 }
 
-fn report(rt: &impl Print, counts: &[u64]) -> io::Result<()> {
-    print(rt, b"edges ", counts, tallies::EDGES)?;
-    print(rt, b"\nregisters: alone ", counts, tallies::ALONE)?;
-    print(rt, b", not alone ", counts, tallies::NOT_ALONE)?;
-    print(rt, b", refused ", counts, tallies::REFUSED)?;
-    print(
-        rt,
-        b"\nlonger if aligned at starts: ",
-        counts,
-        tallies::LONGER_FROM_STARTS,
-    )?;
-    println!(rt)
+fn report(rt: &impl Print, counts: &Tallies) -> io::Result<()> {
+    println!(rt; "edges {}", counts.edges)?;
+    print!(rt; "registers: alone {}", counts.alone)?;
+    print!(rt; ", not alone {}", counts.not_alone)?;
+    println!(rt; ", refused {}", counts.refused)?;
+    println!(rt; "longer if aligned at starts: {}", counts.longer)
 }
 
 fn main(rt: HostRuntime) -> io::Result<()> {
     let mut state = 1u64;
-    let mut counts = [0u64; 5];
+    let mut counts = tallies::none();
     let agreed = run(&rt, &mut state, &mut counts)?;
     report(&rt, &counts)?;
     print_end(&rt, agreed)?;

@@ -1,12 +1,12 @@
 // The finder against elimination, against the trial of all taps and against Algorithm 4 without division, on random sequences and on every
 // small pair of sequences.
 use crate::algorithm4;
-use crate::drawn::random_symbols;
+use crate::drawn::{Kind, draw_kind, random_symbols};
 use crate::every_tap::shortest_of_all;
 use crate::sorted::sort;
-use crate::tallies::{ALONE, LONGER_FROM_STARTS, NOT_ALONE};
+use crate::tallies::Tallies;
 use brute::shortest::{Answer, generates, shortest};
-use finder::Found;
+use finder::Register;
 use finder::find::find;
 use plain::counting::advance;
 use plain::random::{draw, draw_from, fill_from};
@@ -27,25 +27,11 @@ fn proportional(p: u16, a: &[u16], b: &[u16], n: usize) -> bool {
 
 // What the finder is held to: elimination and Algorithm 4; besides, where there are few taps, the trial of them all; or, planted, Algorithm 4
 // with the sequences aligned at their starts, which can miss the shortest register.
-#[derive(Clone, Copy)]
+#[derive(Clone, Copy, PartialEq)]
 enum Model {
     Usual,
     Few,
     Planted,
-}
-
-fn has_few(model: Model) -> bool {
-    match model {
-        Model::Few => true,
-        _ => false,
-    }
-}
-
-fn at_ends(model: Model) -> bool {
-    match model {
-        Model::Planted => false,
-        _ => true,
-    }
 }
 
 // The answer is that of Algorithm 4, taps included. Counts besides where aligning the sequences at their starts makes the register longer.
@@ -56,7 +42,7 @@ fn follows_algorithm(
     at_ends: bool,
     length: usize,
     taps: &[u16],
-    counts: &mut [u64],
+    counts: &mut Tallies,
 ) -> bool {
     let mut sorted_lengths = [0u16; 8];
     let mut sorted_symbols = [0u16; 1024];
@@ -64,56 +50,36 @@ fn follows_algorithm(
     let falling = part(&sorted_lengths, 0, lengths.len());
     let mut at_starts = algorithm4::rows();
     let longer = length < algorithm4::find(p, falling, &sorted_symbols, false, &mut at_starts);
-    count(counts, LONGER_FROM_STARTS, longer);
+    count(&mut counts.longer, longer);
     let mut rows = algorithm4::rows();
     if algorithm4::find(p, falling, &sorted_symbols, at_ends, &mut rows) != length {
         return false;
     }
-    let n = std::num::wrapping_add_usize(length, 1);
-    proportional(p, taps, algorithm4::taps(&rows), n)
-}
-
-// The answer is that of an independent search.
-fn same(length: usize, alone: bool, answer: Answer) -> bool {
-    if length != answer.length {
-        return false;
-    }
-    alone == answer.alone
+    proportional(p, taps, algorithm4::taps(&rows), length.wrapping_add(1))
 }
 
 // The answer is that of elimination and, where there are few taps, that of trying them all.
-fn is_shortest(
-    p: u16,
-    lengths: &[u16],
-    symbols: &[u16],
-    few: bool,
-    length: usize,
-    alone: bool,
-) -> bool {
-    if few {
-        if !same(length, alone, shortest_of_all(p, lengths, symbols)) {
-            return false;
-        }
+fn is_shortest(p: u16, lengths: &[u16], symbols: &[u16], few: bool, found: Answer) -> bool {
+    if few && found != shortest_of_all(p, lengths, symbols) {
+        return false;
     }
     let mut table = elimination::table();
-    same(length, alone, shortest(p, lengths, symbols, &mut table))
+    found == shortest(p, lengths, symbols, &mut table)
 }
 
 // The finder's answer is the one that all other ways give.
-fn agrees(p: u16, lengths: &[u16], symbols: &[u16], model: Model, counts: &mut [u64]) -> bool {
+fn agrees(p: u16, lengths: &[u16], symbols: &[u16], model: Model, counts: &mut Tallies) -> bool {
     let mut taps = [0u16; 129];
-    let Found::Register { length, alone } = find(p as u32, lengths, symbols, &mut taps) else {
+    let Ok(Register { length, alone }) = find(u32::from(p), lengths, symbols, &mut taps) else {
         return false;
     };
-    count(counts, ALONE, alone);
-    count(counts, NOT_ALONE, !alone);
-    if !is_shortest(p, lengths, symbols, has_few(model), length, alone) {
-        return false;
-    }
-    if !generates(p, lengths, symbols, &taps, length) {
-        return false;
-    }
-    follows_algorithm(p, lengths, symbols, at_ends(model), length, &taps, counts)
+    count(&mut counts.alone, alone);
+    count(&mut counts.not_alone, !alone);
+    let few = model == Model::Few;
+    let at_ends = model != Model::Planted;
+    is_shortest(p, lengths, symbols, few, Answer { length, alone })
+        && generates(p, lengths, symbols, &taps, length)
+        && follows_algorithm(p, lengths, symbols, at_ends, length, &taps, counts)
 }
 
 // The same, and the sequences are printed where they disagree.
@@ -123,13 +89,12 @@ fn compare(
     lengths: &[u16],
     symbols: &[u16],
     model: Model,
-    counts: &mut [u64],
+    counts: &mut Tallies,
 ) -> io::Result<bool> {
     if agrees(p, lengths, symbols, model, counts) {
         return Ok(true);
     }
-    let modulus = [p];
-    print_list(rt, b"registers disagree: p", &modulus)?;
+    print!(rt; "registers disagree: p {p}")?;
     print_list(rt, b", lengths", lengths)?;
     print_list(rt, b", symbols", symbols)?;
     println!(rt)?;
@@ -154,15 +119,15 @@ fn compare_random(
     p: u16,
     n: usize,
     bound: u16,
-    kind: u16,
+    kind: Kind,
     model: Model,
-    counts: &mut [u64],
+    counts: &mut Tallies,
 ) -> io::Result<bool> {
     let mut lengths = [0u16; 8];
     let mut symbols = [0u16; 1024];
     fill_from(state, 0, bound, &mut lengths, n);
     let total = start(&lengths, n);
-    let l = draw(state, 6) as usize;
+    let l = usize::from(draw(state, 6));
     let lent = part(&lengths, 0, n);
     random_symbols(state, p, lent, &mut symbols, total, kind, l);
     compare(rt, p, lent, part(&symbols, 0, total), model, counts)
@@ -181,20 +146,29 @@ fn compare_drawn(
     rt: &impl Print,
     state: &mut u64,
     drawn: Drawn,
-    counts: &mut [u64],
+    counts: &mut Tallies,
 ) -> io::Result<bool> {
     let p = prime(draw(state, 6));
     match drawn {
         Drawn::Short => {
-            let n = draw_from(state, 1, 5) as usize;
-            let kind = draw(state, 4);
+            let n = usize::from(draw_from(state, 1, 5));
+            let kind = draw_kind(state);
             compare_random(rt, state, p, n, 13, kind, Model::Usual, counts)
         }
         Drawn::Long => {
-            let n = draw_from(state, 1, 8) as usize;
-            compare_random(rt, state, p, n, 129, 1, Model::Usual, counts)
+            let n = usize::from(draw_from(state, 1, 8));
+            compare_random(rt, state, p, n, 129, Kind::Recurring, Model::Usual, counts)
         }
-        Drawn::Planted => compare_random(rt, state, p, 3, 7, 1, Model::Planted, counts),
+        Drawn::Planted => compare_random(
+            rt,
+            state,
+            p,
+            3,
+            7,
+            Kind::Recurring,
+            Model::Planted,
+            counts,
+        ),
     }
 }
 
@@ -204,7 +178,7 @@ pub(crate) fn random(
     state: &mut u64,
     drawn: Drawn,
     n: usize,
-    counts: &mut [u64],
+    counts: &mut Tallies,
 ) -> io::Result<bool> {
     for _ in 0..n {
         if !compare_drawn(rt, state, drawn, counts)? {
@@ -215,15 +189,19 @@ pub(crate) fn random(
 }
 
 // All symbols of sequences of these lengths.
-fn every_content(rt: &impl Print, p: u16, lengths: &[u16], counts: &mut [u64]) -> io::Result<bool> {
+fn every_content(
+    rt: &impl Print,
+    p: u16,
+    lengths: &[u16],
+    counts: &mut Tallies,
+) -> io::Result<bool> {
     let n = start(lengths, lengths.len());
-    let mut room = [0u16; 1024];
-    let symbols: &mut [u16] = &mut room;
+    let mut symbols = [0u16; 1024];
     for _ in 0..4096usize {
-        if !compare(rt, p, lengths, part(symbols, 0, n), Model::Few, counts)? {
+        if !compare(rt, p, lengths, part(&symbols, 0, n), Model::Few, counts)? {
             return Ok(false);
         }
-        if !advance(p, symbols, 0, n) {
+        if !advance(p, &mut symbols, 0, n) {
             return Ok(true);
         }
     }
@@ -235,15 +213,14 @@ pub(crate) fn every_pair(
     rt: &impl Print,
     p: u16,
     bound: u16,
-    counts: &mut [u64],
+    counts: &mut Tallies,
 ) -> io::Result<bool> {
-    let mut room = [0u16; 2];
-    let lengths: &mut [u16] = &mut room;
+    let mut lengths = [0u16; 2];
     for _ in 0..4096usize {
-        if !every_content(rt, p, lengths, counts)? {
+        if !every_content(rt, p, &lengths, counts)? {
             return Ok(false);
         }
-        if !advance(bound, lengths, 0, 2) {
+        if !advance(bound, &mut lengths, 0, 2) {
             return Ok(true);
         }
     }

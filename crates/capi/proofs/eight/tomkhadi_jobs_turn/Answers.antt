@@ -6,4 +6,4 @@ use Rattle.capi.proofs.eight.tomkhadi_jobs_turn.Goals as goal
 
 pub returns : goal.returns
 returns c =
-    turn-gives _ c.turn-turned.ensures (ap (λ (a : CAnswer). record { job = c.turn-turned.result.job; answer = a }) c.said_of-answer.ensures)
+    turn-gives _ c.turn-turned.ensures (ap (λ (a : CAnswer). record { job = c.turn-turned.result.job; answer = a }) c.said_of.ensures)

@@ -1,4 +1,5 @@
 -- `dispatcher::turn::turn` meets its contract.
+use mathlib.Core.Path.{sym}
 use Rattle.kept.specs.Kept.{heads, searches, Kept, kept}
 use Rattle.turns.specs.Dispatcher.{served}
 use Rattle.dispatch.proofs.Telling.{serving, idle}

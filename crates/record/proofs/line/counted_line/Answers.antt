@@ -10,4 +10,4 @@ pub returns-then-xs-end-clause-written : goal.returns-then-xs-end-clause-written
 returns-then-xs-end-clause-written c = written_as _ _ _ _ _ _ (bad-line _ (counted-short c.args.xs.now _ _ (omega arith))) c.refusal_line.ensures.written
 
 pub returns-clause-written : goal.returns-clause-written
-returns-clause-written c = written_as _ _ _ _ _ _ (ap output_of (counted-said c.args.xs.now _ _ (omega arith))) c.parts_line.ensures.written
+returns-clause-written c = written_as _ _ _ _ _ _ (ap output_of (counted-said c.args.xs.now _ _ (omega arith))) (rw c.from-end.ensures at c.parts_line.ensures.written)

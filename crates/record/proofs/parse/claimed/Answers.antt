@@ -1,4 +1,5 @@
 -- `record::parse::claimed` meets its contract.
+use mathlib.Core.Path.{◌∙◌}
 use native.Mathlib.Omega.{arith}
 use borrow.Author.Rules.{rules}
 use Rattle.record.proofs.Parsing.{claims, claims-nothing}
@@ -8,4 +9,4 @@ pub returns-in_default : goal.returns-in_default
 returns-in_default c = (claims-nothing _ c.in_default.ensures, omega arith)
 
 pub returns : goal.returns
-returns c = (claims _ _ c.in-Some.ensures, search rules)
+returns c = (c.from.ensures ∙ claims _ _ c.in-Some.ensures, search rules)

@@ -1,9 +1,9 @@
 // The second locator with declared cells: their columns are taken out of the check sums, one after the other, the shortest register of what is left names
 // columns, and elimination tells whether each row can be completed at its named and declared columns.
+use crate::cells::list;
+use crate::left::all_left;
 use brute::erasures::completable;
 use brute::locator::{Expected, locate};
-use lost::cells::list;
-use lost::left::all_left;
 use plain::sequences::sequence;
 use plain::values::part;
 
@@ -20,7 +20,7 @@ fn row_completable(
 }
 
 // Each row can be completed at its declared columns and the marked ones.
-pub(crate) fn all_completable(
+pub fn all_completable(
     exponent: u32,
     words: &[u64; 32],
     checks: &[u16],
@@ -36,7 +36,7 @@ pub(crate) fn all_completable(
 }
 
 // What locating answers for the check sums of a frame as read, as far as the register tells; the marks of the named columns are left in the lent array.
-pub(crate) fn named_by(
+pub fn named_by(
     words: &[u64; 32],
     columns: u16,
     checks: &[u16],
