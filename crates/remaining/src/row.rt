@@ -6,8 +6,8 @@ ghost use Rattle.remaining.specs.Multiples.{Totals, grown, Addable};
 ghost use Rattle.remaining.specs.Removable.{Removable};
 
 use columns::{Columns, size};
-use polynomials::locator::locator_polynomial;
 use field::narrow::product;
+use polynomials::locator::locator_polynomial;
 
 // Adds c times the `count` sums from `from` on to the totals.
 fn add_multiple(totals: &mut [u32; 64], c: u16, sums: &[u16], from: usize, count: usize)
