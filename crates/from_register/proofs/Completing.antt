@@ -1,11 +1,11 @@
 -- What the test of the rows for refusal 26 asks, and what it says where nothing is declared.
 use mathlib.Core.Path.{◌≡◌, sym, ◌∙◌}
-use mathlib.Core.Bool.{Bool, true, false, not, ◌||◌}
-use mathlib.Core.List.{List, []}
+use mathlib.Core.Bool.{Bool, true, false}
+use mathlib.Core.List.{List}
 use Prim.Native.Nat.{ℕ, ◌+◌, ◌<◌, ◌≤◌}
 use native.Mathlib.Omega.{arith}
 use borrow.Author.Tests.{le-ltb}
-use lib.ListN.{length, get_or}
+use lib.ListN.{length}
 use Rattle.columns.specs.Columns.{members, either}
 use Rattle.columns.specs.declared.Columns.{Columns}
 use Rattle.columns.proofs.Joined.{size-apart}

@@ -10,7 +10,6 @@ use Rattle.frame.specs.declared.Shape.{Shape}
 use Rattle.job.specs.Calls.{Outcome, refusing, by_register_tests, by_register_gives}
 use Rattle.job.specs.Job.{Arrays, shaped_job}
 use Rattle.job.specs.declared.Progress.{Progress}
-use Rattle.job.specs.declared.Progress.TheVariants as Progress
 use Rattle.refusal.specs.Order.{first_of}
 use Rattle.refusal.specs.declared.Refusal.{Refusal}
 use Rattle.register.specs.Register.{Register}

@@ -22,7 +22,6 @@ use Rattle.job.specs.Calls.{columns, Outcome, refusing, mends_uniform, unseen, r
 use Rattle.job.specs.Job.{Arrays, with_taps, with_found, with_read, shaped_job}
 use Rattle.job.specs.declared.Answered.{Answered}
 use Rattle.job.specs.declared.Progress.{Progress}
-use Rattle.job.specs.declared.Progress.TheVariants as Progress
 use Rattle.refusal.specs.declared.Refusal.{Refusal}
 use Rattle.std.specs.Prelude.{Result, Ok}
 use Rattle.job.proofs.AfterRefusal.{never-columns}

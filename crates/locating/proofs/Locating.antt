@@ -3,11 +3,11 @@
 use mathlib.Core.Path.{◌≡◌, refl, sym, ap, ap₂, ◌∙◌}
 use mathlib.Core.Bool.{Bool, true}
 use mathlib.Core.List.{List, ◌++◌}
-use Prim.Native.Nat.{ℕ, suc, ◌+◌, ◌-◌}
+use Prim.Native.Nat.{ℕ, suc, ◌-◌}
 use native.Mathlib.Omega.{arith}
 use lib.ListN.{length, take, replicate}
 use lib.Seq.{take_at}
-use Rattle.decoding.specs.Locating.{size_of, taps_of, alone_of}
+use Rattle.decoding.specs.Locating.{taps_of}
 use Rattle.decoding.specs.Remaining.{all_remaining}
 use Rattle.decoding.proofs.LeftLengths.{size-most}
 use Rattle.decoding.proofs.SequenceRegister.{generator_of, length-taps}

@@ -2,22 +2,22 @@
 use mathlib.Core.Path.{◌≡◌, refl, sym, ap, ap₂, ◌∙◌}
 use mathlib.Core.Bool.{Bool, true, false}
 use mathlib.Core.List.{List, ◌++◌}
-use Prim.Native.Nat.{ℕ, suc, ◌+◌, ◌-◌, ◌≤◌, ◌<◌}
+use Prim.Native.Nat.{ℕ, suc, ◌-◌, ◌≤◌, ◌<◌}
 use native.Mathlib.Omega.{arith}
 use lib.ListN.{length, get_or, take, replicate}
 use lib.Seq.{length-take-le, get_or-take, take_at}
+use Rattle.ends.specs.Ends.{alone_mark}
 use Rattle.frame.specs.DeclaredCells.{nothing_declared}
 use Rattle.frame.specs.declared.Shape.{Shape}
 use Rattle.from_register.specs.Register.{Held, by_register, after}
 use Rattle.job.specs.Answers.{answered_outcome}
-use Rattle.job.specs.Calls.{arrives_tests, arrives, held_taps, held_mark}
+use Rattle.job.specs.Calls.{arrives_tests, arrives}
 use Rattle.job.specs.Job.{Arrays, with_taps, with_found}
 use Rattle.job.specs.declared.Answered.{Answered}
 use Rattle.job.specs.declared.Progress.{Progress}
-use Rattle.job.specs.declared.Progress.TheVariants as Progress
 use Rattle.refusal.specs.declared.Refusal.{Refusal}
 use Rattle.std.specs.Prelude.{Result, Ok, Err}
-use Rattle.slices.specs.Synthesis.{Synthesis, ended, size}
+use Rattle.slices.specs.Synthesis.{Synthesis, all_rounds, ended, size}
 use Rattle.searching.specs.Arriving.{Endable, all_arrays, arriving, goes_on}
 
 pub goes-on-given : (s : Shape) (a : Arrays) (f : List ℕ) {r : Answered} → ended a.synthesis ≡ false → r ≡ goes_on s
@@ -31,18 +31,20 @@ same_after (Ok (Progress.Columns c)) l = refl
 same_after (Ok Progress.Unfinished) l = refl
 same_after (Err why) l = refl
 
--- by the register that stands in a buffer
+-- by the register that stands in a buffer, of length l
 pub ends-given : (s : Shape) (sums taps left declared : List ℕ) (x : Synthesis) (f : List ℕ) (r : Answered) → ended x ≡ true → (buffer : List ℕ) (mark : Bool)
-    → take (suc (size x)) buffer ≡ held_taps x → mark ≡ held_mark s x
+    (l : ℕ) → l ≡ size x → take (suc l) buffer ≡ take (suc l) x.taps → mark ≡ alone_mark (all_rounds x) x.lengths s.rows l x.places x.sizes
     → ((a : Arrays) (g : List ℕ) →
     answered_outcome r (with_found a (after r.reply a.sums sums) left (after r.reply a.declared declared)) g
-    ≡ by_register s (with_taps a taps) declared sums (size x) (take (suc (size x)) buffer) mark g)
+    ≡ by_register s (with_taps a taps) declared sums l (take (suc l) buffer) mark g)
     → answered_outcome r (all_arrays sums left declared x) f ≡ arriving s (all_arrays sums taps declared x) f
 unfolding arrives_tests arrives
-ends-given s sums taps left declared x f r e buffer mark own marked located =
+ends-given s sums taps left declared x f r e buffer mark l is own marked located =
+    let a = all_arrays sums taps declared x in
     ap₂ (λ (u v : List ℕ). answered_outcome r (all_arrays u left v x) f) (sym (same_after r.reply sums)) (sym (same_after r.reply declared))
-    ∙ located (all_arrays sums taps declared x) f
-    ∙ ap₂ (λ (σ : List ℕ) (alone : Bool). by_register s (all_arrays sums taps declared x) declared sums (size x) σ alone f) own marked
+    ∙ located a f
+    ∙ ap₂ (λ (σ : List ℕ) (alone : Bool). by_register s a declared sums l σ alone f) own marked
+    ∙ ap (λ (n : ℕ). by_register s a declared sums n (take (suc n) x.taps) (alone_mark (all_rounds x) x.lengths s.rows n x.places x.sizes) f) is
     ∙ rw e refl
 
 -- ---- the register, copied to a buffer of 65 entries

@@ -53,9 +53,8 @@ pub fn arrive(
     if counts[1] != counts[0] {
         return goes_on(s);
     }
-    // Kept as casts: by `usize::from` the length would be a value of its own, which each fact below would have to be rewritten to.
-    let l = counts[4] as usize;
+    let l = usize::from(counts[4]);
     let found = held_taps(register, l);
-    let mark = alone(counts[0] as usize, lengths, s.rows, l, places, sizes);
+    let mark = alone(usize::from(counts[0]), lengths, s.rows, l, places, sizes);
     locate_by(s, nothing(declared), declared, sums, l, mark, &found, taps)
 }

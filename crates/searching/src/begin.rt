@@ -1,5 +1,5 @@
-// The arrays before the first step, of what is left of held check sums. Here and in the crates above, the arrays of a search and of a job are lent one by one:
-// the C interface holds and lends them so, and a struct of them would have to be copied for each call.
+// The arrays before the first step, of what is left of held check sums.
+// The arrays of a search are lent one by one, as the C interface lends them (docs/DESIGN-PASS.md, point 5).
 ghost use Rattle.std.specs.Prelude.{◌≡◌, true, ℕ, ◌<◌, get_or, take};
 ghost use Rattle.decoding.specs.Remaining.{all_remaining};
 ghost use Rattle.frame.specs.DeclaredCells.{declared_by};

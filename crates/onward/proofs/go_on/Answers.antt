@@ -3,7 +3,6 @@ use mathlib.Core.Path.{◌≡◌, sym, ◌∙◌}
 use mathlib.Core.Bool.{true}
 use Rattle.frame.proofs.Shapes.{shape-ranges}
 use Rattle.frame.specs.Shape.{is_shape}
-use Rattle.frame.specs.declared.Shape.{Shape}
 use Rattle.slices.specs.Synthesis.{Synthesis, synthesis, synthesis_sound}
 use Rattle.slices.proofs.Stepping.{rounds-left, steps-left}
 use Rattle.onward.proofs.GoingOn.{other-phase, no-shape, no_step, last_one, made}

@@ -1,6 +1,6 @@
 -- `locating::finding::register_of` meets its contract.
 use mathlib.Core.Path.{◌≡◌, refl, sym, ◌∙◌}
-use lib.ListN.{length, get_or}
+use lib.ListN.{get_or}
 use Rattle.decoding.specs.Remaining.{all_remaining}
 use Rattle.frame.specs.DeclaredCells.{declared_by}
 use Rattle.frame.specs.Frame.{held_sequences}

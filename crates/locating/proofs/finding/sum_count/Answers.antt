@@ -1,4 +1,3 @@
-use Prim.Native.Nat.{◌≤◌}
 use native.Mathlib.Omega.{arith}
 use Rattle.lists.proofs.Summing.{summed-none, summed-more, summed-all}
 use Rattle.frame.proofs.Shapes.{shape-ranges}

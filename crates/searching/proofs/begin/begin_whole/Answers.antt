@@ -1,6 +1,5 @@
 -- `searching::begin::begin_whole` meets its contract.
-use mathlib.Core.Path.{◌≡◌, refl}
-use lib.ListN.{length}
+use mathlib.Core.Path.{refl}
 use Rattle.frame.specs.Frame.{held_sequences}
 use Rattle.locating.proofs.Lending.{Lent, held-lent}
 use borrow.Author.Rules.{rules}

@@ -1,6 +1,4 @@
 -- `searching::turn::start_whole` meets its contract.
-use mathlib.Core.Path.{◌≡◌}
-use lib.ListN.{length}
 use borrow.Author.Rules.{rules}
 use Rattle.searching.proofs.StartingWhole.{whole-starts}
 use Rattle.searching.proofs.turn.start_whole.Goals as goal

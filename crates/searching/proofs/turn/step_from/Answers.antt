@@ -1,6 +1,5 @@
 -- `searching::turn::step_from` meets its contract.
-use mathlib.Core.Path.{◌≡◌, ap, subst⁻¹, ◌∙◌}
-use lib.ListN.{length}
+use mathlib.Core.Path.{ap, subst⁻¹, ◌∙◌}
 use borrow.Author.Rules.{rules}
 use Rattle.frame.proofs.Shapes.{shape-ranges}
 use Rattle.slices.specs.Synthesis.{Synthesis}
