@@ -8,6 +8,7 @@ use elimination::{add, clear, contradicts, determined};
 use plain::sequences::{discrepancy, sequence};
 use plain::values::{before, put};
 
+// The length is 129 where no register was found; the definitions of `specs/` say so, and no sequence here needs it.
 #[derive(Clone, Copy, PartialEq)]
 pub struct Answer {
     pub length: usize,

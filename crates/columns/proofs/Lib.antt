@@ -5,6 +5,7 @@ pub mod Joined
 pub mod Least
 pub mod Listing
 pub mod Marks
+pub mod MembersGiven
 pub mod Outside
 pub mod Passing
 pub mod Subset

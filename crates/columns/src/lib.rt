@@ -60,7 +60,7 @@ pub fn size(c: Columns) -> usize
 }
 
 // The least marked column at or after `from`, or 256 where there is none: what is left of a word is shifted down,
-// and its trailing zeros are the columns to pass; a word with nothing left is passed whole.
+// and its trailing zeros are the columns to pass; a word with nothing left is passed whole. Kept as a number, since it is the bound that most callers compare with.
 pub fn next(c: Columns, from: usize) -> usize
     ensures { result ≡ least 256 (λ k. leb from k && has c k) }
 {

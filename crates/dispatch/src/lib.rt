@@ -15,7 +15,7 @@ pub struct Said {
     pub tried: usize,
 }
 
-// What a turn answers: the number of the job that it served, 8 where none is unfinished, and what the step said.
+// What a turn answers: the number of the job that it served, 8 where none is unfinished (as the C interface tells it), and what the step said.
 #[derive(Clone, Copy)]
 pub struct Turned {
     pub job: usize,

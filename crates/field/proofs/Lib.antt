@@ -16,4 +16,5 @@ pub mod Prime257
 pub mod PrimeTest
 pub mod ProductSums
 pub mod Reciprocals
+pub mod Reduction
 pub mod Remainders

@@ -1,4 +1,3 @@
-pub mod MembersGiven
 pub mod Running
 pub mod Stepping
 pub mod SymbolsRead

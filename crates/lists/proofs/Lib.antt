@@ -3,6 +3,7 @@ pub mod BlockSums
 pub mod Copying
 pub mod DataCells
 pub mod Entries
+pub mod Every
 pub mod Filling
 pub mod Fours
 pub mod Halves
@@ -12,9 +13,12 @@ pub mod Mapped
 pub mod Moving
 pub mod Padded
 pub mod Parts
+pub mod RangeTests
 pub mod SameBlocks
 pub mod Summing
+pub mod Sums
 pub mod Tabulated
+pub mod TestedMore
 pub mod Testing
 pub mod Totals
 pub mod Truth

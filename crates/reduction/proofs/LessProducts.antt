@@ -11,7 +11,7 @@ use Rattle.field.specs.Coefficients.{reduced, shifted}
 use Rattle.field.specs.Residue.{minus, times}
 use Rattle.field.proofs.Coefficients.{shifted-below, shifted-above, length-reduced, get_or-reduced}
 use Rattle.field.proofs.MontgomeryProducts.{product-taken}
-use Rattle.discrepancy.proofs.Reduction.{set_below, shifted_past, tap-kept}
+use Rattle.field.proofs.Reduction.{set_below, shifted_past, tap-kept}
 use Rattle.reduction.specs.Reductions.{Reducible, block}
 use Rattle.reduction.specs.Taking.{Cells, Less}
 use Rattle.reduction.proofs.Blocks.{saved-at}

@@ -19,7 +19,7 @@ use Rattle.register.specs.Algorithm4.{Saved, State, changed, with_saved}
 use Rattle.register_step.specs.Parts.{Parts, parts, state_of, reduced_taps, stayed_parts, grown_parts, changed_parts, Ended, Changeable, Stepped}
 use Rattle.reduction.specs.Reductions.{ZerosAfter, block}
 use Rattle.reduction.proofs.Blocks.{block-replaced, block-other, replaced-whole, replaced-entry, other-entry}
-use Rattle.discrepancy.proofs.Reduction.{shifted_past}
+use Rattle.field.proofs.Reduction.{shifted_past}
 
 -- ---- the taps
 

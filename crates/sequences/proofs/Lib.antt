@@ -1,7 +1,6 @@
 pub mod Checks
-pub mod Further
 pub mod Insertion
+pub mod Part
 pub mod Reversing
 pub mod Sorting
 pub mod Standing
-pub mod Sums

@@ -3,7 +3,6 @@ pub mod Answers
 pub mod Beginning
 pub mod Ending
 pub mod Leaving
-pub mod Part
 pub mod Peeking
 pub mod SameSearch
 pub mod SameTest

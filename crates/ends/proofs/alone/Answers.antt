@@ -8,7 +8,7 @@ use Rattle.std.proofs.lemmas.Iterator.{cases_from_all, YieldsList-from_range}
 use Rattle.lists.proofs.Tabulated.{every_ext}
 use Rattle.ends.specs.Ends.{alone_mark, mark_test}
 use Rattle.ends.proofs.Marking.{compared, compared-marks}
-use Rattle.ends.proofs.Ranges.{decided}
+use Rattle.lists.proofs.RangeTests.{decided}
 use Rattle.ends.proofs.alone.Goals as goal
 
 pub returns : goal.returns

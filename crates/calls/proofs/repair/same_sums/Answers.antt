@@ -6,7 +6,7 @@ use lib.ListN.{get_or}
 use Rattle.job.specs.Calls.{same_sums}
 use Rattle.lists.specs.Tabulate.{every}
 use Rattle.lists.proofs.Tabulated.{every-zero}
-use Rattle.shapes.proofs.Every.{every-next}
+use Rattle.lists.proofs.Every.{every-next}
 use Rattle.calls.proofs.repair.same_sums.Goals as goal
 
 pub loop-k-init : goal.loop-k-init

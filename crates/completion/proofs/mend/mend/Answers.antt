@@ -8,7 +8,7 @@ use Rattle.std.proofs.lemmas.Iterator.Consumers.{YieldsList-end, YieldsList-from
 use Rattle.columns.specs.Columns.{members}
 use Rattle.columns.specs.Rising.{to_come}
 use Rattle.columns.proofs.Walk.{Walk, next_at}
-use Rattle.lanes.proofs.MembersGiven.{Turn, given, walk-turn, walk-over}
+use Rattle.columns.proofs.MembersGiven.{Turn, given, walk-turn, walk-over}
 use Rattle.weights.proofs.ColumnWeights.{Weighed, weighed-column}
 use Rattle.completion.proofs.ColumnMending.{still-lent}
 use Rattle.completion.proofs.MendableFrames.{MendableRows, held_mendable}

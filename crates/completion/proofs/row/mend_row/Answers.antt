@@ -7,7 +7,7 @@ use Rattle.std.proofs.lemmas.Iterator.Consumers.{YieldsList-end, YieldsList-from
 use Rattle.columns.specs.Columns.{members}
 use Rattle.columns.specs.Rising.{to_come}
 use Rattle.columns.proofs.Walk.{next_at}
-use Rattle.lanes.proofs.MembersGiven.{Turn, numbered, all_numbered, walk-turn, walk-over}
+use Rattle.columns.proofs.MembersGiven.{Turn, numbered, all_numbered, walk-turn, walk-over}
 use Rattle.completion.proofs.SymbolsAdded.{Adding, readable-set, adding_none, adding_more, adding_all, same_size}
 use Rattle.completion.proofs.row.mend_row.Goals as goal
 use Rattle.completion.proofs.row.mend_row.Goals.{In-Some}

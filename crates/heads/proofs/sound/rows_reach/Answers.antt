@@ -5,7 +5,7 @@ use Rattle.std.proofs.Common.{◌↔◌, rules, take}
 use Rattle.std.specs.Prelude.{IsTrue, EachIndex, slice_index}
 use Rattle.decoding.specs.Locating.{rows_reach}
 use Rattle.frame.proofs.Shapes.{shape-ranges}
-use Rattle.shapes.proofs.Every.{every-front}
+use Rattle.lists.proofs.Every.{every-front}
 use Rattle.heads.proofs.sound.rows_reach.Goals as goal
 
 pub shared_ref_as_front-iter : goal.shared_ref_as_front-iter

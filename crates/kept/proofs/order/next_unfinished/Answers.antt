@@ -17,7 +17,7 @@ pub returns-then-states-k-eq3-clause-found : goal.returns-then-states-k-eq3-clau
 returns-then-states-k-eq3-clause-found c =
     λ extents checks marks.
     let here = three_unfinished (numbers-here (goal.at.returns-then-states-k-eq3-clause-found c).In-loop-i extents checks marks) c.if-states-k-eq3.true in
-    sym (looks_here _ _ (c.loop-i.invariant extents checks marks) c.loop-i-test.true here)
+    sym (looks_here _ _ (c.loop-i.invariant extents checks marks) (omega arith) here)
 
 pub loop-i-init : goal.loop-i-init
 loop-i-init c = λ extents checks marks. looks_first _ _
@@ -26,7 +26,7 @@ pub loop-i-preserved : goal.loop-i-preserved
 loop-i-preserved c =
     λ extents checks marks.
     let here = others-not (numbers-here (goal.at.loop-i-preserved c).In-loop-i extents checks marks) c.if-states-k-eq3.false in
-    looks_on _ _ (c.loop-i.invariant extents checks marks) c.loop-i-test.true here
+    looks_on _ _ (c.loop-i.invariant extents checks marks) (omega arith) here
 
 pub returns-clause-found : goal.returns-clause-found
 returns-clause-found c = λ extents checks marks. sym (looks_through _ _ (c.loop-i.invariant extents checks marks) c.loop-i-test.false)

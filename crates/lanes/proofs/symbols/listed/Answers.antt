@@ -8,7 +8,7 @@ use Rattle.columns.specs.Columns.{members}
 use Rattle.columns.specs.Rising.{to_come}
 use Rattle.lists.proofs.Filling.{filled_none, filled_more, filled-zeros}
 use Rattle.lists.proofs.Zeros.{zeros}
-use Rattle.lanes.proofs.MembersGiven.{Turn, numbered, all_numbered}
+use Rattle.columns.proofs.MembersGiven.{Turn, numbered, all_numbered}
 use Rattle.lanes.proofs.symbols.listed.Goals as goal
 use Rattle.lanes.proofs.symbols.listed.Goals.{In-Some}
 

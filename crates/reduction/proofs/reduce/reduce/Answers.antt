@@ -8,7 +8,7 @@ use Rattle.field.specs.Coefficients.{reduced}
 use Rattle.field.specs.Residue.{quotient}
 use Rattle.field.proofs.Remainders.{mod-mul-mod}
 use Rattle.reduction.specs.Reductions.{block}
-use Rattle.discrepancy.proofs.Reduction.{quotient-unit, quotient-two}
+use Rattle.field.proofs.Reduction.{quotient-unit, quotient-two}
 use Rattle.reduction.proofs.LessProducts.{less-reduced}
 use Rattle.reduction.proofs.reduce.reduce.Goals as goal
 

@@ -6,7 +6,7 @@ use Rattle.field.specs.Residue.{minus}
 use Rattle.field.proofs.Remainders.{mul-mod-mod}
 use Rattle.reduction.specs.Reductions.{block}
 use Rattle.reduction.proofs.Blocks.{saved-at}
-use Rattle.discrepancy.proofs.Reduction.{reduced-none, tap-less, turn_reduces}
+use Rattle.field.proofs.Reduction.{reduced-none, tap-less, turn_reduces}
 use Rattle.reduction.proofs.reduce.reduce_two.Goals as goal
 
 pub loop-i-init : goal.loop-i-init

@@ -3,7 +3,7 @@ use Prim.Native.Nat.{◌+◌, ◌<◌}
 use native.Mathlib.Nat.{mod-eq_of_lt}
 use native.Mathlib.Omega.{arith}
 use Rattle.field.proofs.MontgomeryProducts.{companion-is}
-use Rattle.discrepancy.proofs.Reduction.{factors, taken-by}
+use Rattle.field.proofs.Reduction.{factors, taken-by}
 use Rattle.reduction.proofs.LessProducts.{less_none, less-more}
 use Rattle.reduction.proofs.taking.take_off.Goals as goal
 

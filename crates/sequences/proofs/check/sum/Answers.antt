@@ -1,7 +1,7 @@
 use mathlib.Core.Path.{◌≡◌, sym, ◌∙◌}
 use borrow.Author.Rules.{rules}
 use Rattle.std.specs.List.{sum}
-use Rattle.sequences.proofs.Sums.{total-sum}
+use Rattle.lists.proofs.Sums.{total-sum}
 use Rattle.sequences.proofs.check.sum.Goals as goal
 
 pub returns : goal.returns

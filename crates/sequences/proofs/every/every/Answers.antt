@@ -1,6 +1,6 @@
 use native.Mathlib.Omega.{arith}
 use Rattle.lists.proofs.Testing.{tested-none, tested-all}
-use Rattle.sequences.proofs.Further.{tested-more}
+use Rattle.lists.proofs.TestedMore.{tested-more}
 use Rattle.sequences.proofs.every.every.Goals as goal
 
 pub loop-v-init : goal.loop-v-init

@@ -3,7 +3,7 @@ use Rattle.std.proofs.Common.{◌↔◌, rules, take}
 use Rattle.std.specs.Prelude.{IsTrue, EachIndex, slice_index}
 use Rattle.frame.specs.Shape.{checks_in_range}
 use Rattle.frame.proofs.ShapeTests.{count_test}
-use Rattle.shapes.proofs.Every.{every-front}
+use Rattle.lists.proofs.Every.{every-front}
 use Rattle.shapes.proofs.shape.checks_in_range.Goals as goal
 
 pub returns : goal.returns

@@ -1,6 +1,6 @@
 use Rattle.std.proofs.Common.{sym}
 use Rattle.lists.proofs.Tabulated.{every-zero}
-use Rattle.shapes.proofs.Every.{every-next}
+use Rattle.lists.proofs.Every.{every-next}
 use Rattle.shapes.proofs.symbols.all_below.Goals as goal
 
 pub loop-cell-init : goal.loop-cell-init

@@ -7,7 +7,7 @@ use lib.Dec.{eqb}
 use lib.ListN.{length, get_or}
 use Rattle.lists.specs.Tabulate.{every}
 use Rattle.slices.specs.Synthesis.{saved_sound}
-use Rattle.slices.proofs.Part.{every_part}
+use Rattle.sequences.proofs.Part.{every_part}
 use Rattle.slices.proofs.Tests.{counts_say}
 use Rattle.slices.proofs.sound.saved_is_sound.Goals as goal
 

@@ -9,7 +9,7 @@ use lib.ListN.{get_or}
 use Rattle.lists.specs.Tabulate.{every}
 use Rattle.slices.specs.Synthesis.{symbols_sound}
 use Rattle.slices.proofs.Answers.{remains}
-use Rattle.slices.proofs.Part.{every_part}
+use Rattle.sequences.proofs.Part.{every_part}
 use Rattle.slices.proofs.Tests.{counts_say}
 use Rattle.slices.proofs.sound.symbols_are_sound.Goals as goal
 

@@ -10,7 +10,7 @@ use lib.ListN.{get_or}
 use Rattle.lists.specs.Tabulate.{every}
 use Rattle.slices.specs.Synthesis.{taps_sound}
 use Rattle.slices.proofs.Answers.{fails, passes}
-use Rattle.slices.proofs.Part.{every_part}
+use Rattle.sequences.proofs.Part.{every_part}
 use Rattle.slices.proofs.sound.taps_are_sound.Goals as goal
 use Rattle.slices.proofs.sound.taps_are_sound.Goals.{then-taps-eq1, else-taps-eq1}
 

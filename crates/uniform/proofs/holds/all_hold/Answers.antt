@@ -2,7 +2,7 @@
 use Rattle.std.proofs.Common.{◌↔◌, rules}
 use lib.Dec.{eqb}
 use Rattle.std.specs.Prelude.{IsTrue, EachIndex, slice_index}
-use Rattle.shapes.proofs.Every.{every-decides}
+use Rattle.lists.proofs.Every.{every-decides}
 use Rattle.uniform.proofs.holds.all_hold.Goals as goal
 
 pub returns : goal.returns

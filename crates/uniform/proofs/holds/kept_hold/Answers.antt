@@ -5,7 +5,7 @@ use lib.Dec.{eqb}
 use Rattle.std.specs.Prelude.{IsTrue, EachIndex, slice_index}
 use Rattle.columns.specs.Columns.{has}
 use Rattle.lists.proofs.Tabulated.{every_ext}
-use Rattle.shapes.proofs.Every.{every-decides}
+use Rattle.lists.proofs.Every.{every-decides}
 use Rattle.uniform.proofs.holds.kept_hold.Goals as goal
 
 pub returns : goal.returns
