@@ -179,10 +179,8 @@ fn compare_drawn(
     let exponent = draw_exponent(state);
     match size {
         Size::Full => {
-            let shape = RowShape {
-                columns: 256,
-                exponent,
-            };
+            let columns = 256;
+            let shape = RowShape { columns, exponent };
             compare_random(rt, state, shape, 8, 64, 1, base, counts)
         }
         Size::Large => {
@@ -201,11 +199,9 @@ fn compare_drawn(
             compare_random(rt, state, shape, rows, 1, most, base, counts)
         }
         Size::Tiny(exponent) => {
+            let columns = 3;
             let rows = draw_from(state, 1, 2);
-            let shape = RowShape {
-                columns: 3,
-                exponent,
-            };
+            let shape = RowShape { columns, exponent };
             compare_random(rt, state, shape, rows, 2, 1, base, counts)
         }
         Size::Planted => compare_planted(rt, state, counts),
