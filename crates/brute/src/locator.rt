@@ -1,5 +1,5 @@
 // The second locator, which asks elimination: whether a column is named is whether its equation follows from those of the taps.
-ghost use Rattle.std.specs.Prelude.{ℕ, ◌%◌, ◌^◌, ◌<◌, length, slice_index};
+ghost use Rattle.std.specs.Prelude.{ℕ, ◌%◌, ◌^◌, ◌<◌, length, slice_index, IfSome};
 ghost use Rattle.brute.specs.Locating.{Located, MarkedRoots, Named, number_in};
 ghost use Rattle.plain.specs.Plain.{Tells};
 ghost use Rattle.plain.specs.Written.{Wrote};
@@ -53,7 +53,8 @@ fn mark(table: &mut [u16], columns: u16, n: usize, named: &mut [u16])
 
 // What locating answers for these check sums; the marks of the named columns are left in the lent array.
 pub fn locate(columns: u16, checks: &[u16], sums: &[u16], named: &mut [u16]) -> Expected
-    ensures { Located columns checks.now sums.now named.old named.new (number_in result.refused) result.length }
+    ensures located { Located columns checks.now sums.now named.old named.new (number_in result.refused) result.length }
+    ensures numbered { IfSome result.refused (λ n. 0 < n) }
 {
     let mut table = elimination::table();
     let found = shortest(257, checks, sums, &mut table);
