@@ -192,8 +192,9 @@ def is_function_proof(path):
 # ---- rt
 
 class Function(NamedTuple):
-    """A function: its name with its modules, its text from `fn` to the body (signature, requires, ensures), and what it is marked with. `public` are those
-    that another crate can call: marked `pub`, or of a trait."""
+    """A function: its name with its modules, its text from `fn` to the body (signature, requires, ensures), with what the impl of a trait that it stands in
+    says of it (`ghost from_gives = { .. };`) after that, and what it is marked with. `public` are those that another crate can call: marked `pub`, or of a
+    trait. `ensures` is whether it promises anything, in a clause of its own or by such a line."""
     path: str
     name: str
     text: str
@@ -238,6 +239,7 @@ def closing(text, at):
 
 FN = re.compile(r'^[ \t]*(pub(?:\([^)\n]*\))? )?((?:const |unsafe |extern "C" )*)fn (\w+)', re.M)
 CLAUSE = re.compile(r"(requires|ensures|ghost)\b[^{;]*\{")
+MEMBER = re.compile(r"^[ \t]*ghost \w+ = \{", re.M)
 OWNER = re.compile(r"^[ \t]*(pub(?:\([^)\n]*\))? )?(?:unsafe )?(impl|trait)\b([^{;]*)\{", re.M)
 
 
@@ -276,6 +278,11 @@ def owners(plain):
         yield m.start(), closing(plain, m.end() - 1), name, of_trait
 
 
+def members(text, plain, start, end):
+    """What an impl says of its functions, a line for each of its ghost members."""
+    return ["\n        " + folded(text[m.start():plain.find(";", closing(plain, m.end() - 1)) + 1]) for m in MEMBER.finditer(plain, start, end)]
+
+
 def functions(path, text):
     plain = blanked(text)
     owned = list(owners(plain))
@@ -284,11 +291,13 @@ def functions(path, text):
         if plain[m.start(3)] != text[m.start(3)]:
             continue
         clauses, end = header(plain, m.end())
-        owner, of_trait = next((("::" + name, by) for a, b, name, by in reversed(owned) if a < m.start() < b), ("", False))
+        start, stop, owner, of_trait = next(((a, b, "::" + name, by) for a, b, name, by in reversed(owned) if a < m.start() < b), (0, 0, "", False))
+        told = members(text, plain, start, stop)
         attributes = re.search(r"(?:^[ \t]*#\[[^\n]*\n)*\Z", text[:m.start()], re.M).group()
         exported = "extern" in m.group(2) or "no_mangle" in attributes or "export_name" in attributes
-        found.append(Function(path, module_of(path) + owner + "::" + m.group(3), text[m.start():end].strip(), m.group(1) == "pub " or of_trait, exported,
-                              "requires" in clauses, "ensures" in clauses))
+        name = module_of(path) + owner + "::" + m.group(3)
+        found.append(Function(path, name, text[m.start():end].strip() + "".join(told), m.group(1) == "pub " or of_trait, exported, "requires" in clauses,
+                              "ensures" in clauses or told != []))
     return found
 
 
