@@ -11,7 +11,6 @@ use crate::cells::{cells_of, is_declarable};
 use codec::sums::frame_sums;
 use columns::{Columns, next};
 use frame::Shape;
-use lists::arrays::padded;
 use refusal::{Refusal, require};
 use shapes::symbols::all_below;
 
@@ -40,15 +39,14 @@ pub fn clear_rows(s: Shape, declared: &[u64; 32], frame: &mut [u16])
     }
 }
 
-// A copy of the frame with 0 in the declared cells.
-fn as_read(s: Shape, declared: &[u64; 32], frame: &[u16]) -> [u16; 2048]
+// A copy of the frame with 0 in the declared cells, at the front of what is lent: an array of this size that is returned is copied on its way.
+fn read_into(s: Shape, declared: &[u64; 32], frame: &[u16], copy: &mut [u16; 2048])
     requires { ReadableFrame s frame.now }
-    ensures { take (length frame.now) result ≡ as_read s (declared_by declared.now) frame.now }
+    ensures { take (length frame.now) copy.new ≡ as_read s (declared_by declared.now) frame.now }
 {
     let n = frame.len();
-    let mut copy = padded::<2048>(frame);
+    copy[..n].copy_from_slice(frame);
     clear_rows(s, declared, &mut copy[..n]);
-    copy
 }
 
 // The refusals of a frame of which cells are declared.
@@ -59,15 +57,18 @@ pub fn check_read(s: Shape, declared: &[u64; 32], frame: &[u16]) -> Result<(), R
 {
     require(frame.len() == s.rows * s.columns, Refusal::FrameSize)?;
     require(is_declarable(s, declared), Refusal::BadCells)?;
-    let read = as_read(s, declared, frame);
+    let mut read = [0; 2048];
+    read_into(s, declared, frame, &mut read);
     require(all_below(&read[..frame.len()]), Refusal::Symbol)
 }
 
-// The check sums of the frame as read, row after row, and zeros after them.
+// The check sums of the frame as read, row after row, and zeros after them. Never inlined, since the copy of the frame would stay on the stack of its callers.
+#[inline(never)]
 pub fn sums_read(s: Shape, declared: &[u64; 32], frame: &[u16]) -> [u16; 512]
     requires { (is_shape s ≡ true) × WellFormedRead s (declared_by declared.now) frame.now }
     ensures { result ≡ held_sums s (as_read s (declared_by declared.now) frame.now) }
 {
-    let read = as_read(s, declared, frame);
+    let mut read = [0; 2048];
+    read_into(s, declared, frame, &mut read);
     frame_sums(s, &read[..frame.len()])
 }
